@@ -8,9 +8,9 @@ use Rattle.tl_faces.specs.Faults.{IsTrueInPlane, IsTrueFaceFault, way_x, way_y}
 
 denied_there : (m : TheMap) (fault : FaceFault) → IsTrueInPlane m fault → ¬ FacesAgree m.chains
 denied_there m (Facing first last) true agree =
-    face_contradicts m.chains true.one true.other true.u true.w first.at last.at true.side true.opposite true.disagree agree
+    face_contradicts m.chains true.one true.other true.disagree agree
 denied_there m (Outward face way) true agree =
-    outward_contradicts m.chains true.chain true.u face.at (way_x way) (way_y way) true.side true.disagree agree
+    outward_contradicts m.chains true.one (way_x way) (way_y way) true.disagree agree
 
 pub denied : (m : TheMap) (fault : FaceFault) → IsTrueFaceFault m fault → ¬ FacesAgree m.chains
 denied m fault true = denied_there m fault true.in_plane

@@ -21,7 +21,7 @@ use Rattle.tl_slabs.proofs.Lying.{lies_on}
 use Rattle.tl_slabs.proofs.Numbered.{one_segment}
 use Rattle.tl_slabs.proofs.Walking.{all_head, all_tail}
 use Rattle.tl_faces.specs.Lists.{west_side, east_side, AreAllNear}
-use Rattle.tl_faces.specs.Disagreements.{IsFaceDisagreement, IsOutwardDisagreement, IsInSlab, IsMidway, HaveOneHeight, twice_rise, twice_risen}
+use Rattle.tl_faces.specs.Disagreements.{facing_west, facing_east, IsFaceDisagreement, IsOutwardDisagreement, IsInSlab, IsMidway, HaveOneHeight, twice_rise, twice_risen}
 use Rattle.tl_faces.proofs.Lines.{straight_by, height_by}
 use Rattle.tl_faces.proofs.Neighbours.{all_back, neighbours, first, last}
 
@@ -128,7 +128,7 @@ module _ (K n : ℤ) (chains : List MapChain) (near : AreAllNear K chains) (plan
     pub neighbours_midway : (t : ℕ) (w : Segment) (is' : IsNumbered chains t w) (q : Rational) → IsMidway K n w q →
         IsListOf K n chains (front ++ (s ∷ (t ∷ back))) →
         east_side K is.joins.chain u ≢ west_side K is'.joins.chain w →
-        IsFaceDisagreement chains is.joins.chain is'.joins.chain u w p q (east_side K is.joins.chain u) (west_side K is'.joins.chain w)
+        IsFaceDisagreement chains (facing_east K is.joins.chain u p) (facing_west K is'.joins.chain w q)
     neighbours_midway t w is' q m' of differ =
         neighbours K n chains near planar front back s u is p (on_active s u is (all_head (IsActive K n chains) s (t ∷ back) active) p m) in_slab
         t w is' q (on_active t w is' (all_head (IsActive K n chains) t back (all_tail (IsActive K n chains) s (t ∷ back) active)) q m')
@@ -138,12 +138,12 @@ module _ (K n : ℤ) (chains : List MapChain) (near : AreAllNear K chains) (plan
         active = all_back (IsActive K n chains) front (s ∷ (t ∷ back)) of.active
 
     pub first_midway : IsListOf K n chains (s ∷ back) → west_side K is.joins.chain u ≢ Outside →
-        IsOutwardDisagreement chains is.joins.chain u p (pos 0 -ℤ K) (pos 0 -ℤ pos 1) (west_side K is.joins.chain u)
+        IsOutwardDisagreement chains (facing_west K is.joins.chain u p) (pos 0 -ℤ K) (pos 0 -ℤ pos 1)
     first_midway of differs =
         first K n chains near planar front back s u is p (on_active s u is (all_head (IsActive K n chains) s back of.active) p m) in_slab of differs
 
     pub last_midway : IsListOf K n chains (front ++ (s ∷ [])) → east_side K is.joins.chain u ≢ Outside →
-        IsOutwardDisagreement chains is.joins.chain u p K (pos 1) (east_side K is.joins.chain u)
+        IsOutwardDisagreement chains (facing_east K is.joins.chain u p) K (pos 1)
     last_midway of differs =
         last K n chains near planar front back s u is p
         (on_active s u is (all_head (IsActive K n chains) s [] (all_back (IsActive K n chains) front (s ∷ []) of.active)) p m) in_slab of differs

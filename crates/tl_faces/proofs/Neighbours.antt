@@ -19,7 +19,7 @@ use Rattle.tl_slabs.specs.Slabs.{IsActive, IsListOf, IsPointOf}
 use Rattle.tl_slabs.proofs.Walking.{all_head, all_tail}
 use Rattle.tl_faces.specs.Facing.{FacesAgree}
 use Rattle.tl_faces.specs.Lists.{west_side, east_side, AreAllNear}
-use Rattle.tl_faces.specs.Disagreements.{IsFaceDisagreement, IsOutwardDisagreement, IsInSlab, HaveOneHeight}
+use Rattle.tl_faces.specs.Disagreements.{FacingSide, facing_west, facing_east, IsFaceDisagreement, IsOutwardDisagreement, IsInSlab, HaveOneHeight}
 use Rattle.tl_faces.proofs.Lines.{AreLevel, IsWestward, met}
 use Rattle.tl_faces.proofs.Steep.{IsSpanned}
 use Rattle.tl_faces.proofs.Items.{Item, IsLine, item_with, numbered, of_chain, ends, spanned_by}
@@ -107,7 +107,7 @@ module _ (K : ℤ) (above : pos 0 <ℤ K) (chains : List MapChain) (near : AreAl
       west = (sorted_back K chains r (items front before) (x ∷ (y ∷ items back behind)) all_items.sorted).0 y (inl refl)
 
       facing : east_side K is.joins.chain u ≢ west_side K is'.joins.chain w →
-          IsFaceDisagreement chains is.joins.chain is'.joins.chain u w p q (east_side K is.joins.chain u) (west_side K is'.joins.chain w)
+          IsFaceDisagreement chains (facing_east K is.joins.chain u p) (facing_west K is'.joins.chain w q)
       facing differ = record {
         first = of_chain K chains r x;
         last = of_chain K chains r y;
@@ -121,7 +121,7 @@ module _ (K : ℤ) (above : pos 0 <ℤ K) (chains : List MapChain) (near : AreAl
 
     -- the first
     to_west : IsListOf K n chains (s ∷ back) → west_side K is.joins.chain u ≢ Outside →
-        IsOutwardDisagreement chains is.joins.chain u p (pos 0 -ℤ K) (pos 0 -ℤ pos 1) (west_side K is.joins.chain u)
+        IsOutwardDisagreement chains (facing_west K is.joins.chain u p) (pos 0 -ℤ K) (pos 0 -ℤ pos 1)
     to_west of differs = record {
       of = of_chain K chains r x;
       on = strictly_on K chains r on_line x;
@@ -136,7 +136,7 @@ module _ (K : ℤ) (above : pos 0 <ℤ K) (chains : List MapChain) (near : AreAl
 
     -- and the last
     to_east : IsListOf K n chains (front ++ (s ∷ [])) → east_side K is.joins.chain u ≢ Outside →
-        IsOutwardDisagreement chains is.joins.chain u p K (pos 1) (east_side K is.joins.chain u)
+        IsOutwardDisagreement chains (facing_east K is.joins.chain u p) K (pos 1)
     to_east of differs = record {
       of = of_chain K chains r x;
       on = strictly_on K chains r on_line x;
@@ -170,25 +170,25 @@ module _ (K n : ℤ) (chains : List MapChain) (near : AreAllNear K chains) (plan
   pub neighbours : (t : ℕ) (w : Segment) (is' : IsNumbered chains t w) (q : Rational) → IsOn w q → HaveOneHeight K p q →
       IsListOf K n chains (front ++ (s ∷ (t ∷ back))) →
       east_side K is.joins.chain u ≢ west_side K is'.joins.chain w →
-      IsFaceDisagreement chains is.joins.chain is'.joins.chain u w p q (east_side K is.joins.chain u) (west_side K is'.joins.chain w)
+      IsFaceDisagreement chains (facing_east K is.joins.chain u p) (facing_west K is'.joins.chain w q)
   neighbours t w is' q on' level of differ =
       facing K above chains near planar n p inside front back s u is p on itself t w is' q on' (record { is = sym level }) of differ
 
   pub first : IsListOf K n chains (s ∷ back) → west_side K is.joins.chain u ≢ Outside →
-      IsOutwardDisagreement chains is.joins.chain u p (pos 0 -ℤ K) (pos 0 -ℤ pos 1) (west_side K is.joins.chain u)
+      IsOutwardDisagreement chains (facing_west K is.joins.chain u p) (pos 0 -ℤ K) (pos 0 -ℤ pos 1)
   first of differs = to_west K above chains near planar n p inside front back s u is p on itself of differs
 
   pub last : IsListOf K n chains (front ++ (s ∷ [])) → east_side K is.joins.chain u ≢ Outside →
-      IsOutwardDisagreement chains is.joins.chain u p K (pos 1) (east_side K is.joins.chain u)
+      IsOutwardDisagreement chains (facing_east K is.joins.chain u p) K (pos 1)
   last of differs = to_east K above chains near planar n p inside front back s u is p on itself of differs
 
 -- ---- and faces don't agree there
 
-pub face_contradicts : (chains : List MapChain) (one other : MapChain) (u w : Segment) (p q : Rational) (side opposite : Side) →
-    IsFaceDisagreement chains one other u w p q side opposite → ¬ FacesAgree chains
-face_contradicts chains one other u w p q side opposite d agree =
-    d.differ (agree.facing one other u w p q side opposite d.first d.last d.on_first d.on_last d.clear d.from_first d.from_last)
+pub face_contradicts : (chains : List MapChain) (one other : FacingSide) → IsFaceDisagreement chains one other → ¬ FacesAgree chains
+face_contradicts chains one other d agree =
+    d.differ (agree.facing one.chain other.chain one.segment other.segment one.place other.place one.side other.side d.first d.last d.on_first
+    d.on_last d.clear d.from_first d.from_last)
 
-pub outward_contradicts : (chains : List MapChain) (chain : MapChain) (u : Segment) (p : Rational) (x y : ℤ) (side : Side) →
-    IsOutwardDisagreement chains chain u p x y side → ¬ FacesAgree chains
-outward_contradicts chains chain u p x y side d agree = d.differs (agree.outward chain u p x y side d.of d.on d.clear d.from)
+pub outward_contradicts : (chains : List MapChain) (one : FacingSide) (x y : ℤ) → IsOutwardDisagreement chains one x y → ¬ FacesAgree chains
+outward_contradicts chains one x y d agree =
+    d.differs (agree.outward one.chain one.segment one.place x y one.side d.of d.on d.clear d.from)

@@ -9,7 +9,7 @@ use Rattle.tl_geom.proofs.Signs.{product_above}
 use Rattle.tl_county.specs.declared.sides.Side.{Side}
 use Rattle.tl_county.specs.TheMap.{MapChain}
 use Rattle.tl_faces.specs.Facing.{IsStrictlyOn, IsStrictlyBetween, IsOnRay, IsSideToward, step_x, step_y}
-use Rattle.tl_faces.specs.Disagreements.{IsFaceDisagreement, IsOutwardDisagreement}
+use Rattle.tl_faces.specs.Disagreements.{FacingSide, from_place, IsFaceDisagreement, IsOutwardDisagreement}
 use Rattle.tl_faces.proofs.Numbers.{above_by, below_by}
 
 -- a mean of q and t is one of p and t, where p and q are one place: one coordinate
@@ -101,47 +101,58 @@ module _ (p q : Rational) (one : IsSame p q) where
     at_y = along_with r.y r.d b.m b.n p.y p.d q.y q.d y one.y b.at_y;
   }
 
-  -- faces that disagree from p do so from q
-  pub first_rewritten : (chains : List MapChain) (chain other : MapChain) (u w : Segment) (t : Rational) (side opposite : Side) →
-      IsFaceDisagreement chains chain other u w p t side opposite → IsFaceDisagreement chains chain other u w q t side opposite
-  first_rewritten chains chain other u w t side opposite d = record {
-    first = d.first;
-    last = d.last;
-    on_first = strictly u d.on_first;
-    on_last = d.on_last;
-    clear = λ r b. d.clear r (between_with t r b);
-    from_first =
-        side_by chain u (step_x p t) (step_y p t) (step_x q t) (step_y q t) q.d p.d side q.above_zero p.above_zero
-        (turn_with (u.b.x -ℤ u.a.x) (u.b.y -ℤ u.a.y) p.x p.y p.d q.x q.y q.d t.x t.y t.d one.x one.y) d.from_first;
-    from_last =
-        side_by other w (step_x t p) (step_y t p) (step_x t q) (step_y t q) q.d p.d opposite q.above_zero p.above_zero
-        (turn_of (w.b.x -ℤ w.a.x) (w.b.y -ℤ w.a.y) p.x p.y p.d q.x q.y q.d t.x t.y t.d one.x one.y) d.from_last;
-    differ = d.differ;
-  }
+-- faces that disagree from a place do so from it however it is written
+module _ (p : Rational) (chains : List MapChain) (one : FacingSide) where
+  pub first_rewritten : (other : FacingSide) → IsSame one.place p → IsFaceDisagreement chains one other →
+      IsFaceDisagreement chains (from_place one p) other
+  first_rewritten other same d =
+      let u = one.segment in
+      let at = one.place in
+      let t = other.place in
+      record {
+        first = d.first;
+        last = d.last;
+        on_first = strictly at p same u d.on_first;
+        on_last = d.on_last;
+        clear = λ r b. d.clear r (between_with at p same t r b);
+        from_first =
+            side_by one.chain u (step_x at t) (step_y at t) (step_x p t) (step_y p t) p.d at.d one.side p.above_zero at.above_zero
+            (turn_with (u.b.x -ℤ u.a.x) (u.b.y -ℤ u.a.y) at.x at.y at.d p.x p.y p.d t.x t.y t.d same.x same.y) d.from_first;
+        from_last =
+            side_by other.chain other.segment (step_x t at) (step_y t at) (step_x t p) (step_y t p) p.d at.d other.side p.above_zero at.above_zero
+            (turn_of (other.segment.b.x -ℤ other.segment.a.x) (other.segment.b.y -ℤ other.segment.a.y) at.x at.y at.d p.x p.y p.d t.x t.y t.d
+            same.x same.y) d.from_last;
+        differ = d.differ;
+      }
 
-  pub last_rewritten : (chains : List MapChain) (chain other : MapChain) (u w : Segment) (t : Rational) (side opposite : Side) →
-      IsFaceDisagreement chains chain other u w t p side opposite → IsFaceDisagreement chains chain other u w t q side opposite
-  last_rewritten chains chain other u w t side opposite d = record {
-    first = d.first;
-    last = d.last;
-    on_first = d.on_first;
-    on_last = strictly w d.on_last;
-    clear = λ r b. d.clear r (between_of t r b);
-    from_first =
-        side_by chain u (step_x t p) (step_y t p) (step_x t q) (step_y t q) q.d p.d side q.above_zero p.above_zero
-        (turn_of (u.b.x -ℤ u.a.x) (u.b.y -ℤ u.a.y) p.x p.y p.d q.x q.y q.d t.x t.y t.d one.x one.y) d.from_first;
-    from_last =
-        side_by other w (step_x p t) (step_y p t) (step_x q t) (step_y q t) q.d p.d opposite q.above_zero p.above_zero
-        (turn_with (w.b.x -ℤ w.a.x) (w.b.y -ℤ w.a.y) p.x p.y p.d q.x q.y q.d t.x t.y t.d one.x one.y) d.from_last;
-    differ = d.differ;
-  }
+  pub last_rewritten : (other : FacingSide) → IsSame other.place p → IsFaceDisagreement chains one other →
+      IsFaceDisagreement chains one (from_place other p)
+  last_rewritten other same d =
+      let w = other.segment in
+      let at = other.place in
+      let t = one.place in
+      record {
+        first = d.first;
+        last = d.last;
+        on_first = d.on_first;
+        on_last = strictly at p same w d.on_last;
+        clear = λ r b. d.clear r (between_of at p same t r b);
+        from_first =
+            side_by one.chain one.segment (step_x t at) (step_y t at) (step_x t p) (step_y t p) p.d at.d one.side p.above_zero at.above_zero
+            (turn_of (one.segment.b.x -ℤ one.segment.a.x) (one.segment.b.y -ℤ one.segment.a.y) at.x at.y at.d p.x p.y p.d t.x t.y t.d
+            same.x same.y) d.from_first;
+        from_last =
+            side_by other.chain w (step_x at t) (step_y at t) (step_x p t) (step_y p t) p.d at.d other.side p.above_zero at.above_zero
+            (turn_with (w.b.x -ℤ w.a.x) (w.b.y -ℤ w.a.y) at.x at.y at.d p.x p.y p.d t.x t.y t.d same.x same.y) d.from_last;
+        differ = d.differ;
+      }
 
-  pub outward_rewritten : (chains : List MapChain) (chain : MapChain) (u : Segment) (x y : ℤ) (side : Side) →
-      IsOutwardDisagreement chains chain u p x y side → IsOutwardDisagreement chains chain u q x y side
-  outward_rewritten chains chain u x y side d = record {
+  pub outward_rewritten : (x y : ℤ) → IsSame one.place p → IsOutwardDisagreement chains one x y →
+      IsOutwardDisagreement chains (from_place one p) x y
+  outward_rewritten x y same d = record {
     of = d.of;
-    on = strictly u d.on;
-    clear = λ r b. d.clear r (on_ray x y r b);
+    on = strictly one.place p same one.segment d.on;
+    clear = λ r b. d.clear r (on_ray one.place p same x y r b);
     from = d.from;
     differs = d.differs;
   }

@@ -7,25 +7,44 @@ use Rattle.tl_county.specs.declared.sides.Side.TheVariants.{Outside}
 use Rattle.tl_county.specs.TheMap.{MapChain}
 use Rattle.tl_slabs.specs.Heights.{height, height_of, low_end, high_end}
 use Rattle.tl_faces.specs.Facing.{IsOfChain, IsStrictlyOn, IsClearBetween, IsClearFrom, IsSideToward, step_x, step_y}
+use Rattle.tl_faces.specs.Lists.{west_side, east_side}
+
+-- a side that a chain names along one of its segments, and the place from which it is looked that way
+pub record FacingSide : Type 0 where
+  pub chain : MapChain
+  pub segment : Segment
+  pub place : Rational
+  pub side : Side
+
+-- the same from another place
+abbrev pub from_place : FacingSide → Rational → FacingSide
+from_place one p = record one { place = p }
+
+-- what a segment of a chain names to the west of a place, along lines of one height, and what it names to the east
+abbrev pub facing_west : ℤ → MapChain → Segment → Rational → FacingSide
+facing_west K chain u p = record { chain = chain; segment = u; place = p; side = west_side K chain u }
+
+abbrev pub facing_east : ℤ → MapChain → Segment → Rational → FacingSide
+facing_east K chain u p = record { chain = chain; segment = u; place = p; side = east_side K chain u }
 
 -- two segments face one another, from points strictly within them with nothing between, and name different sides there
-pub record IsFaceDisagreement (chains : List MapChain) (one other : MapChain) (u w : Segment) (p q : Rational) (side opposite : Side) : Type 0 where
-  pub first : IsOfChain chains one u
-  pub last : IsOfChain chains other w
-  pub on_first : IsStrictlyOn u p
-  pub on_last : IsStrictlyOn w q
-  pub clear : IsClearBetween chains p q
-  pub from_first : IsSideToward one u (step_x p q) (step_y p q) side
-  pub from_last : IsSideToward other w (step_x q p) (step_y q p) opposite
-  pub differ : side ≢ opposite
+pub record IsFaceDisagreement (chains : List MapChain) (one other : FacingSide) : Type 0 where
+  pub first : IsOfChain chains one.chain one.segment
+  pub last : IsOfChain chains other.chain other.segment
+  pub on_first : IsStrictlyOn one.segment one.place
+  pub on_last : IsStrictlyOn other.segment other.place
+  pub clear : IsClearBetween chains one.place other.place
+  pub from_first : IsSideToward one.chain one.segment (step_x one.place other.place) (step_y one.place other.place) one.side
+  pub from_last : IsSideToward other.chain other.segment (step_x other.place one.place) (step_y other.place one.place) other.side
+  pub differ : one.side ≢ other.side
 
 -- nothing lies on the ray in the direction (x, y) from a point strictly within a segment, and it doesn't name the outside there
-pub record IsOutwardDisagreement (chains : List MapChain) (chain : MapChain) (u : Segment) (p : Rational) (x y : ℤ) (side : Side) : Type 0 where
-  pub of : IsOfChain chains chain u
-  pub on : IsStrictlyOn u p
-  pub clear : IsClearFrom chains p x y
-  pub from : IsSideToward chain u x y side
-  pub differs : side ≢ Outside
+pub record IsOutwardDisagreement (chains : List MapChain) (one : FacingSide) (x y : ℤ) : Type 0 where
+  pub of : IsOfChain chains one.chain one.segment
+  pub on : IsStrictlyOn one.segment one.place
+  pub clear : IsClearFrom chains one.place x y
+  pub from : IsSideToward one.chain one.segment x y one.side
+  pub differs : one.side ≢ Outside
 
 -- ---- places strictly within a slab
 

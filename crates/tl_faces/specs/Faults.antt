@@ -11,7 +11,7 @@ use Rattle.tl_county.specs.TheMap.{TheMap, MapChain}
 use Rattle.tl_slabs.specs.Heights.{height, widest}
 use Rattle.tl_slabs.specs.Neighbours.{IsNumbered}
 use Rattle.tl_faces.specs.Lists.{west_side, east_side}
-use Rattle.tl_faces.specs.Disagreements.{IsMidway, IsFaceDisagreement, IsOutwardDisagreement}
+use Rattle.tl_faces.specs.Disagreements.{FacingSide, IsMidway, IsFaceDisagreement, IsOutwardDisagreement}
 use Rattle.tl_faces.specs.Odd.{IsLowestOddGap}
 use Rattle.tl_faces.specs.declared.odd.OddGap.{OddGap}
 use Rattle.tl_faces.specs.declared.fault.NamedFace.{NamedFace}
@@ -33,17 +33,15 @@ pub record IsNamed (m : TheMap) (chain : MapChain) (side : Side) (face : NamedFa
 -- two segments face one another from the places of the faces, which are in lowest terms, and name different sides there, those of the
 -- faces
 pub record IsTrueFacing (m : TheMap) (first last : NamedFace) : Type 0 where
-  pub one : MapChain
-  pub other : MapChain
-  pub u : Segment
-  pub w : Segment
-  pub side : Side
-  pub opposite : Side
-  pub disagree : IsFaceDisagreement m.chains one other u w first.at last.at side opposite
+  pub one : FacingSide
+  pub other : FacingSide
+  pub disagree : IsFaceDisagreement m.chains one other
+  pub at_first : first.at ≡ one.place
+  pub at_last : last.at ≡ other.place
   pub lowest_first : IsLowest first.at
   pub lowest_last : IsLowest last.at
-  pub named_first : IsNamed m one side first
-  pub named_last : IsNamed m other opposite last
+  pub named_first : IsNamed m one.chain one.side first
+  pub named_last : IsNamed m other.chain other.side last
 
 -- the direction of a way along a line of one height
 abbrev pub way_x : Way → ℤ
@@ -57,12 +55,11 @@ way_y East = pos 1
 -- nothing lies on the ray this way from the place of the face, which is in lowest terms, and the segment there names the face's side,
 -- not the outside
 pub record IsTrueOutward (m : TheMap) (face : NamedFace) (way : Way) : Type 0 where
-  pub chain : MapChain
-  pub u : Segment
-  pub side : Side
-  pub disagree : IsOutwardDisagreement m.chains chain u face.at (way_x way) (way_y way) side
+  pub one : FacingSide
+  pub disagree : IsOutwardDisagreement m.chains one (way_x way) (way_y way)
+  pub at : face.at ≡ one.place
   pub lowest : IsLowest face.at
-  pub named : IsNamed m chain side face
+  pub named : IsNamed m one.chain one.side face
 
 -- what the fault says of the plane is true
 abbrev pub IsTrueInPlane : TheMap → FaceFault → Type 0

@@ -21,7 +21,7 @@ ghost use Rattle.tl_faces.specs.Rays.{IsCountAt};
 ghost use Rattle.tl_faces.specs.Facing.{FacesAgree, IsClearBetween, IsClearFrom, step_x};
 ghost use Rattle.tl_faces.specs.Clear.{IsClearAlong};
 ghost use Rattle.tl_faces.specs.Lists.{AreSlabsFacing, AreAllNear, RunsWest, sides_by_height, west_side, east_side};
-ghost use Rattle.tl_faces.specs.Disagreements.{IsFaceDisagreement, IsOutwardDisagreement, IsInSlab, IsMidway, HaveOneHeight};
+ghost use Rattle.tl_faces.specs.Disagreements.{FacingSide, from_place, facing_west, facing_east, IsFaceDisagreement, IsOutwardDisagreement, IsInSlab, IsMidway, HaveOneHeight};
 ghost use Rattle.tl_faces.specs.Faults.{IsTrueFaceFault};
 ghost use Rattle.tl_faces.specs.Located.{ListsWhatLies};
 ghost use Rattle.tl_faces.specs.declared.fault.FaceFault.{FaceFault};
@@ -105,31 +105,31 @@ pub fn neighbours_face()
     ensures at_one_height { (K n : ℤ) (chains : List MapChain) (front back : List ℕ) (s t : ℕ) (u w : Segment) (first : IsNumbered chains s u)
         (next : IsNumbered chains t w) (p q : Rational) → AreAllNear K chains → IsPlanar chains → IsListOf K n chains (front ++ (s ∷ (t ∷ back))) →
         IsOn u p → IsOn w q → IsInSlab K n p → HaveOneHeight K p q → east_side K first.joins.chain u ≢ west_side K next.joins.chain w →
-        IsFaceDisagreement chains first.joins.chain next.joins.chain u w p q (east_side K first.joins.chain u) (west_side K next.joins.chain w) }
+        IsFaceDisagreement chains (facing_east K first.joins.chain u p) (facing_west K next.joins.chain w q) }
     ensures midway { (K n : ℤ) (chains : List MapChain) (front back : List ℕ) (s t : ℕ) (u w : Segment) (first : IsNumbered chains s u)
         (next : IsNumbered chains t w) (p q : Rational) → AreAllNear K chains → IsPlanar chains → IsListOf K n chains (front ++ (s ∷ (t ∷ back))) →
         IsMidway K n u p → IsMidway K n w q → east_side K first.joins.chain u ≢ west_side K next.joins.chain w →
-        IsFaceDisagreement chains first.joins.chain next.joins.chain u w p q (east_side K first.joins.chain u) (west_side K next.joins.chain w) }
+        IsFaceDisagreement chains (facing_east K first.joins.chain u p) (facing_west K next.joins.chain w q) }
 {}
 
 /// The first segment of a slab's list faces the outside to the west, along the lines of one height.
 pub fn first_faces_outward()
     ensures within { (K n : ℤ) (chains : List MapChain) (back : List ℕ) (s : ℕ) (u : Segment) (is : IsNumbered chains s u) (p : Rational) →
         AreAllNear K chains → IsPlanar chains → IsListOf K n chains (s ∷ back) → IsOn u p → IsInSlab K n p → west_side K is.joins.chain u ≢ Outside →
-        IsOutwardDisagreement chains is.joins.chain u p (pos 0 -ℤ K) (pos 0 -ℤ pos 1) (west_side K is.joins.chain u) }
+        IsOutwardDisagreement chains (facing_west K is.joins.chain u p) (pos 0 -ℤ K) (pos 0 -ℤ pos 1) }
     ensures midway { (K n : ℤ) (chains : List MapChain) (back : List ℕ) (s : ℕ) (u : Segment) (is : IsNumbered chains s u) (p : Rational) →
         AreAllNear K chains → IsPlanar chains → IsListOf K n chains (s ∷ back) → IsMidway K n u p → west_side K is.joins.chain u ≢ Outside →
-        IsOutwardDisagreement chains is.joins.chain u p (pos 0 -ℤ K) (pos 0 -ℤ pos 1) (west_side K is.joins.chain u) }
+        IsOutwardDisagreement chains (facing_west K is.joins.chain u p) (pos 0 -ℤ K) (pos 0 -ℤ pos 1) }
 {}
 
 /// The last faces it to the east.
 pub fn last_faces_outward()
     ensures within { (K n : ℤ) (chains : List MapChain) (front : List ℕ) (s : ℕ) (u : Segment) (is : IsNumbered chains s u) (p : Rational) →
         AreAllNear K chains → IsPlanar chains → IsListOf K n chains (front ++ (s ∷ [])) → IsOn u p → IsInSlab K n p →
-        east_side K is.joins.chain u ≢ Outside → IsOutwardDisagreement chains is.joins.chain u p K (pos 1) (east_side K is.joins.chain u) }
+        east_side K is.joins.chain u ≢ Outside → IsOutwardDisagreement chains (facing_east K is.joins.chain u p) K (pos 1) }
     ensures midway { (K n : ℤ) (chains : List MapChain) (front : List ℕ) (s : ℕ) (u : Segment) (is : IsNumbered chains s u) (p : Rational) →
         AreAllNear K chains → IsPlanar chains → IsListOf K n chains (front ++ (s ∷ [])) → IsMidway K n u p →
-        east_side K is.joins.chain u ≢ Outside → IsOutwardDisagreement chains is.joins.chain u p K (pos 1) (east_side K is.joins.chain u) }
+        east_side K is.joins.chain u ≢ Outside → IsOutwardDisagreement chains (facing_east K is.joins.chain u p) K (pos 1) }
 {}
 
 /// The other way: where two segments face one another along a line of one height within a slab, from places on them with nothing
@@ -165,20 +165,18 @@ pub fn segments_have_places_midway()
 
 /// Where there is one such disagreement, faces don't agree.
 pub fn disagreements_contradict()
-    ensures face { (chains : List MapChain) (one other : MapChain) (u w : Segment) (p q : Rational) (side opposite : Side) →
-        IsFaceDisagreement chains one other u w p q side opposite → ¬ FacesAgree chains }
-    ensures outward { (chains : List MapChain) (chain : MapChain) (u : Segment) (p : Rational) (x y : ℤ) (side : Side) →
-        IsOutwardDisagreement chains chain u p x y side → ¬ FacesAgree chains }
+    ensures face { (chains : List MapChain) (one other : FacingSide) → IsFaceDisagreement chains one other → ¬ FacesAgree chains }
+    ensures outward { (chains : List MapChain) (one : FacingSide) (x y : ℤ) → IsOutwardDisagreement chains one x y → ¬ FacesAgree chains }
 {}
 
 /// Faces that disagree from a place do so from it however it is written, as in lowest terms.
 pub fn disagreements_are_of_places()
-    ensures first { (chains : List MapChain) (one other : MapChain) (u w : Segment) (p q t : Rational) (side opposite : Side) → IsSame p q →
-        IsFaceDisagreement chains one other u w p t side opposite → IsFaceDisagreement chains one other u w q t side opposite }
-    ensures last { (chains : List MapChain) (one other : MapChain) (u w : Segment) (p q t : Rational) (side opposite : Side) → IsSame p q →
-        IsFaceDisagreement chains one other u w t p side opposite → IsFaceDisagreement chains one other u w t q side opposite }
-    ensures outward { (chains : List MapChain) (chain : MapChain) (u : Segment) (p q : Rational) (x y : ℤ) (side : Side) → IsSame p q →
-        IsOutwardDisagreement chains chain u p x y side → IsOutwardDisagreement chains chain u q x y side }
+    ensures first { (chains : List MapChain) (one other : FacingSide) (p : Rational) → IsSame one.place p →
+        IsFaceDisagreement chains one other → IsFaceDisagreement chains (from_place one p) other }
+    ensures last { (chains : List MapChain) (one other : FacingSide) (p : Rational) → IsSame other.place p →
+        IsFaceDisagreement chains one other → IsFaceDisagreement chains one (from_place other p) }
+    ensures outward { (chains : List MapChain) (one : FacingSide) (x y : ℤ) (p : Rational) → IsSame one.place p →
+        IsOutwardDisagreement chains one x y → IsOutwardDisagreement chains (from_place one p) x y }
 {}
 
 /// Where a fault of faces is true of a map, its faces don't agree. So none is told of a map whose faces agree.

@@ -19,6 +19,7 @@ use Rattle.tl_faces.specs.Facing.{IsStrictlyOn}
 use Rattle.tl_faces.specs.Lists.{west_side, east_side, AreAllNear}
 use Rattle.tl_faces.specs.Odd.{IsOddGap, NamesWest, NamesEast, IsNamedWest, IsNamedEast, first_number, last_number}
 use Rattle.tl_faces.specs.declared.odd.OddGap.{OddGap}
+use Rattle.tl_faces.specs.Disagreements.{from_place, facing_west, facing_east}
 use Rattle.tl_faces.proofs.Midway.{neighbours_midway, first_midway, last_midway}
 use Rattle.tl_facing.specs.Keeping.Told.{IsFaceOf}
 use Rattle.tl_sweep.proofs.Sides.{one_west, one_east}
@@ -150,23 +151,19 @@ module _ (m : TheMap) (gap : OddGap) (odd : IsOddGap widest m.chains gap) where
         let listed : IsListOf widest n m.chains (front.0 ++ (s ∷ (t ∷ back.0))) =
         subst (λ l. IsListOf widest n m.chains l) (append_assoc front.0 (s ∷ []) (t ∷ back.0))
         (list_of (front.0 ++ (s ∷ [])) (t ∷ back.0) front.1 back.1) in
+        let east = facing_east widest one.is.joins.chain one.segment one.midway.place in
+        let west = facing_west widest other.is.joins.chain other.segment other.midway.place in
         record {
-          one = one.is.joins.chain;
-          other = other.is.joins.chain;
-          u = one.segment;
-          w = other.segment;
-          side = east_side widest one.is.joins.chain one.segment;
-          opposite = west_side widest other.is.joins.chain other.segment;
+          one = from_place east first.at;
+          other = from_place west last.at;
           disagree =
-              last_rewritten other.midway.place last.at (same_sym last.at other.midway.place other.midway.lowest.same) m.chains one.is.joins.chain
-              other.is.joins.chain one.segment other.segment first.at (east_side widest one.is.joins.chain one.segment)
-              (west_side widest other.is.joins.chain other.segment)
-              (first_rewritten one.midway.place first.at (same_sym first.at one.midway.place one.midway.lowest.same) m.chains one.is.joins.chain
-              other.is.joins.chain one.segment other.segment other.midway.place (east_side widest one.is.joins.chain one.segment)
-              (west_side widest other.is.joins.chain other.segment)
+              last_rewritten last.at m.chains (from_place east first.at) west (same_sym last.at other.midway.place other.midway.lowest.same)
+              (first_rewritten first.at m.chains east west (same_sym first.at one.midway.place one.midway.lowest.same)
               (neighbours_midway widest n m.chains near planar front.0 back.0 s one.segment one.is one.midway.place one.midway.midway t other.segment
               other.is other.midway.place other.midway.midway listed
               (λ k. odd.differ (west_is s e one.segment one.is ∙ k ∙ sym (east_is t f other.segment other.is)))));
+          at_first = refl;
+          at_last = refl;
           lowest_first = one.midway.lowest.lowest;
           lowest_last = other.midway.lowest.lowest;
           named_first = one.named;
@@ -179,15 +176,14 @@ module _ (m : TheMap) (gap : OddGap) (odd : IsOddGap widest m.chains gap) where
         let none : odd.back ≡ [] = first_none odd.back (sym odd.is_east ∙ f) in
         let listed : IsListOf widest n m.chains (front.0 ++ (s ∷ [])) =
         subst (λ l. IsListOf widest n m.chains l) (append_assoc front.0 (s ∷ []) []) (list_of (front.0 ++ (s ∷ [])) [] front.1 none) in
+        let east = facing_east widest one.is.joins.chain one.segment one.midway.place in
         record {
-          chain = one.is.joins.chain;
-          u = one.segment;
-          side = east_side widest one.is.joins.chain one.segment;
+          one = from_place east face.at;
           disagree =
-              outward_rewritten one.midway.place face.at (same_sym face.at one.midway.place one.midway.lowest.same) m.chains one.is.joins.chain
-              one.segment widest (pos 1) (east_side widest one.is.joins.chain one.segment)
+              outward_rewritten face.at m.chains east widest (pos 1) (same_sym face.at one.midway.place one.midway.lowest.same)
               (last_midway widest n m.chains near planar front.0 [] s one.segment one.is one.midway.place one.midway.midway listed
               (λ k. odd.differ (west_is s e one.segment one.is ∙ k ∙ sym (east_outside f))));
+          at = refl;
           lowest = one.midway.lowest.lowest;
           named = one.named;
         }
@@ -196,16 +192,16 @@ module _ (m : TheMap) (gap : OddGap) (odd : IsOddGap widest m.chains gap) where
     westward t e f face one =
         let none : odd.front ≡ [] = last_none odd.front (sym odd.is_west ∙ e) in
         let back = first_split odd.back t (sym odd.is_east ∙ f) in
+        let west = facing_west widest one.is.joins.chain one.segment one.midway.place in
         record {
-          chain = one.is.joins.chain;
-          u = one.segment;
-          side = west_side widest one.is.joins.chain one.segment;
+          one = from_place west face.at;
           disagree =
-              outward_rewritten one.midway.place face.at (same_sym face.at one.midway.place one.midway.lowest.same) m.chains one.is.joins.chain
-              one.segment (pos 0 -ℤ widest) (pos 0 -ℤ pos 1) (west_side widest one.is.joins.chain one.segment)
+              outward_rewritten face.at m.chains west (pos 0 -ℤ widest) (pos 0 -ℤ pos 1)
+              (same_sym face.at one.midway.place one.midway.lowest.same)
               (first_midway widest n m.chains near planar [] back.0 t one.segment one.is one.midway.place one.midway.midway
               (list_of [] (t ∷ back.0) none back.1)
               (λ k. odd.differ (west_outside e ∙ sym k ∙ sym (east_is t f one.segment one.is))));
+          at = refl;
           lowest = one.midway.lowest.lowest;
           named = one.named;
         }

@@ -3,7 +3,7 @@ use Rattle.tl_faces.proofs.laws.disagreements_are_of_places.Goals as goal
 
 pub returns : goal.returns
 returns c = record {
-  first = λ chains one other u w p q t side opposite same d. first_rewritten p q same chains one other u w t side opposite d;
-  last = λ chains one other u w p q t side opposite same d. last_rewritten p q same chains one other u w t side opposite d;
-  outward = λ chains chain u p q x y side same d. outward_rewritten p q same chains chain u x y side d;
+  first = λ chains one other p same d. first_rewritten p chains one other same d;
+  last = λ chains one other p same d. last_rewritten p chains one other same d;
+  outward = λ chains one x y p same d. outward_rewritten p chains one x y same d;
 }
