@@ -21,7 +21,7 @@ use Rattle.tl_facing.specs.Keeping.Told.{IsToldAbove, AreEndsTold, AreFirstTold}
 use Rattle.tl_facing.proofs.Tops.{holds_above}
 
 pub told_above : (chains : List MapChain) (p : Point) (list : List ℕ) (old new : List OddGap) → IsListOf widest (height widest p) chains list →
-    AreToldAbout chains p [] list [] (length list + 1) old new → IsToldAbove chains (height widest p) old new
+    AreToldAbout chains p (record { west = []; ins = list; east = [] }) (length list + 1) old new → IsToldAbove chains (height widest p) old new
 told_above chains p list old new listed about = record {
   kept = about.kept;
   true_ones = about.true_ones (subst (IsListOf widest (height widest p) chains) (sym (append-nil list)) listed);

@@ -24,7 +24,7 @@ use Rattle.tl_sweep.specs.Keeping.Passing.{HasLooked, HasPassed}
 use Rattle.tl_sweep.specs.Keeping.Watched.{IsOpen}
 use Rattle.tl_sweep.proofs.Odd.{parted, last_is, first_is}
 use Rattle.tl_sweep.specs.Gaps.{AreAtOdds, IsListed}
-use Rattle.tl_sweep.specs.Telling.{IsToldAlong, IsKept, IsAt, IsToldAt, AreToldAbout}
+use Rattle.tl_sweep.specs.Telling.{IsToldAlong, IsKept, IsAt, IsToldAt, ListAbout, front_of, back_of, AreToldAbout}
 use Rattle.tl_sweep.proofs.Splits.{last_behind, parted_or, EndsWithin}
 
 -- ---- one gap
@@ -67,32 +67,33 @@ module _ (chains : List MapChain) (p : Point) (west east : Option ℕ) (front ba
 
 -- ---- one gap more
 
-pub none_yet : (chains : List MapChain) (p : Point) (west ins east : List ℕ) (gaps : List OddGap) → AreToldAbout chains p west ins east 0 gaps gaps
-none_yet chains p west ins east gaps = record {
+pub none_yet : (chains : List MapChain) (p : Point) (list : ListAbout) (gaps : List OddGap) → AreToldAbout chains p list 0 gaps gaps
+none_yet chains p list gaps = record {
   kept = λ n w e listed. listed;
   told = λ k lt. absurd (omega (arith, lt));
   true_ones = λ of all. all;
   here = λ all. all;
 }
 
-pub one_more : (chains : List MapChain) (p : Point) (west ins east : List ℕ) (k : ℕ) (old mid new : List OddGap) →
-    AreToldAbout chains p west ins east k old mid → IsToldAt chains p (west ++ take k ins) (drop k ins ++ east) mid new →
-    AreToldAbout chains p west ins east (k + 1) old new
-one_more chains p west ins east k old mid new before here = record {
+pub one_more : (chains : List MapChain) (p : Point) (list : ListAbout) (k : ℕ) (old mid new : List OddGap) →
+    AreToldAbout chains p list k old mid → IsToldAt chains p (front_of list k) (back_of list k) mid new → AreToldAbout chains p list (k + 1) old new
+one_more chains p list k old mid new before here = record {
   kept = λ n w e listed. here.kept n w e (before.kept n w e listed);
   told = λ j lt. ⊎_elim
-      (λ (same : j ≡ k). subst (λ m. AreAtOdds widest chains (last_number (west ++ take m ins)) (first_number (drop m ins ++ east)) →
-      IsListed widest (height widest p) (last_number (west ++ take m ins)) (first_number (drop m ins ++ east)) new) (sym same) here.told)
+      (λ (same : j ≡ k). subst (λ m. AreAtOdds widest chains (last_number (front_of list m)) (first_number (back_of list m)) →
+      IsListed widest (height widest p) (last_number (front_of list m)) (first_number (back_of list m)) new) (sym same) here.told)
       (λ w. ⊎_elim (λ less. λ odd. here.kept _ _ _ (before.told j less odd)) (λ more. absurd (omega (arith, lt, more))) w)
       (cases_order j k);
-  true_ones = λ of all. here.true_ones (subst (IsListOf widest (height widest p) chains) (sym (parted west ins east k)) of) (before.true_ones of all);
+  true_ones = λ of all. here.true_ones (subst (IsListOf widest (height widest p) chains) (sym (parted list.west list.ins list.east k)) of)
+      (before.true_ones of all);
   here = λ all. here.here (before.here all);
 }
 
 -- ---- the whole list
 
 module _ (chains : List MapChain) (p : Point) (west outs ins east : List ℕ) (old new : List OddGap)
-    (before : IsToldAlong chains (height widest p) (west ++ (outs ++ east)) old) (about : AreToldAbout chains p west ins east (length ins + 1) old new) where
+    (before : IsToldAlong chains (height widest p) (west ++ (outs ++ east)) old)
+    (about : AreToldAbout chains p (record { west = west; ins = ins; east = east }) (length ins + 1) old new) where
   -- the sides differ there, and it is told
   abbrev IsSure : (one other : Option ℕ) → Type 0
   IsSure one other = AreAtOdds widest chains one other → IsListed widest (height widest p) one other new
@@ -155,8 +156,8 @@ nothing_along chains n gaps [] [] is odd = absurd (odd.differ (odd.named_west �
 nothing_along chains n gaps [] (y ∷ back) is odd = absurd (cc)
 nothing_along chains n gaps (x ∷ front) back is odd = absurd (cc)
 
-pub all_told : (chains : List MapChain) (p : Point) (list : List ℕ) (old new : List OddGap) → AreToldAbout chains p [] list [] (length list + 1) old new →
-    IsToldAlong chains (height widest p) list new
+pub all_told : (chains : List MapChain) (p : Point) (list : List ℕ) (old new : List OddGap) →
+    AreToldAbout chains p (record { west = []; ins = list; east = [] }) (length list + 1) old new → IsToldAlong chains (height widest p) list new
 all_told chains p list old new about =
     subst (λ l. IsToldAlong chains (height widest p) l new) (append-nil list)
     (told_on chains p [] [] list [] old new (nothing_along chains (height widest p) old) about)
@@ -164,7 +165,8 @@ all_told chains p list old new about =
 -- ---- what is told of a vertex
 
 pub looked : (chains : List MapChain) (p : Point) (west outs ins east : List ℕ) (gaps : Option ℕ) (old : Watch) (told : Vec OddGap Global) →
-    AreToldAbout chains p west ins east (length ins + 1) old.told.items told.items → ¬ (gaps ≡ Some 0) → IsOpen old →
+    AreToldAbout chains p (record { west = west; ins = ins; east = east }) (length ins + 1) old.told.items told.items → ¬ (gaps ≡ Some 0) →
+    IsOpen old →
     HasLooked chains p (west ++ (outs ++ east)) ((west ++ ins) ++ east) gaps old (record { asked = old.asked; told = told; is_sure = old.is_sure })
 looked chains p west outs ins east gaps old told about some still = record {
   asked = refl;

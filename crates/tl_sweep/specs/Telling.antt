@@ -39,10 +39,26 @@ pub record IsToldAt (chains : List MapChain) (p : Point) (front back : List ℕ)
   pub true_ones : StaysTrue chains p (front ++ back) old new
   pub here : StaysAt p old new
 
--- so are the first n gaps about some numbers between two parts of a list
-pub record AreToldAbout (chains : List MapChain) (p : Point) (west ins east : List ℕ) (n : ℕ) (old new : List OddGap) : Type 0 where
+-- a list about a point: the part to its west, the numbers that came in there, and the part to its east
+pub record ListAbout : Type 0 where
+  pub west : List ℕ
+  pub ins : List ℕ
+  pub east : List ℕ
+
+-- all of it, and its two parts behind k of the numbers that came in
+abbrev pub whole_of : ListAbout → List ℕ
+whole_of list = (list.west ++ list.ins) ++ list.east
+
+abbrev pub front_of : ListAbout → ℕ → List ℕ
+front_of list k = list.west ++ take k list.ins
+
+abbrev pub back_of : ListAbout → ℕ → List ℕ
+back_of list k = drop k list.ins ++ list.east
+
+-- each of the first n gaps about the numbers that came in is told if sides differ there
+pub record AreToldAbout (chains : List MapChain) (p : Point) (list : ListAbout) (n : ℕ) (old new : List OddGap) : Type 0 where
   pub kept : IsKept old new
-  pub told : (k : ℕ) → k < n → AreAtOdds widest chains (last_number (west ++ take k ins)) (first_number (drop k ins ++ east)) →
-      IsListed widest (height widest p) (last_number (west ++ take k ins)) (first_number (drop k ins ++ east)) new
-  pub true_ones : StaysTrue chains p ((west ++ ins) ++ east) old new
+  pub told : (k : ℕ) → k < n → AreAtOdds widest chains (last_number (front_of list k)) (first_number (back_of list k)) →
+      IsListed widest (height widest p) (last_number (front_of list k)) (first_number (back_of list k)) new
+  pub true_ones : StaysTrue chains p (whole_of list) old new
   pub here : StaysAt p old new

@@ -90,7 +90,8 @@ pub fn push_about(
     gaps: &mut Vec<OddGap>,
 ) -> Result<(), AllocError>
     ensures { IfOk result (λ done. (west east : List ℕ) → front ≡ last_of west → back ≡ slice_get east 0 →
-        AreToldAbout map.now.chains p west ins.now east (length ins.now + 1) gaps.old.items gaps.new.items) }
+        AreToldAbout map.now.chains p (record { west = west; ins = ins.now; east = east }) (length ins.now + 1) gaps.old.items
+        gaps.new.items) }
 {
     for k in 0..ins.len() {
         push_at(map, p, front, ins, k, back, gaps)?;

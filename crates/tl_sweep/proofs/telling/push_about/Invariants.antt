@@ -8,4 +8,4 @@ use Rattle.tl_sweep.proofs.telling.push_about.Given as goal
 abbrev pub invariant-loop-k : goal.invariant-loop-k
 invariant-loop-k l =
     (west east : List ℕ) → l.fn.front ≡ last_of west → l.fn.back ≡ slice_get east 0 →
-    AreToldAbout l.map.chains l.p west l.ins east l.k l.fn.gaps.items l.gaps.items
+    AreToldAbout l.map.chains l.p (record { west = west; ins = l.ins; east = east }) l.k l.fn.gaps.items l.gaps.items
