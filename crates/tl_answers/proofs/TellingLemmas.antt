@@ -8,7 +8,8 @@ use Rattle.tl_output.specs.Writing.{TriesToPassOn, CountsFailure, line_of}
 use Rattle.tl_output.specs.Texts.{PrintsText, printed_by}
 use Rattle.tl_output.proofs.TextLemmas.{prints_text}
 use Rattle.tl_answers.specs.Outcomes.{stop_status}
-use Rattle.tl_answers.specs.Telling.{Stream, stream, Tries, TellsText}
+use Rattle.tl_output.specs.Streams.{Stream, stream, Tries}
+use Rattle.tl_answers.specs.Telling.{TellsText}
 
 -- a write of a text is tried
 tries_by : {S T E : Type 0} (contents : S → Option (List ℕ)) (failures : S → ℕ) (old new : S) (text : List ℕ) (r : Result T E) → PrintsText contents failures old new text (printed_by r)

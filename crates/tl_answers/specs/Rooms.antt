@@ -6,7 +6,7 @@ use Rattle.tl_files.specs.declared.beginning.FileKind.TheVariants.{Certificate, 
 use Rattle.tl_files.specs.declared.file_system.Room.{Room}
 use Rattle.tl_files.specs.declared.file_system.Room.TheVariants.{Free, Taken, IsRead, TakenBeside, IsReadBeside}
 use Rattle.tl_output.specs.Writing.{line_of}
-use Rattle.tl_answers.specs.Telling.{Stream, Tries}
+use Rattle.tl_output.specs.Streams.{Stream, Tries}
 
 -- what is said where another file stands under the name of a new one of the kind
 abbrev pub taken_text : FileKind → List ℕ

@@ -1,6 +1,7 @@
 -- How an answer is told, or why there is none.
-use Rattle.std.specs.Prelude.{◌≡◌, ◌≢◌, ◌⊎◌, ℕ, List, [], Option, Result, Ok, Err, string_bytes}
-use Rattle.tl_output.specs.Writing.{Writes, WritesSome, line_of}
+use Rattle.std.specs.Prelude.{◌≡◌, ◌≢◌, ◌⊎◌, ℕ, List, [], Result, Ok, Err, string_bytes}
+use Rattle.tl_output.specs.Streams.{Stream, Tries}
+use Rattle.tl_output.specs.Writing.{line_of}
 use Rattle.tl_output.specs.Stops.{stop_text}
 use Rattle.tl_output.specs.declared.stop.Stop.{Stop}
 use Rattle.tl_output.specs.declared.stop.Stop.TheVariants.{Memory, Device}
@@ -10,20 +11,6 @@ use Rattle.tl_plan.specs.declared.stop.WordsStop.TheVariants as words_stop
 use Rattle.tl_answers.specs.declared.said.Answer.{Answer}
 use Rattle.tl_answers.specs.declared.usage.TheConstants.{NO_USE}
 use Rattle.tl_answers.specs.Outcomes.{stop_status}
-
--- what became of an output: this text was written, or a write failed behind a beginning of it, or it is as it was
-pub record Stream : Type 1 where
-  pub wrote : List ℕ → Type 0
-  pub part : List ℕ → Type 0
-  pub same : Type 0
-
--- the same of a sink, by what it says of itself
-abbrev pub stream : {S : Type 0} → (S → Option (List ℕ)) → (S → ℕ) → (old new : S) → Stream
-stream contents failures old new = record { wrote = Writes contents failures old new; part = WritesSome contents failures old new; same = new ≡ old }
-
--- this text was written, or the write of it failed
-abbrev pub Tries : Stream → List ℕ → Type 0
-Tries s text = s.wrote text ⊎ s.part text
 
 -- a text was written to the output, with the status that is its own; or the write failed, and that was told with the status 4; or
 -- memory was refused for it, and nothing of it was written

@@ -65,7 +65,7 @@ fn read_certificate<F: FileSystem>(
     ensures { Does (world F.under F.log F.knows files.old files.new) (string_bytes cert.now ∷ []) None
         (IsReadCertificate (bytes_under (F.under files.old) (string_bytes cert.now))) StopsNever result }
 {
-    let mut source = open_certificate(files, alloc, cert.as_str())?;
+    let mut source = open_certificate(files, alloc, cert)?;
     let read = read_cert(alloc, &mut source);
     close_certificate(files, source);
     match read {

@@ -8,7 +8,7 @@ ghost use Rattle.tl_answers.specs.Reading.{text_under};
 ghost use Rattle.tl_answers.specs.Records.{StopsCheck};
 
 use crate::outcome::Outcome;
-use crate::reading::{close_certificate, close_records, open_certificate, open_records};
+use crate::reading::{Inputs, close_certificate, close_records, open_inputs};
 use crate::said::{Answer, Said};
 use std::alloc::Global;
 use std::hash::RandomState;
@@ -33,8 +33,11 @@ pub fn check<F: FileSystem>(
         Does (world F.under F.log F.knows files.old files.new) (map string_bytes names.now ++ string_bytes cert.now ∷ []) None
         (IsSaid (CheckAnswers options budget known spelt)) (StopsCheck options budget known spelt) result }
 {
-    let mut records = open_records(files, alloc, names)?;
-    let mut spelt = open_certificate(files, alloc, cert.as_str())?;
+    let inputs = open_inputs(files, alloc, names, cert)?;
+    let Inputs {
+        mut records,
+        cert: mut spelt,
+    } = inputs;
     let decided = check_with(alloc, hasher, &mut records, &mut spelt, budget, options);
     close_records(files, records);
     close_certificate(files, spelt);

@@ -1,17 +1,17 @@
 //! Files that are read: each is opened once, in its order, all before the first is read, and closed at the end.
 
-ghost use Rattle.std.specs.Prelude.{◌≡◌, ◌<◌, ℕ, List, Option, None, true, false, vec_len, IfOk, IfErr, All, map, string_bytes};
-ghost use Rattle.tl_text.specs.Joining.{failures_of};
+ghost use Rattle.std.specs.Prelude.{◌≡◌, ◌<◌, ◌++◌, ◌∷◌, [], ℕ, List, Option, None, true, vec_len, IfOk, IfErr, map, string_bytes};
 ghost use Rattle.tl_files.specs.Files.{bytes_under};
 ghost use Rattle.tl_files.specs.Log.{after_open, with_closed};
 ghost use Rattle.tl_files.specs.World.{Does, MayStop, SomeMissing, world};
 ghost use Rattle.tl_output.specs.declared.stop.Stop.{Stop};
 ghost use Rattle.tl_output.specs.Stops.{StopsFor, TellsDevice};
-ghost use Rattle.tl_answers.specs.Reading.{text_under, Opens, Closes};
+ghost use Rattle.tl_answers.specs.Reading.{text_under, Closes};
 
 use std::alloc::{AllocError, Global};
 use std::hash::RandomState;
-use tl_files::FileSystem;
+use std::slice;
+use tl_files::{FileSystem, close_all, copy_names};
 use tl_output::Stop;
 use tl_record::Source;
 use tl_text::{Buffered, JoinedSources};
@@ -73,32 +73,63 @@ pub fn open_records<F: FileSystem>(
     ensures fresh { IfOk result (λ records. ⟦<Buffered<JoinedSources<F::Reader>> as Source>⟧.failure_count records ≡ 0) }
     ensures stops { IfErr result (StopsFor (SomeMissing (F.under files.old) (map string_bytes names.now))) }
     ensures stays { F.under files.new ≡ F.under files.old }
-    ensures logged { F.knows ≡ true → Opens (F.log files.old) (F.log files.new) (map string_bytes names.now) result }
+    ensures logged { F.knows ≡ true → F.log files.new ≡ after_open (F.log files.old) (map string_bytes names.now) result }
 {
     let room = room_for_bytes(alloc)?;
-    let readers = open_all(files, alloc, names)?;
+    let readers = files.open(alloc, names)?;
     Ok(Buffered::new(JoinedSources::new(readers), room))
 }
 
-// The files of these names, each opened once and in their order.
-fn open_all<F: FileSystem>(
+/// The files of records, as one text, and a certificate, all open.
+#[derive(Drop)]
+pub struct Inputs<R> {
+    pub records: Buffered<JoinedSources<R>>,
+    pub cert: Buffered<R>,
+}
+
+/// The files of these names and the certificate behind them, each opened once and in their order, before the first is read.
+pub fn open_inputs<F: FileSystem>(
     files: &mut F,
     alloc: Global,
     names: &[String],
-) -> Result<Vec<F::Reader>, Stop>
-    ensures bytes { IfOk result (λ readers. map F.Reader.remaining readers.items
-        ≡ map (λ name. bytes_under (F.under files.old) (string_bytes name)) names.now) }
-    ensures fresh { IfOk result (λ readers. failures_of F.Reader.failure_count readers.items ≡ 0) }
-    ensures stops { IfErr result (StopsFor (SomeMissing (F.under files.old) (map string_bytes names.now))) }
+    cert: &String,
+) -> Result<Inputs<F::Reader>, Stop>
+    ensures records { IfOk result (λ inputs. ⟦<Buffered<JoinedSources<F::Reader>> as Source>⟧.remaining inputs.records
+        ≡ text_under (F.under files.old) (map string_bytes names.now)) }
+    ensures cert { IfOk result (λ inputs. ⟦<Buffered<F::Reader> as Source>⟧.remaining inputs.cert
+        ≡ bytes_under (F.under files.old) (string_bytes cert.now)) }
+    ensures fresh { IfOk result (λ inputs. ⟦<Buffered<JoinedSources<F::Reader>> as Source>⟧.failure_count inputs.records ≡ 0) }
+    ensures fresh_cert { IfOk result (λ inputs. ⟦<Buffered<F::Reader> as Source>⟧.failure_count inputs.cert ≡ 0) }
+    ensures stops { IfErr result (StopsFor (SomeMissing (F.under files.old)
+        (map string_bytes names.now ++ string_bytes cert.now ∷ []))) }
     ensures stays { F.under files.new ≡ F.under files.old }
-    ensures logged { F.knows ≡ true → Opens (F.log files.old) (F.log files.new) (map string_bytes names.now) result }
+    ensures logged { F.knows ≡ true → F.log files.new
+        ≡ after_open (F.log files.old) (map string_bytes names.now ++ string_bytes cert.now ∷ []) result }
 {
-    let mut readers = Vec::new(alloc);
-    for name in names {
-        let file = files.open(alloc, name.as_str())?;
-        readers.push(file)?;
-    }
-    Ok(readers)
+    let read = with_certificate(alloc, names, cert)?;
+    let room = room_for_bytes(alloc)?;
+    let cert_room = room_for_bytes(alloc)?;
+    let mut readers = files.open(alloc, read.as_slice())?;
+    let Some(last) = readers.pop() else {
+        unreachable!()
+    };
+    Ok(Inputs {
+        records: Buffered::new(JoinedSources::new(readers), room),
+        cert: Buffered::new(last, cert_room),
+    })
+}
+
+/// The names of the files of records and of a certificate behind them.
+pub fn with_certificate(
+    alloc: Global,
+    names: &[String],
+    cert: &String,
+) -> Result<Vec<String>, AllocError>
+    ensures { IfOk result (λ all. map string_bytes all.items ≡ map string_bytes names.now ++ string_bytes cert.now ∷ []) }
+{
+    let mut all = copy_names(alloc, names)?;
+    all.push(String::from_str(alloc, cert.as_str())?)?;
+    Ok(all)
 }
 
 /// Closes the files of records.
@@ -110,33 +141,24 @@ pub fn close_records<F: FileSystem>(files: &mut F, records: Buffered<JoinedSourc
     close_all(files, records.into_source().into_readers());
 }
 
-// Closes files.
-fn close_all<F: FileSystem>(files: &mut F, readers: Vec<F::Reader>)
-    ensures stays { F.under files.new ≡ F.under files.old }
-    ensures logged { F.knows ≡ true → Closes (F.log files.old) (F.log files.new)
-        (failures_of F.Reader.failure_count readers.items) }
-{
-    let mut left = readers;
-    while let Some(reader) = left.pop() {
-        files.close(reader);
-    }
-}
-
 /// The certificate of a name, opened, of which many bytes are read at a time.
 pub fn open_certificate<F: FileSystem>(
     files: &mut F,
     alloc: Global,
-    name: &str,
+    cert: &String,
 ) -> Result<Buffered<F::Reader>, Stop>
     ensures bytes { IfOk result (λ source. ⟦<Buffered<F::Reader> as Source>⟧.remaining source
-        ≡ bytes_under (F.under files.old) name.now) }
+        ≡ bytes_under (F.under files.old) (string_bytes cert.now)) }
     ensures fresh { IfOk result (λ source. ⟦<Buffered<F::Reader> as Source>⟧.failure_count source ≡ 0) }
-    ensures stops { IfErr result (StopsFor (bytes_under (F.under files.old) name.now ≡ None)) }
+    ensures stops { IfErr result (StopsFor (SomeMissing (F.under files.old) (string_bytes cert.now ∷ []))) }
     ensures stays { F.under files.new ≡ F.under files.old }
-    ensures logged { F.knows ≡ true → F.log files.new ≡ after_open (F.log files.old) name.now result }
+    ensures logged { F.knows ≡ true → F.log files.new ≡ after_open (F.log files.old) (string_bytes cert.now ∷ []) result }
 {
     let room = room_for_bytes(alloc)?;
-    let file = files.open(alloc, name)?;
+    let mut readers = files.open(alloc, slice::from_ref(cert))?;
+    let Some(file) = readers.pop() else {
+        unreachable!()
+    };
     Ok(Buffered::new(file, room))
 }
 

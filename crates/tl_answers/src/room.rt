@@ -3,7 +3,7 @@
 ghost use Rattle.std.specs.Prelude.{◌≡◌};
 ghost use Rattle.tl_output.specs.Writing.{line_of};
 ghost use Rattle.tl_answers.specs.Rooms.{refusal_text};
-ghost use Rattle.tl_answers.specs.Telling.{Tries, stream};
+ghost use Rattle.tl_output.specs.Streams.{Tries, stream};
 
 use crate::stop::{USAGE, try_to_write};
 use tl_files::{FileKind, Room};

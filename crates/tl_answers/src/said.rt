@@ -1,18 +1,18 @@
 //! Answers: a text, and the exit status beside it.
 
-ghost use Rattle.std.specs.Prelude.{◌≡◌, [], OnOk};
+ghost use Rattle.std.specs.Prelude.{◌≡◌};
 ghost use Rattle.tl_geom.specs.declared.point.Point.{Point};
 ghost use Rattle.tl_inside.specs.Places.{IsPlaceOf};
-ghost use Rattle.tl_output.specs.Writing.{CountsFailure, TriesToPassOn};
+ghost use Rattle.tl_output.specs.Printing.{Prints};
+ghost use Rattle.tl_output.specs.Texts.{PrintsText};
 ghost use Rattle.tl_text.specs.Printing.{shown_text, listing_text};
 ghost use Rattle.tl_answers.specs.Places.{place_text};
 
 use crate::outcome::Outcome;
 use std::alloc::Global;
-use std::io;
 use tl_county::{Chains, Map};
 use tl_inside::Place;
-use tl_output::{Line, OutputBuffer, Stop, Text, as_printed};
+use tl_output::{Line, Printer, Stop, Text};
 use tl_record::Sink;
 use tl_text::{print_chains, print_inside, print_landmarks, print_on_chain};
 
@@ -59,60 +59,51 @@ impl Text for Said {
 
     fn print<S: Sink>(&self, alloc: Global, out: &mut S) -> Result<(), Stop> {
         match self {
-            Said::Chains(chains) => as_printed(print_all_chains(chains, out)),
-            Said::Landmarks(map) => as_printed(print_all_landmarks(map, out)),
-            Said::Place { map, place } => as_printed(print_place(map, place, out)),
+            Said::Chains(chains) => print_all_chains(chains, out),
+            Said::Landmarks(map) => print_all_landmarks(map, out),
+            Said::Place { map, place } => print_place(map, place, out),
             Said::Outcome(outcome) => Line { value: *outcome }.print(alloc, out),
         }
     }
 }
 
-fn print_all_chains<W: Sink>(chains: &Chains, out: &mut W) -> io::Result<()>
-    ensures bytes { TriesToPassOn (W.contents out.old) (W.contents out.new) [] [] (shown_text chains.now) result }
-    ensures failures { CountsFailure (W.failure_count out.old) (W.failure_count out.new) result }
+fn print_all_chains<W: Sink>(chains: &Chains, out: &mut W) -> Result<(), Stop>
+    ensures { PrintsText W.contents W.failure_count out.old out.new (shown_text chains.now) result }
 {
-    let mut buffer = OutputBuffer::new();
-    print_chains(chains, &mut buffer, out)?;
-    buffer.flush(out)
+    let mut printer = Printer::new();
+    print_chains(chains, &mut printer, out);
+    printer.finish(out)
 }
 
-fn print_all_landmarks<W: Sink>(map: &Map, out: &mut W) -> io::Result<()>
-    ensures bytes { TriesToPassOn (W.contents out.old) (W.contents out.new) [] [] (listing_text map.now) result }
-    ensures failures { CountsFailure (W.failure_count out.old) (W.failure_count out.new) result }
+fn print_all_landmarks<W: Sink>(map: &Map, out: &mut W) -> Result<(), Stop>
+    ensures { PrintsText W.contents W.failure_count out.old out.new (listing_text map.now) result }
 {
-    let mut buffer = OutputBuffer::new();
-    print_landmarks(map, &mut buffer, out)?;
-    buffer.flush(out)
+    let mut printer = Printer::new();
+    print_landmarks(map, &mut printer, out);
+    printer.finish(out)
 }
 
-// Writes the line of a place.
-fn print_place<W: Sink>(map: &Map, place: &Place, out: &mut W) -> io::Result<()>
+// Prints the line of a place.
+fn print_place<W: Sink>(map: &Map, place: &Place, out: &mut W) -> Result<(), Stop>
     requires { (point : Point) × IsPlaceOf map.now point place.now }
-    ensures bytes { TriesToPassOn (W.contents out.old) (W.contents out.new) [] [] (place_text map.now place.now) result }
-    ensures failures { CountsFailure (W.failure_count out.old) (W.failure_count out.new) result }
+    ensures { PrintsText W.contents W.failure_count out.old out.new (place_text map.now place.now) result }
 {
-    let mut buffer = OutputBuffer::new();
-    add_place(map, place, &mut buffer, out)?;
-    buffer.flush(out)
+    let mut printer = Printer::new();
+    add_place(map, place, &mut printer, out);
+    printer.finish(out)
 }
 
-// Adds the line of a place to the output.
-fn add_place<W: Sink>(
-    map: &Map,
-    place: &Place,
-    buffer: &mut OutputBuffer,
-    out: &mut W,
-) -> io::Result<()>
+// Adds the line of a place to what is printed.
+fn add_place<W: Sink>(map: &Map, place: &Place, printer: &mut Printer, out: &mut W)
     requires { (point : Point) × IsPlaceOf map.now point place.now }
-    ensures bytes { TriesToPassOn (W.contents out.old) (W.contents out.new) buffer.old buffer.new
-        (place_text map.now place.now) result }
-    ensures failures { CountsFailure (W.failure_count out.old) (W.failure_count out.new) result }
+    ensures { Prints W.contents W.failure_count (out.old, printer.old) (out.new, printer.new)
+        (place_text map.now place.now) }
 {
     match place {
-        Place::OnChain(chain) => print_on_chain(map, *chain, buffer, out),
+        Place::OnChain(chain) => print_on_chain(map, *chain, printer, out),
         Place::In {
             polygons,
             landmarks,
-        } => print_inside(map, polygons, landmarks, buffer, out),
+        } => print_inside(map, polygons, landmarks, printer, out),
     }
 }

@@ -5,7 +5,7 @@ ghost use Rattle.tl_record.specs.Messages.{refusal_text};
 ghost use Rattle.tl_output.specs.Writing.{line_of};
 ghost use Rattle.tl_output.specs.Stops.{stop_text};
 ghost use Rattle.tl_answers.specs.Outcomes.{stop_status};
-ghost use Rattle.tl_answers.specs.Telling.{Tries, stream};
+ghost use Rattle.tl_output.specs.Streams.{Tries, stream};
 
 use tl_output::{Stop, write_all};
 use tl_record::{Cause, Sink};

@@ -1,7 +1,8 @@
 //! How an answer is told.
 
 ghost use Rattle.std.specs.Prelude.{IfOk};
-ghost use Rattle.tl_answers.specs.Telling.{Tells, TellsText, stream};
+ghost use Rattle.tl_output.specs.Streams.{stream};
+ghost use Rattle.tl_answers.specs.Telling.{Tells, TellsText};
 
 use crate::said::Answer;
 use crate::stop::stopped;

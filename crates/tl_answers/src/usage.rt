@@ -1,7 +1,8 @@
 //! What is said of words that are no command.
 
 ghost use Rattle.std.specs.Prelude.{◌≡◌};
-ghost use Rattle.tl_answers.specs.Telling.{TellsWordsStop, Tries, stream};
+ghost use Rattle.tl_output.specs.Streams.{Tries, stream};
+ghost use Rattle.tl_answers.specs.Telling.{TellsWordsStop};
 
 use crate::stop::{DONE, USAGE, stopped, try_to_write};
 use crate::telling::write_text;

@@ -1,13 +1,12 @@
 -- Lines that are put one before the other, from the last to the first.
-use Rattle.std.proofs.Common.{◌≡◌, ℕ, ◌+◌, ◌*◌, ◌-◌, ◌<◌, ◌≤◌, ◌^◌, List, [], ◌∷◌, ◌++◌, length, take, drop, map, get_or, refl, sym, ap, subst, ◌∙◌, arith, Option}
-use Rattle.std.proofs.Common.{append_assoc, append-nil, add-one, decimal, set, length-set, length-drop, take_all, take-add, take-append-drop, drop-cons}
+use Rattle.std.proofs.Common.{◌≡◌, ℕ, ◌+◌, ◌*◌, ◌-◌, ◌<◌, ◌≤◌, ◌^◌, List, [], ◌∷◌, ◌++◌, length, take, drop, map, get_or, refl, sym, ap, subst, ◌∙◌, arith}
+use Rattle.std.proofs.Common.{append_assoc, append-nil, add-one, decimal, set, length-set, length-drop, take_all, take-add, drop-cons}
 use Rattle.std.proofs.lemmas.List.{drop-set, drop_all}
 use Rattle.std.proofs.lemmas.Fmt.{length-decimal-le}
-use Rattle.tl_output.specs.Writing.{PassesOn, PassesSome, line_of}
-use Rattle.tl_output.proofs.WritingLemmas.{passes_both}
+use Rattle.tl_output.specs.Writing.{line_of}
 use Rattle.tl_cert.specs.Text.{numbered_line}
 use Rattle.tl_cert.specs.Keeping.Putting.{HasRoom, Puts}
-use Rattle.tl_cert.proofs.WriteLemmas.{line_first, numbers_text, numbers_joins, passes_some_of}
+use Rattle.tl_cert.proofs.WriteLemmas.{line_first, numbers_text, numbers_joins}
 
 -- a number of 32 bits has ten digits at most
 pub few_digits : (n : ℕ) → n < 2 ^ 32 → length (decimal n) ≤ 10
@@ -106,27 +105,8 @@ puts_next letter numbers left place middle start old between new some few near p
       size = q.size ∙ p.size;
     }
 
--- some numbers more are passed on
-pub passes_more : (word xs : List ℕ) (done count : ℕ) (old mid new : Option (List ℕ)) (held kept last : List ℕ)
-    → PassesOn old mid held kept (numbers_text word (take done xs)) → PassesOn mid new kept last (numbers_text word (take count (drop done xs)))
-    → PassesOn old new held last (numbers_text word (take (done + count) xs))
-passes_more word xs done count old mid new held kept last p q =
-    subst (PassesOn old new held last)
-    (sym (ap (numbers_text word) (take-add done count xs) ∙ numbers_joins word (take done xs) (take count (drop done xs))))
-    (passes_both old mid new held kept last (numbers_text word (take done xs)) (numbers_text word (take count (drop done xs))) p q)
-
--- a batch of the numbers isn't passed on
-pub passes_some_more : (word xs : List ℕ) (done count : ℕ) (old mid new : Option (List ℕ)) (held kept : List ℕ)
-    → PassesOn old mid held kept (numbers_text word (take done xs)) → PassesSome mid new kept (numbers_text word (take count (drop done xs)))
-    → PassesSome old new held (numbers_text word xs)
-passes_some_more word xs done count old mid new held kept p q =
-    let front = numbers_text word (take done xs) in
-    let batch = numbers_text word (take count (drop done xs)) in
-    let behind = numbers_text word (drop count (drop done xs)) in
-    let whole : front ++ batch ++ behind ≡ numbers_text word xs =
-    append_assoc front batch behind
-    ∙ ap (λ (l : List ℕ). front ++ l) (sym (numbers_joins word (take count (drop done xs)) (drop count (drop done xs)))
-    ∙ ap (numbers_text word) (take-append-drop count (drop done xs)))
-    ∙ sym (numbers_joins word (take done xs) (drop done xs))
-    ∙ ap (numbers_text word) (take-append-drop done xs) in
-    subst (PassesSome old new held) whole (passes_some_of old mid new held kept front batch behind p q)
+-- some numbers more
+pub numbers_more : (word xs : List ℕ) (done count : ℕ)
+    → numbers_text word (take done xs) ++ numbers_text word (take count (drop done xs)) ≡ numbers_text word (take (done + count) xs)
+numbers_more word xs done count =
+    sym (ap (numbers_text word) (take-add done count xs) ∙ numbers_joins word (take done xs) (take count (drop done xs)))

@@ -1,13 +1,11 @@
--- A certificate's text, passed on piece by piece.
-use Rattle.std.proofs.Common.{◌≡◌, ℕ, ◌+◌, ◌-◌, ◌<◌, ◌≤◌, List, [], ◌∷◌, ◌++◌, length, take, drop, map, get_or, refl, sym, ap, subst, ◌∙◌, arith}
-use Rattle.std.proofs.Common.{append_assoc, append-nil, add-one, take-append-drop, decimal, set, length-set, length-drop}
+-- A certificate's text, printed piece by piece.
+use Rattle.std.proofs.Common.{◌≡◌, ℕ, ◌+◌, ◌-◌, ◌<◌, ◌≤◌, List, [], ◌∷◌, ◌++◌, length, take, drop, map, get_or, refl, sym, ap, ◌∙◌, arith}
+use Rattle.std.proofs.Common.{append_assoc, append-nil, add-one, decimal, set, length-set, length-drop}
 use Rattle.std.proofs.Math.Seq.{take-suc}
 use Rattle.std.proofs.lemmas.List.{take_all, map-append, length-map, drop-set}
 use Rattle.std.specs.Global.{Global}
-use Rattle.std.specs.Io.KnownBytes.{Appends}
-use Rattle.std.specs.Prelude.{codes, Option, Vec}
-use Rattle.tl_output.specs.Writing.{PassesOn, PassesSome, Writes, line_of}
-use Rattle.tl_output.proofs.WritingLemmas.{passes_both, passes_some_more, passes_some_then}
+use Rattle.std.specs.Prelude.{codes, Vec}
+use Rattle.tl_output.specs.Writing.{line_of}
 use Rattle.tl_record.specs.Lines.{line_feed, joined_lines}
 use Rattle.tl_index.specs.declared.node.TreeNode.{TreeNode}
 use Rattle.tl_index.specs.declared.node.TreeNode.TheVariants.{Inner, Leaf}
@@ -17,41 +15,15 @@ use Rattle.tl_cert.specs.Text.{numbered_line, head_line, counts_line, nodes_line
 use Rattle.tl_cert.specs.Text.{darts_lines, all_darts_lines, rounds_lines, walks_lines, end_line, certificate_text}
 use Rattle.tl_cert.proofs.Completing.{joined-append}
 
--- one text is passed on whole, another behind it isn't, and there is more
-pub passes_some_of : (old mid new : Option (List ℕ)) (held kept front behind more : List ℕ) → PassesOn old mid held kept front
-    → PassesSome mid new kept behind → PassesSome old new held (front ++ behind ++ more)
-passes_some_of old mid new held kept front behind more p q =
-    passes_some_more old new held (front ++ behind) more (passes_some_then old mid new held kept front behind p q)
-
 -- ---- the text of a list is the texts of its elements, one behind the other
 module _ {X : Type 0} (text : List X → List ℕ) (joins : (xs ys : List X) → text (xs ++ ys) ≡ text xs ++ text ys) where
-  text_next : (xs : List X) (i : ℕ) (d x : X) → i < length xs → get_or xs i d ≡ x → text (take (i + 1) xs) ≡ text (take i xs) ++ text (x ∷ [])
+  -- one element more
+  pub text_next : (xs : List X) (i : ℕ) (d x : X) → i < length xs → get_or xs i d ≡ x → text (take (i + 1) xs) ≡ text (take i xs) ++ text (x ∷ [])
   text_next xs i d x within here = rw (add-one, take-suc xs i d within, here) (joins (take i xs) (x ∷ []))
 
-  -- one element more is passed on
-  pub passes_next : (xs : List X) (i : ℕ) (d x : X) (old mid new : Option (List ℕ)) (held kept last : List ℕ) → i < length xs
-      → get_or xs i d ≡ x → PassesOn old mid held kept (text (take i xs)) → PassesOn mid new kept last (text (x ∷ []))
-      → PassesOn old new held last (text (take (i + 1) xs))
-  passes_next xs i d x old mid new held kept last within here p q =
-      subst (PassesOn old new held last) (sym (text_next xs i d x within here))
-      (passes_both old mid new held kept last (text (take i xs)) (text (x ∷ [])) p q)
-
-  -- an element isn't
-  pub passes_some_next : (xs : List X) (i : ℕ) (d x : X) (old mid new : Option (List ℕ)) (held kept : List ℕ) → i < length xs
-      → get_or xs i d ≡ x → PassesOn old mid held kept (text (take i xs)) → PassesSome mid new kept (text (x ∷ []))
-      → PassesSome old new held (text xs)
-  passes_some_next xs i d x old mid new held kept within here p q =
-      let some = passes_some_of old mid new held kept (text (take i xs)) (text (x ∷ [])) (text (drop (i + 1) xs)) p q in
-      let whole : text (take i xs) ++ text (x ∷ []) ++ text (drop (i + 1) xs) ≡ text xs =
-      ap (λ l. l ++ text (drop (i + 1) xs)) (sym (text_next xs i d x within here))
-      ∙ sym (joins (take (i + 1) xs) (drop (i + 1) xs))
-      ∙ ap text (take-append-drop (i + 1) xs) in
-      subst (PassesSome old new held) whole some
-
-  -- all are
-  pub passes_all : (xs : List X) (i : ℕ) (old new : Option (List ℕ)) (held kept : List ℕ) → length xs ≤ i
-      → PassesOn old new held kept (text (take i xs)) → PassesOn old new held kept (text xs)
-  passes_all xs i old new held kept most p = subst (PassesOn old new held kept) (ap text (take_all i xs most)) p
+-- all elements
+pub text_all : {X : Type 0} (text : List X → List ℕ) (xs : List X) (i : ℕ) → length xs ≤ i → text (take i xs) ≡ text xs
+text_all text xs i most = ap text (take_all i xs most)
 
 -- ---- such texts
 
@@ -167,10 +139,3 @@ parts_of c version counts nodes rounds walks v k n r w =
     ∙ ap (λ x. parts_text c.version c.counts c.tree x walks) r
     ∙ ap (λ x. parts_text c.version c.counts c.tree c.rounds x) w
     ∙ whole_text c
-
--- ---- what is written
-
-pub writes_whole : {S : Type 0} (contents : S → Option (List ℕ)) (failures : S → ℕ) (old new : S) (text : List ℕ)
-    → PassesOn (contents old) (contents new) [] [] text → failures new ≡ failures old → Writes contents failures old new text
-writes_whole contents failures old new text p same =
-    record { grown = subst (Appends (contents old) (contents new)) (sym (append-nil p.taken) ∙ p.whole) p.grown; no_failure = same }

@@ -27,6 +27,7 @@ mod write;
 
 pub use certificate::{Certificate, Counts};
 pub use place::{CertPart, NextPart};
+pub use range::look_at_certificate;
 pub use read::read_cert;
 pub use reader::{CertReader, Standing};
 pub use stop::{CertStop, WriteStop};

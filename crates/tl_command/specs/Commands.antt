@@ -1,5 +1,5 @@
 -- What a command reads and makes, and what it answers.
-use Rattle.std.specs.Prelude.{◌⊎◌, ℕ, Bool, true, false, List, [], ◌∷◌, ◌++◌, None, map, string_bytes, ⊤}
+use Rattle.std.specs.Prelude.{ℕ, Bool, true, false, List, [], ◌∷◌, ◌++◌, None, map, string_bytes, ⊤}
 use Rattle.tl_record.specs.declared.options.Options.{Options}
 use Rattle.tl_record.specs.Layout.{layout_with}
 use Rattle.tl_output.specs.declared.stop.Stop.{Stop}
@@ -7,9 +7,7 @@ use Rattle.tl_plan.specs.declared.asked.Asked.{Asked}
 use Rattle.tl_plan.specs.declared.asked.Asked.TheVariants.{Show, Landmarks, Locate, Audit, Build, Check, Convert, Export, Draw}
 use Rattle.tl_plan.specs.declared.asked.Command.{Command}
 use Rattle.tl_plan.specs.declared.budget.Told.TheVariants.{One}
-use Rattle.tl_text.specs.Joining.{failures_of}
-use Rattle.tl_files.specs.Files.{Under, bytes_under}
-use Rattle.tl_hint.specs.Again.{CountFails, SomeReadFails}
+use Rattle.tl_files.specs.Files.{bytes_under}
 use Rattle.tl_files.specs.World.{World}
 use Rattle.tl_files.specs.declared.beginning.FileKind.{FileKind}
 use Rattle.tl_files.specs.declared.beginning.FileKind.TheVariants.{Certificate, Collection, Picture}
@@ -75,8 +73,3 @@ is_plain (Audit told places made) = false
 is_plain (Export made) = false
 is_plain (Draw made view faults) = false
 is_plain other = true
-
--- the files of these names can't be read again: their lines can't be counted, or a read of them as one text failed; `reads` counts the
--- reads of a file that failed
-abbrev pub FailsAgain : {R : Type 0} → (reads : R → ℕ) → Under → List (List ℕ) → Type 0
-FailsAgain reads under names = CountFails reads under names ⊎ SomeReadFails (failures_of reads)

@@ -1,22 +1,45 @@
 -- What is said behind a stop of a command.
-use Rattle.std.specs.Prelude.{ℕ, List, Option, Some, None, Result, Ok, Err}
+use Rattle.std.specs.Prelude.{◌≡◌, true, Option, Some, None, Result, Ok, Err}
 use Rattle.tl_record.specs.Layout.{layout_with}
 use Rattle.tl_output.specs.declared.stop.Stop.{Stop}
 use Rattle.tl_output.specs.Stops.{StopsFor}
 use Rattle.tl_plan.specs.declared.asked.Command.{Command}
-use Rattle.tl_files.specs.Files.{Under}
+use Rattle.tl_files.specs.Log.{LogsAgain}
+use Rattle.tl_files.specs.World.{World}
+use Rattle.tl_hint.specs.Again.{FailsAgain}
 use Rattle.tl_hint.specs.Telling.{TellsHint}
-use Rattle.tl_answers.specs.Telling.{Stream, Tries}
+use Rattle.tl_output.specs.Streams.{Stream, Tries}
 use Rattle.tl_command.specs.declared.run.Outcome.{Outcome}
 use Rattle.tl_command.specs.Commands.{names_read}
+use Rattle.tl_command.specs.Running.{Untouched}
 
--- what helps was said behind a stop, of the files as they stand; or nothing was, since memory was refused for it or, where `again` says so,
--- a file can't be read again. Where there is no stop nothing is said
-abbrev pub Hints : Under → (again : Type 0) → Command → Option Stop → Stream → Result (Unit {0}) Stop → Type 0
-Hints under again command None err result = err.same
-Hints under again command (Some stop) err (Ok done) = TellsHint stop (layout_with command.options) under (names_read command) (Tries err)
-Hints under again command (Some stop) err (Err why) = err.same × StopsFor again why
+-- what is done behind an outcome that was told: with files, and with the error output
+pub record Behind : Type 1 where
+  pub files : World
+  pub err : Stream
+
+abbrev pub behind : World → Stream → Behind
+behind files err = record { files = files; err = err }
+
+-- nothing is
+pub record NothingBehind (b : Behind) : Type 0 where
+  pub same : b.err.same
+  pub untouched : Untouched b.files
+
+-- what helps was said behind a stop, of the files as they stand; or nothing was, since memory was refused for it or a file can't be read
+-- again. Where there is no stop nothing is said
+abbrev pub Says : Behind → Command → Option Stop → Result (Unit {0}) Stop → Type 0
+Says b command None (Ok done) = b.err.same
+Says b command None (Err why) = ⊥
+Says b command (Some stop) (Ok done) = TellsHint stop (layout_with command.options) b.files.before (names_read command) (Tries b.err)
+Says b command (Some stop) (Err why) = b.err.same × StopsFor (FailsAgain b.files (names_read command)) why
+
+-- the same, and files were read for it at most
+pub record Hints (b : Behind) (command : Command) (stop : Option Stop) (result : Result (Unit {0}) Stop) : Type 0 where
+  pub says : Says b command stop result
+  pub stays : b.files.after ≡ b.files.before
+  pub logged : b.files.knows ≡ true → LogsAgain b.files.log b.files.logged result
 
 -- the same of an outcome, whatever came of the hint
-abbrev pub HintsBy : Under → (again : List (List ℕ) → Type 0) → Stream → Command → Outcome → Type 0
-HintsBy under again err command outcome = (result : Result (Unit {0}) Stop) × Hints under (again (names_read command)) command outcome.stop err result
+abbrev pub HintsBy : Behind → Command → Outcome → Type 0
+HintsBy b command outcome = (result : Result (Unit {0}) Stop) × Hints b command outcome.stop result

@@ -12,7 +12,8 @@ use Rattle.tl_files.specs.declared.file_system.Room.TheVariants.{Free}
 use Rattle.tl_files.specs.Log.{Log}
 use Rattle.tl_files.specs.World.{World, Does, MayMake}
 use Rattle.tl_answers.specs.declared.said.Answer.{Answer}
-use Rattle.tl_answers.specs.Telling.{Stream, Tries, TellsText, TellsStop}
+use Rattle.tl_output.specs.Streams.{Stream, Tries}
+use Rattle.tl_answers.specs.Telling.{TellsText, TellsStop}
 use Rattle.tl_answers.specs.Rooms.{RefusesName}
 use Rattle.tl_command.specs.declared.run.Outcome.{Outcome}
 use Rattle.tl_command.specs.Commands.{names_read, inputs_of, kind_of}
@@ -96,13 +97,13 @@ pub record Refused (command : Command) (w : World) (s : Streams) (outcome : Outc
   pub untouched : Untouched w
 
 -- it isn't known what stands under the name of the file that is made
-abbrev pub SomeUnknown : Under → Command → Type 0
-SomeUnknown under command = (name : List ℕ) × (made_of command.asked ≡ Some name) × (under name ≡ None)
+abbrev pub IsUnknown : Under → Command → Type 0
+IsUnknown under command = (name : List ℕ) × (made_of command.asked ≡ Some name) × (under name ≡ None)
 
 -- nothing was begun: memory was refused, or it can't be told whether the file may be made; that was told
 pub record Unbegun (command : Command) (w : World) (s : Streams) (outcome : Outcome) : Type 0 where
   pub stop : Stop
-  pub may : StopsFor (SomeUnknown w.before command) stop
+  pub may : StopsFor (IsUnknown w.before command) stop
   pub told : TellsStop s.out s.err outcome.status stop
   pub same : outcome.stop ≡ Some stop
   pub untouched : Untouched w

@@ -12,6 +12,7 @@ use Rattle.tl_plan.specs.Escapes.{ShowsNoEscape}
 use Rattle.tl_files.specs.World.{World}
 use Rattle.tl_answers.specs.Telling.{TellsStop, TellsWordsStop}
 use Rattle.tl_command.specs.declared.run.Outcome.{Outcome}
+use Rattle.tl_command.specs.Hinting.{Behind, HintsBy, NothingBehind}
 use Rattle.tl_command.specs.Running.{Streams, Terms, Runs, Untouched}
 
 -- why the words of the command line can't be read
@@ -21,10 +22,10 @@ IsUnread (Help text) = ⊥
 IsUnread Memory = ⊤
 
 -- a command was run, and what helps was said behind it
-pub record RunsAndHints (t : World → Terms) (command : Command) (w : World) (s : Streams) (hints : Outcome → Type 0) (status : ℕ) : Type 0 where
+pub record RunsAndHints (t : World → Terms) (command : Command) (w : World) (s : Streams) (b : Behind) (status : ℕ) : Type 0 where
   pub outcome : Outcome
   pub runs : Runs t command w s outcome
-  pub hinted : hints outcome
+  pub hinted : HintsBy b command outcome
   pub is : status ≡ outcome.status
 
 -- the words are no command, and why was told, or the help that they wish for
@@ -35,12 +36,12 @@ pub record Misses (words : List Text) (w : World) (s : Streams) (status : ℕ) :
   pub told : TellsWordsStop s.out s.err status stop
   pub untouched : Untouched w
 
--- what is answered to words: they ask for a command, which was run; or they are none
-abbrev pub Starts : List Text → (Command → World → Terms) → World → Streams → (hints : Command → Outcome → Type 0) → ℕ → Type 0
-Starts words t w s hints status =
-    ((command : Command) × AskFor words command × RunsAndHints (t command) command w s (hints command) status) ⊎ Misses words w s status
+-- what is answered to words: they ask for a command, which was run; or they are none, and nothing more is done
+abbrev pub Starts : List Text → (Command → World → Terms) → World → Streams → Behind → ℕ → Type 0
+Starts words t w s b status =
+    ((command : Command) × AskFor words command × RunsAndHints (t command) command w s b status) ⊎ (Misses words w s status × NothingBehind b)
 
 -- the same where the words can't be read, or there are no keys for hashers: why was told
-abbrev pub AnswersWords : Result (Vec (String Global) Global) WordsStop → (Command → World → Terms) → World → Streams → (hints : Command → Outcome → Type 0) → ℕ → Type 0
-AnswersWords (Ok words) t w s hints status = Starts (map string_bytes words.items) t w s hints status ⊎ (TellsStop s.out s.err status stop.Device × Untouched w)
-AnswersWords (Err unread) t w s hints status = TellsWordsStop s.out s.err status unread × Untouched w
+abbrev pub AnswersWords : Result (Vec (String Global) Global) WordsStop → (Command → World → Terms) → World → Streams → Behind → ℕ → Type 0
+AnswersWords (Ok words) t w s b status = Starts (map string_bytes words.items) t w s b status ⊎ (TellsStop s.out s.err status stop.Device × Untouched w × NothingBehind b)
+AnswersWords (Err unread) t w s b status = TellsWordsStop s.out s.err status unread × Untouched w × NothingBehind b

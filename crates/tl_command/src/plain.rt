@@ -5,7 +5,7 @@ ghost use Rattle.std.specs.Prelude.{◌≡◌, map, string_bytes};
 ghost use Rattle.tl_plan.specs.Asked.{made_of};
 ghost use Rattle.tl_files.specs.World.{Does, MayMake, world};
 ghost use Rattle.tl_answers.specs.Answers.{IsSaid};
-ghost use Rattle.tl_answers.specs.Telling.{Tries, stream};
+ghost use Rattle.tl_output.specs.Streams.{Tries, stream};
 ghost use Rattle.tl_command.specs.Commands.{IsPlain, PlainAnswers, PlainStops, names_read, kind_of, is_plain};
 ghost use Rattle.tl_command.specs.Running.{not_here};
 
@@ -31,7 +31,7 @@ pub struct Plain;
 impl Program for Plain {
     ghost answers = { λ command. PlainAnswers command.asked command.options (map string_bytes command.files.items) };
 
-    ghost stops = { λ again command. PlainStops command.asked command.options (map string_bytes command.files.items) };
+    ghost stops = { λ command. PlainStops command.asked command.options (map string_bytes command.files.items) };
 
     ghost lacks = { λ command. ¬ IsPlain command.asked };
 

@@ -4,7 +4,7 @@ ghost use Rattle.std.specs.Prelude.{◌≡◌, None, IfOk, IfErr, IfSome, map, s
 ghost use Rattle.tl_plan.specs.Asked.{made_of};
 ghost use Rattle.tl_output.specs.Stops.{StopsFor};
 ghost use Rattle.tl_command.specs.Commands.{kind_of, inputs_of};
-ghost use Rattle.tl_command.specs.Running.{IsRoomFor, SomeUnknown};
+ghost use Rattle.tl_command.specs.Running.{IsRoomFor, IsUnknown};
 
 use std::alloc::Global;
 use std::slice;
@@ -15,7 +15,7 @@ use tl_plan::{Asked, Command};
 /// Whether the file that a command makes may be made, if it makes one.
 pub fn room_of<F: FileSystem>(files: &F, alloc: Global, command: &Command) -> Result<Room, Stop>
     ensures room { IfOk result (IsRoomFor (F.under files.now) command.now) }
-    ensures stops { IfErr result (StopsFor (SomeUnknown (F.under files.now) command.now)) }
+    ensures stops { IfErr result (StopsFor (IsUnknown (F.under files.now) command.now)) }
 {
     match command.made() {
         Some(name) => files.room(

@@ -8,8 +8,9 @@ ghost use Rattle.tl_output.specs.declared.stop.Stop.{Stop};
 ghost use Rattle.tl_output.specs.Stops.{stop_text};
 ghost use Rattle.tl_output.specs.Writing.{line_of};
 ghost use Rattle.tl_answers.specs.Outcomes.{stop_status};
-ghost use Rattle.tl_answers.specs.Telling.{Tells, Tries, stream};
-ghost use Rattle.tl_command.specs.Commands.{names_read, kind_of, FailsAgain};
+ghost use Rattle.tl_output.specs.Streams.{Tries, stream};
+ghost use Rattle.tl_answers.specs.Telling.{Tells};
+ghost use Rattle.tl_command.specs.Commands.{names_read, kind_of};
 ghost use Rattle.tl_command.specs.Running.{Performs, Runs, stop_in, streams, terms, last_of, watched};
 
 use crate::room::{kind_of, room_of};
@@ -36,8 +37,8 @@ pub trait Program {
     // What is answered to a command, with which status.
     ghost answers: { Command → World → ℕ → List ℕ → Type 0 };
 
-    // Why nothing is, but for want of memory and for a device that failed; `again` says that files can't be read again.
-    ghost stops: { (again : Type 0) → Command → World → Stop → Type 0 };
+    // Why nothing is, but for want of memory and for a device that failed.
+    ghost stops: { Command → World → Stop → Type 0 };
 
     // Which commands it doesn't have.
     ghost lacks: { Command → Type 0 };
@@ -55,8 +56,7 @@ pub trait Program {
         requires { MayMake (F.under files.old) (made_of command.now.asked) (names_read command.now) (kind_of command.now.asked) }
         ensures { let w = world F.under F.log F.knows files.old files.new in
             let s = streams (stream W.contents W.failure_count out.old out.new) (stream E.contents E.failure_count err.old err.new) in
-            Performs (terms (answers command.now w) (stops (FailsAgain F.Reader.failure_count w.before (names_read command.now)) command.now w)
-            (lacks command.now)) command.now w s result };
+            Performs (terms (answers command.now w) (stops command.now w) (lacks command.now)) command.now w s result };
 }
 
 /// Does what a command asks: nothing is done where the file that it makes may not be made. All files are opened before the first is read,
@@ -72,8 +72,7 @@ pub fn run<P: Program, F: FileSystem, W: Sink, E: Sink>(
 ) -> Outcome
     ensures { let w = world F.under F.log F.knows files.old files.new in
         let s = streams (stream W.contents W.failure_count out.old out.new) (stream E.contents E.failure_count err.old err.new) in
-        Runs (λ v. terms (P.answers command.now v)
-        (P.stops (FailsAgain F.Reader.failure_count v.before (names_read command.now)) command.now v) (P.lacks command.now)) command.now w s result }
+        Runs (λ v. terms (P.answers command.now v) (P.stops command.now v) (P.lacks command.now)) command.now w s result }
 {
     if watch(files, alloc, command).is_err() {
         return stop_by(Stop::Memory, err);

@@ -2,10 +2,8 @@
 
 ghost use Rattle.std.specs.Prelude.{IfErr, map, string_bytes};
 ghost use Rattle.tl_files.specs.World.{world};
-ghost use Rattle.tl_hint.specs.Again.{CountFails};
-ghost use Rattle.tl_answers.specs.Telling.{stream};
-ghost use Rattle.tl_command.specs.Commands.{names_read, FailsAgain};
-ghost use Rattle.tl_command.specs.Hinting.{HintsBy};
+ghost use Rattle.tl_output.specs.Streams.{stream};
+ghost use Rattle.tl_command.specs.Hinting.{behind};
 ghost use Rattle.tl_command.specs.Running.{streams, terms};
 ghost use Rattle.tl_command.specs.Starting.{AnswersWords, IsUnread, RunsAndHints, Starts};
 
@@ -34,12 +32,12 @@ pub fn answer<P: Program, F: FileSystem, W: Sink, E: Sink>(
     err: &mut E,
 ) -> u8
     requires { IfErr words IsUnread }
-    ensures { (told : E)
-        × AnswersWords words (λ command v. terms (P.answers command v)
-        (P.stops (FailsAgain F.Reader.failure_count v.before (names_read command)) command v) (P.lacks command))
-        (world F.under F.log F.knows files.old files.new)
+    // Files and the error output are, behind what is answered and before what helps, as `done` and `told` say.
+    ensures { (done : F) × (told : E)
+        × AnswersWords words (λ command v. terms (P.answers command v) (P.stops command v) (P.lacks command))
+        (world F.under F.log F.knows files.old done)
         (streams (stream W.contents W.failure_count out.old out.new) (stream E.contents E.failure_count err.old told))
-        (HintsBy (F.under files.new) (CountFails F.Reader.failure_count (F.under files.new)) (stream E.contents E.failure_count told err.new)) result }
+        (behind (world F.under F.log F.knows done files.new) (stream E.contents E.failure_count told err.new)) result }
 {
     let words = match words {
         Ok(words) => words,
@@ -61,12 +59,11 @@ pub fn start<P: Program, F: FileSystem, W: Sink, E: Sink>(
     out: &mut W,
     err: &mut E,
 ) -> u8
-    ensures { (told : E)
-        × Starts (map string_bytes words.now) (λ command v. terms (P.answers command v)
-        (P.stops (FailsAgain F.Reader.failure_count v.before (names_read command)) command v) (P.lacks command))
-        (world F.under F.log F.knows files.old files.new)
+    ensures { (done : F) × (told : E)
+        × Starts (map string_bytes words.now) (λ command v. terms (P.answers command v) (P.stops command v) (P.lacks command))
+        (world F.under F.log F.knows files.old done)
         (streams (stream W.contents W.failure_count out.old out.new) (stream E.contents E.failure_count err.old told))
-        (HintsBy (F.under files.new) (CountFails F.Reader.failure_count (F.under files.new)) (stream E.contents E.failure_count told err.new)) result }
+        (behind (world F.under F.log F.knows done files.new) (stream E.contents E.failure_count told err.new)) result }
 {
     match words::command(alloc, words) {
         Ok(command) => run_and_hint(program, files, alloc, hasher, &command, out, err),
@@ -84,15 +81,13 @@ fn run_and_hint<P: Program, F: FileSystem, W: Sink, E: Sink>(
     out: &mut W,
     err: &mut E,
 ) -> u8
-    ensures { let w = world F.under F.log F.knows files.old files.new in
-        (told : E)
-        × RunsAndHints (λ v. terms (P.answers command.now v)
-        (P.stops (FailsAgain F.Reader.failure_count v.before (names_read command.now)) command.now v) (P.lacks command.now)) command.now w
+    ensures { (done : F) × (told : E)
+        × RunsAndHints (λ v. terms (P.answers command.now v) (P.stops command.now v) (P.lacks command.now)) command.now
+        (world F.under F.log F.knows files.old done)
         (streams (stream W.contents W.failure_count out.old out.new) (stream E.contents E.failure_count err.old told))
-        (HintsBy (F.under files.new) (CountFails F.Reader.failure_count (F.under files.new)) (stream E.contents E.failure_count told err.new) command.now)
-        result }
+        (behind (world F.under F.log F.knows done files.new) (stream E.contents E.failure_count told err.new)) result }
 {
     let outcome = run(program, files, alloc, hasher, command, out, err);
-    let _ = hint(&*files, alloc, command, &outcome.stop, err);
+    let _ = hint(files, alloc, command, &outcome.stop, err);
     outcome.status
 }

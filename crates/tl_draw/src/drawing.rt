@@ -19,7 +19,7 @@ use tl_answers::reading::over_records;
 use tl_answers::said::{Answer, Said};
 use tl_county::Map;
 use tl_files::{FileKind, FileSystem, make_file};
-use tl_output::{Stop, Text, as_printed};
+use tl_output::{Stop, Text};
 use tl_plan::View;
 use tl_record::{Options, Sink};
 use tl_svg::{Frame, Picture, chain_count, fault_count, picture_of, print_picture};
@@ -41,7 +41,7 @@ impl Text for PictureText<'_> {
     ghost is_ready = { λ text. ⊤ };
 
     fn print<S: Sink>(&self, _alloc: Global, out: &mut S) -> Result<(), Stop> {
-        as_printed(print_picture(self.map, self.picture, self.faults, out))
+        print_picture(self.map, self.picture, self.faults, out)
     }
 }
 

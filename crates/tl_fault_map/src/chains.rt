@@ -6,14 +6,15 @@ ghost use Rattle.std.specs.List.{flat_map};
 ghost use Rattle.std.specs.List.Sorted.{IsPermutation, IsSorted};
 ghost use Rattle.std.specs.Ordering.{nat_cmp};
 ghost use Rattle.tl_record_lines.specs.SpokenOf.{chains_of};
-ghost use Rattle.tl_geojson.specs.Printing.{Prints};
+ghost use Rattle.tl_output.specs.Printing.{Prints};
 ghost use Rattle.tl_fault_map.specs.Named.{listed};
 ghost use Rattle.tl_fault_map.specs.Texts.{named_tlids, is_among, named_chain, chains_text};
 
 use crate::named::tlids_of;
 use std::alloc::{AllocError, Global};
 use tl_county::Map;
-use tl_geojson::{Printer, print_chain};
+use tl_geojson::print_chain;
+use tl_output::Printer;
 use tl_record::Sink;
 use tl_verdict::MapFault;
 
@@ -67,7 +68,7 @@ fn push_some(tlids: &mut Vec<u64>, more: Option<u64>) -> Result<(), AllocError>
 /// Prints the chains of a map that have these TLIDs, behind other features.
 pub fn print_chains<S: Sink>(drawn: Option<&Map>, tlids: &[u64], printer: &mut Printer, out: &mut S)
     requires { IsSorted nat_cmp tlids.now }
-    ensures { Prints S.contents S.failure_count out.old out.new printer.old printer.new
+    ensures { Prints S.contents S.failure_count (out.old, printer.old) (out.new, printer.new)
         (chains_text (option_copied drawn.entry) tlids.now) }
 {
     if let Some(map) = drawn {
@@ -78,7 +79,7 @@ pub fn print_chains<S: Sink>(drawn: Option<&Map>, tlids: &[u64], printer: &mut P
 // Prints those of this map.
 fn print_chains_of<S: Sink>(map: &Map, tlids: &[u64], printer: &mut Printer, out: &mut S)
     requires { IsSorted nat_cmp tlids.now }
-    ensures { Prints S.contents S.failure_count out.old out.new printer.old printer.new
+    ensures { Prints S.contents S.failure_count (out.old, printer.old) (out.new, printer.new)
         (flat_map (named_chain map.now.polygons tlids.now) map.now.chains) }
 {
     for number in 0..map.chains() {
@@ -90,7 +91,7 @@ fn print_chains_of<S: Sink>(map: &Map, tlids: &[u64], printer: &mut Printer, out
 fn print_named<S: Sink>(map: &Map, number: u32, tlids: &[u64], printer: &mut Printer, out: &mut S)
     requires number { number < length map.now.chains }
     requires sorted { IsSorted nat_cmp tlids.now }
-    ensures { Prints S.contents S.failure_count out.old out.new printer.old printer.new
+    ensures { Prints S.contents S.failure_count (out.old, printer.old) (out.new, printer.new)
         (option_map_or (named_chain map.now.polygons tlids.now) (slice_get map.now.chains number) []) }
 {
     if is_among(map.chain(number).tlid, tlids) {

@@ -3,7 +3,7 @@
 ghost use Rattle.std.specs.Prelude.{map, string_bytes, option_copied, option_to_list, decimal, length};
 ghost use Rattle.tl_record_lines.specs.SpokenOf.{chains_of};
 ghost use Rattle.tl_record_lines.specs.Keeping.{held};
-ghost use Rattle.tl_geojson.specs.Printing.{Prints};
+ghost use Rattle.tl_output.specs.Printing.{Prints};
 ghost use Rattle.tl_geojson.specs.Strings.{key_string};
 ghost use Rattle.tl_geojson.specs.Features.{separated, features_below};
 ghost use Rattle.tl_fault_map.specs.Named.{listed};
@@ -15,8 +15,9 @@ use crate::place::{print_exact, print_geometry};
 use crate::record::print_records;
 use crate::words::{print_words, rest_of};
 use tl_county::Map;
-use tl_geojson::{Printer, print_key, print_lead};
+use tl_geojson::{print_key, print_lead};
 use tl_listing::fault_line;
+use tl_output::Printer;
 use tl_placing::{fault_place, lines_for};
 use tl_record::{PolyKey, Sink};
 use tl_record_lines::{RecordLines, subjects_of};
@@ -32,7 +33,7 @@ pub fn print_features<S: Sink>(
     printer: &mut Printer,
     out: &mut S,
 )
-    ensures { Prints S.contents S.failure_count out.old out.new printer.old printer.new
+    ensures { Prints S.contents S.failure_count (out.old, printer.old) (out.new, printer.new)
         (features_below 0 (fault_feature (map string_bytes names.now) counts.now (chains_of (option_copied drawn.entry))
         (held lines.now) faults.now) (length faults.now)) }
 {
@@ -52,7 +53,7 @@ fn print_fault<S: Sink>(
     printer: &mut Printer,
     out: &mut S,
 )
-    ensures { Prints S.contents S.failure_count out.old out.new printer.old printer.new
+    ensures { Prints S.contents S.failure_count (out.old, printer.old) (out.new, printer.new)
         (fault_text (map string_bytes names.now) counts.now (chains_of (option_copied drawn.entry)) (held lines.now) fault.now) }
 {
     let at = fault_place(drawn, lines, fault);
@@ -70,7 +71,7 @@ fn print_fault<S: Sink>(
 
 // Prints the TLIDs, the keys and the LAND that a fault names.
 fn print_names<S: Sink>(drawn: Option<&Map>, fault: &MapFault, printer: &mut Printer, out: &mut S)
-    ensures { Prints S.contents S.failure_count out.old out.new printer.old printer.new
+    ensures { Prints S.contents S.failure_count (out.old, printer.old) (out.new, printer.new)
         (names_text (chains_of (option_copied drawn.entry)) fault.now) }
 {
     printer.add(b",\"tlids\":[", out);
@@ -84,7 +85,7 @@ fn print_names<S: Sink>(drawn: Option<&Map>, fault: &MapFault, printer: &mut Pri
 
 // Prints a number, where there is one.
 fn print_number<S: Sink>(number: Option<u64>, printer: &mut Printer, out: &mut S)
-    ensures { Prints S.contents S.failure_count out.old out.new printer.old printer.new (separated decimal (option_to_list number)) }
+    ensures { Prints S.contents S.failure_count (out.old, printer.old) (out.new, printer.new) (separated decimal (option_to_list number)) }
 {
     if let Some(number) = number {
         printer.number(number, out);
@@ -93,7 +94,7 @@ fn print_number<S: Sink>(number: Option<u64>, printer: &mut Printer, out: &mut S
 
 // Prints one number or two, or none.
 fn print_numbers<S: Sink>(numbers: (Option<u64>, Option<u64>), printer: &mut Printer, out: &mut S)
-    ensures { Prints S.contents S.failure_count out.old out.new printer.old printer.new (separated decimal (listed numbers)) }
+    ensures { Prints S.contents S.failure_count (out.old, printer.old) (out.new, printer.new) (separated decimal (listed numbers)) }
 {
     match numbers {
         (Some(number), Some(other)) => {
@@ -108,7 +109,7 @@ fn print_numbers<S: Sink>(numbers: (Option<u64>, Option<u64>), printer: &mut Pri
 
 // Prints a key, where there is one.
 fn print_some_key<S: Sink>(key: Option<PolyKey>, printer: &mut Printer, out: &mut S)
-    ensures { Prints S.contents S.failure_count out.old out.new printer.old printer.new (separated key_string (option_to_list key)) }
+    ensures { Prints S.contents S.failure_count (out.old, printer.old) (out.new, printer.new) (separated key_string (option_to_list key)) }
 {
     if let Some(key) = key {
         print_key(key, printer, out);
@@ -117,7 +118,7 @@ fn print_some_key<S: Sink>(key: Option<PolyKey>, printer: &mut Printer, out: &mu
 
 // Prints one key or two, or none.
 fn print_keys<S: Sink>(keys: (Option<PolyKey>, Option<PolyKey>), printer: &mut Printer, out: &mut S)
-    ensures { Prints S.contents S.failure_count out.old out.new printer.old printer.new (separated key_string (listed keys)) }
+    ensures { Prints S.contents S.failure_count (out.old, printer.old) (out.new, printer.new) (separated key_string (listed keys)) }
 {
     match keys {
         (Some(key), Some(other)) => {
@@ -140,7 +141,7 @@ fn print_spoken<S: Sink>(
     printer: &mut Printer,
     out: &mut S,
 )
-    ensures { Prints S.contents S.failure_count out.old out.new printer.old printer.new (records_text
+    ensures { Prints S.contents S.failure_count (out.old, printer.old) (out.new, printer.new) (records_text
         (map string_bytes names.now) counts.now (spoken_lines (chains_of (option_copied drawn.entry)) (held lines.now) fault.now)) }
 {
     let (first, second) = subjects_of(drawn, fault);

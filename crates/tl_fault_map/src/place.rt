@@ -4,12 +4,12 @@ ghost use Rattle.std.specs.Prelude.{◌≡◌, true, Some};
 ghost use Rattle.std.specs.Fmt.{signed_decimal};
 ghost use Rattle.tl_faces.specs.FaultTexts.{rational_text};
 ghost use Rattle.tl_where.specs.Degrees.{degrees_text, is_in_reach};
-ghost use Rattle.tl_geojson.specs.Printing.{Prints};
+ghost use Rattle.tl_output.specs.Printing.{Prints};
 ghost use Rattle.tl_fault_map.specs.Places.{point_text, geometry_text, exact_text};
 
 use arrayvec::ArrayString;
-use tl_geojson::Printer;
 use tl_geom::Rational;
+use tl_output::Printer;
 use tl_record::Sink;
 use tl_where::{COORDINATE_ROOM, is_in_reach, push_degrees};
 
@@ -18,7 +18,7 @@ const PLACES: u32 = 12;
 
 /// Prints the point where a fault lies, or null where it has no place or one that can't be printed.
 pub fn print_geometry<S: Sink>(at: Option<Rational>, printer: &mut Printer, out: &mut S)
-    ensures { Prints S.contents S.failure_count out.old out.new printer.old printer.new (geometry_text at) }
+    ensures { Prints S.contents S.failure_count (out.old, printer.old) (out.new, printer.new) (geometry_text at) }
 {
     if let Some(at) = at {
         return print_place(at, printer, out);
@@ -28,7 +28,7 @@ pub fn print_geometry<S: Sink>(at: Option<Rational>, printer: &mut Printer, out:
 
 // Prints the point of a place that can be printed, or null.
 fn print_place<S: Sink>(at: Rational, printer: &mut Printer, out: &mut S)
-    ensures { Prints S.contents S.failure_count out.old out.new printer.old printer.new (geometry_text (Some at)) }
+    ensures { Prints S.contents S.failure_count (out.old, printer.old) (out.new, printer.new) (geometry_text (Some at)) }
 {
     if is_in_reach(&at) {
         print_point(at, printer, out);
@@ -40,7 +40,7 @@ fn print_place<S: Sink>(at: Rational, printer: &mut Printer, out: &mut S)
 // Prints a point: the longitude, then the latitude, in degrees.
 fn print_point<S: Sink>(at: Rational, printer: &mut Printer, out: &mut S)
     requires { is_in_reach at ≡ true }
-    ensures { Prints S.contents S.failure_count out.old out.new printer.old printer.new (point_text at) }
+    ensures { Prints S.contents S.failure_count (out.old, printer.old) (out.new, printer.new) (point_text at) }
 {
     printer.add(b"{\"type\":\"Point\",\"coordinates\":[", out);
     printer.add(longitude(at).as_str().as_bytes(), out);
@@ -71,7 +71,7 @@ fn latitude(at: Rational) -> ArrayString<COORDINATE_ROOM>
 
 /// Prints where a fault lies exactly, in millionths of a degree, or null where it has no place.
 pub fn print_exact<S: Sink>(at: Option<Rational>, printer: &mut Printer, out: &mut S)
-    ensures { Prints S.contents S.failure_count out.old out.new printer.old printer.new (exact_text at) }
+    ensures { Prints S.contents S.failure_count (out.old, printer.old) (out.new, printer.new) (exact_text at) }
 {
     match at {
         Some(at) => {
@@ -85,7 +85,7 @@ pub fn print_exact<S: Sink>(at: Option<Rational>, printer: &mut Printer, out: &m
 
 // Prints two numerators and their denominator.
 fn print_rational<S: Sink>(at: Rational, printer: &mut Printer, out: &mut S)
-    ensures { Prints S.contents S.failure_count out.old out.new printer.old printer.new (rational_text at) }
+    ensures { Prints S.contents S.failure_count (out.old, printer.old) (out.new, printer.new) (rational_text at) }
 {
     print_signed(at.x, printer, out);
     printer.add(b" ", out);
@@ -96,7 +96,7 @@ fn print_rational<S: Sink>(at: Rational, printer: &mut Printer, out: &mut S)
 
 // Prints a number.
 fn print_signed<S: Sink>(number: i128, printer: &mut Printer, out: &mut S)
-    ensures { Prints S.contents S.failure_count out.old out.new printer.old printer.new (signed_decimal number) }
+    ensures { Prints S.contents S.failure_count (out.old, printer.old) (out.new, printer.new) (signed_decimal number) }
 {
     printer.number(number, out);
 }

@@ -3,11 +3,12 @@
 ghost use Rattle.std.specs.Prelude.{◌≡◌, ◌++◌, map, string_bytes, codes};
 ghost use Rattle.std.specs.List.{flat_map};
 ghost use Rattle.tl_where.specs.LinePlaces.{place_pair};
-ghost use Rattle.tl_geojson.specs.Printing.{Prints};
+ghost use Rattle.tl_output.specs.Printing.{Prints};
 ghost use Rattle.tl_geojson.specs.Features.{separated};
 ghost use Rattle.tl_fault_map.specs.Records.{type_text, unknown_text, known_text, line_text, record_text, records_text};
 
-use tl_geojson::{Printer, print_string};
+use tl_geojson::print_string;
+use tl_output::Printer;
 use tl_record::{Record, Sink};
 use tl_record_lines::RecordLine;
 use tl_where::{TextLine, place_of};
@@ -21,7 +22,7 @@ pub fn print_records<S: Sink>(
     printer: &mut Printer,
     out: &mut S,
 )
-    ensures { Prints S.contents S.failure_count out.old out.new printer.old printer.new
+    ensures { Prints S.contents S.failure_count (out.old, printer.old) (out.new, printer.new)
         (records_text (map string_bytes names.now) counts.now (first.now ++ second.now)) }
 {
     printer.add(b",\"records\":[", out);
@@ -38,7 +39,7 @@ fn print_both<S: Sink>(
     printer: &mut Printer,
     out: &mut S,
 )
-    ensures { Prints S.contents S.failure_count out.old out.new printer.old printer.new
+    ensures { Prints S.contents S.failure_count (out.old, printer.old) (out.new, printer.new)
         (separated (record_text (map string_bytes names.now) counts.now) (first.now ++ second.now)) }
 {
     if first.is_empty() {
@@ -57,7 +58,7 @@ fn print_some<S: Sink>(
     printer: &mut Printer,
     out: &mut S,
 )
-    ensures { Prints S.contents S.failure_count out.old out.new printer.old printer.new
+    ensures { Prints S.contents S.failure_count (out.old, printer.old) (out.new, printer.new)
         (separated (record_text (map string_bytes names.now) counts.now) lines.now) }
 {
     if !lines.is_empty() {
@@ -74,7 +75,7 @@ fn print_more<S: Sink>(
     printer: &mut Printer,
     out: &mut S,
 )
-    ensures { Prints S.contents S.failure_count out.old out.new printer.old printer.new
+    ensures { Prints S.contents S.failure_count (out.old, printer.old) (out.new, printer.new)
         (flat_map (λ line. codes "," ++ record_text (map string_bytes names.now) counts.now line) lines.now) }
 {
     for line in lines {
@@ -91,7 +92,7 @@ fn print_record<S: Sink>(
     printer: &mut Printer,
     out: &mut S,
 )
-    ensures { Prints S.contents S.failure_count out.old out.new printer.old printer.new
+    ensures { Prints S.contents S.failure_count (out.old, printer.old) (out.new, printer.new)
         (record_text (map string_bytes names.now) counts.now line.now) }
 {
     printer.add(b"{\"file\":", out);
@@ -109,7 +110,7 @@ fn print_line<S: Sink>(
     printer: &mut Printer,
     out: &mut S,
 )
-    ensures { Prints S.contents S.failure_count out.old out.new printer.old printer.new
+    ensures { Prints S.contents S.failure_count (out.old, printer.old) (out.new, printer.new)
         (line_text (map string_bytes names.now) counts.now number) }
 {
     match place_of(counts, number) {
@@ -126,7 +127,7 @@ fn print_known<S: Sink>(
     printer: &mut Printer,
     out: &mut S,
 )
-    ensures { Prints S.contents S.failure_count out.old out.new printer.old printer.new
+    ensures { Prints S.contents S.failure_count (out.old, printer.old) (out.new, printer.new)
         (known_text (map string_bytes names.now) number (place_pair place)) }
 {
     if place.text < names.len() {
@@ -140,7 +141,7 @@ fn print_known<S: Sink>(
 
 // Prints a line's number in all files.
 fn print_unknown<S: Sink>(number: u64, printer: &mut Printer, out: &mut S)
-    ensures { Prints S.contents S.failure_count out.old out.new printer.old printer.new (unknown_text number) }
+    ensures { Prints S.contents S.failure_count (out.old, printer.old) (out.new, printer.new) (unknown_text number) }
 {
     printer.add(b"null,\"line\":", out);
     printer.number(number, out);

@@ -2,11 +2,12 @@
 
 ghost use Rattle.std.specs.Prelude.{◌≡◌, ℕ, List, codes, drop, length};
 ghost use Rattle.tl_output.specs.Writing.{line_of};
-ghost use Rattle.tl_geojson.specs.Printing.{Prints};
+ghost use Rattle.tl_output.specs.Printing.{Prints};
 ghost use Rattle.tl_fault_map.specs.Words.{first_word, behind_word};
 ghost use Rattle.tl_fault_map.specs.Texts.{words_text};
 
-use tl_geojson::{Printer, print_string};
+use tl_geojson::print_string;
+use tl_output::Printer;
 use tl_record::Sink;
 
 // How many bytes the first two words of a fault's line take, with the blank behind each: `map fault `.
@@ -24,7 +25,7 @@ pub fn rest_of(line: &[u8]) -> &[u8]
 
 /// Prints the code, the name and the text of a fault.
 pub fn print_words<S: Sink>(told: &[u8], printer: &mut Printer, out: &mut S)
-    ensures { Prints S.contents S.failure_count out.old out.new printer.old printer.new (words_text told.now) }
+    ensures { Prints S.contents S.failure_count (out.old, printer.old) (out.new, printer.new) (words_text told.now) }
 {
     let (code, behind) = split_word(told);
     let (name, _) = split_word(behind);

@@ -7,7 +7,7 @@ use Rattle.tl_output.specs.declared.stop.Stop.{Stop}
 use Rattle.tl_output.specs.declared.stop.Stop.TheVariants.{Record, Memory, Device, Budget}
 use Rattle.tl_output.specs.Stops.{StopsFor}
 use Rattle.tl_files.specs.Files.{Under, KeepsBut, KeepsEach, StandsUnder, MakesFile}
-use Rattle.tl_files.specs.Log.{Log, Fails, LogsFailure}
+use Rattle.tl_files.specs.Log.{Log, Fails, LogsFailure, together, with_opened}
 use Rattle.tl_files.specs.World.{World, Does, Failed, Keeps, Unmade, MayStop, LogsReading}
 
 -- ---- what is kept
@@ -51,7 +51,7 @@ may_stop_for stops other Budget wider so = wider Budget so
 
 -- ---- the log
 
-module _ (l m : Log) (names : List (List ℕ)) (read : m ≡ record l { opened = l.opened ++ names }) where
+module _ (l m : Log) (names : List (List (List ℕ))) (read : m ≡ record l { opened = l.opened ++ names }) where
   rest_of : (q : Log) (n count : ℕ) → q ≡ record m { opened = m.opened ++ take n []; failures = m.failures + count } → q ≡ record l { opened = l.opened ++ take (length names) names; failures = l.failures + count }
   rest_of q n count is =
       subst (λ from. q ≡ record from { opened = from.opened ++ take n []; failures = from.failures + count }) read is
@@ -70,12 +70,12 @@ module _ (l m : Log) (names : List (List ℕ)) (read : m ≡ record l { opened =
       subst (λ from. q ≡ record from { opened = from.opened ++ [] }) read is
       ∙ ap (λ xs. record l { opened = xs }) (append-nil (l.opened ++ names))
 
-  log_then : {T : Type 0} (q : Log) (r : Result T Stop) → LogsReading m q [] r → LogsReading l q names r
-  log_then q (Ok done) is = whole_of q is
-  log_then q (Err (Record line cause)) is = (length names, some_of q is.0 is.1)
-  log_then q (Err Memory) is = (length names, some_of q is.0 is.1)
-  log_then q (Err Device) is = (length names, is.1, rest_of q is.0 is.1 is.2)
-  log_then q (Err Budget) is = (length names, some_of q is.0 is.1)
+log_then : {T : Type 0} (l m : Log) (names : List (List ℕ)) → m ≡ with_opened l names → (q : Log) (r : Result T Stop) → LogsReading m q [] r → LogsReading l q names r
+log_then l m names read q (Ok done) is = whole_of l m (together names) read q is
+log_then l m names read q (Err (Record line cause)) is = (length (together names), some_of l m (together names) read q is.0 is.1)
+log_then l m names read q (Err Memory) is = (length (together names), some_of l m (together names) read q is.0 is.1)
+log_then l m names read q (Err Device) is = (length (together names), is.1, rest_of l m (together names) read q is.0 is.1 is.2)
+log_then l m names read q (Err Budget) is = (length (together names), some_of l m (together names) read q is.0 is.1)
 
 failed_then : (u v after : Under) (l m q : Log) (k : Bool) (names : List (List ℕ)) → (k ≡ true → m.failures ≡ l.failures)
     → Failed (record { before = v; after = after; log = m; logged = q; knows = k }) [] → Failed (record { before = u; after = after; log = l; logged = q; knows = k }) names
@@ -132,7 +132,7 @@ module _ {A T : Type 0} (w : World) (names : List (List ℕ)) (P : A → Type 0)
     device = λ e. absurd (cc);
     keeps = all_kept w made first.keeps;
     unmade = none_made w made first.keeps;
-    logged = λ known. (length names, subst (λ xs. w.logged ≡ record w.log { opened = w.log.opened ++ xs }) (sym (take-length names)) (first.logged known));
+    logged = λ known. (length (together names), subst (λ xs. w.logged ≡ record w.log { opened = w.log.opened ++ xs }) (sym (take-length (together names))) (first.logged known));
   })
 
   -- nothing is answered of them
@@ -192,3 +192,16 @@ does_fail {A} {T} w names made P S stop first R (Err other) is = subst (λ s. Do
     fail_with Memory d = record { answered = tt; stopped = tt; device = λ e. absurd (cc); keeps = d.keeps; unmade = d.unmade; logged = d.logged }
     fail_with Device d = record { answered = tt; stopped = tt; device = λ e. d.device refl; keeps = d.keeps; unmade = d.unmade; logged = d.logged }
     fail_with Budget d = record { answered = tt; stopped = d.stopped; device = λ e. absurd (cc); keeps = d.keeps; unmade = d.unmade; logged = d.logged }
+
+-- the same, said less exactly
+module _ {T : Type 0} (w : World) (names : List (List ℕ)) (made : Option (List ℕ)) (P Q : T → Type 0) (S other : Stop → Type 0) (so : (t : T) → P t → Q t) (wider : (s : Stop) → S s → other s) where
+  pub does_so : (r : Result T Stop) → Does w names made P S r → Does w names made Q other r
+  does_so (Ok t) does = record { answered = so t does.answered; stopped = tt; device = λ e. absurd (cc); keeps = does.keeps; unmade = tt; logged = does.logged }
+  does_so (Err stop) does = record {
+    answered = tt;
+    stopped = may_stop_for S other stop wider does.stopped;
+    device = λ e. elim (does.device e) [ inl failed ↦ inl failed | inr why ↦ inr (wider Device why) ];
+    keeps = does.keeps;
+    unmade = does.unmade;
+    logged = does.logged;
+  }

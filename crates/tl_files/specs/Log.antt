@@ -3,26 +3,37 @@ use Rattle.std.specs.Prelude.{◌≡◌, ◌⊎◌, ◌<◌, ℕ, ◌+◌, ◌-�
 use Rattle.tl_output.specs.declared.stop.Stop.{Stop}
 use Rattle.tl_output.specs.declared.stop.Stop.TheVariants.{Device}
 
--- the names of the files that were opened, in their order; how many new files are neither kept nor taken away; how many reads and
--- writes failed of files that are done with; and the file that is read last, where it is to be shown how far reading is
+-- the names of the files that were opened, in their order, in one list those that were opened together; how many new files are neither
+-- kept nor taken away; how many reads and writes failed of files that are done with; and the file that is read last, where it is to be
+-- shown how far reading is
 pub record Log : Type 0 where
-  pub opened : List (List ℕ)
+  pub opened : List (List (List ℕ))
   pub drafts : ℕ
   pub failures : ℕ
   pub watched : Option (List ℕ)
 
--- a file of the name was opened
-abbrev pub with_opened : Log → List ℕ → Log
-with_opened log name = record log { opened = log.opened ++ name ∷ [] }
+-- these files, opened together, if there are any
+abbrev pub together : List (List ℕ) → List (List (List ℕ))
+together [] = []
+together (name ∷ names) = (name ∷ names) ∷ []
 
--- it was, or none was
-abbrev pub after_open : {T : Type 0} → Log → List ℕ → Result T Stop → Log
-after_open log name (Ok file) = with_opened log name
-after_open log name (Err stop) = log
+-- files of the names were opened together
+abbrev pub with_opened : Log → List (List ℕ) → Log
+with_opened log names = record log { opened = log.opened ++ together names }
 
--- a file was closed of which so many reads had failed
+-- they were, or not all can be opened, and then none is
+abbrev pub after_open : {T : Type 0} → Log → List (List ℕ) → Result T Stop → Log
+after_open log names (Ok files) = with_opened log names
+after_open log names (Err stop) = log
+
+-- files were closed of which so many reads had failed
 abbrev pub with_closed : Log → ℕ → Log
 with_closed log failures = record log { failures = log.failures + failures }
+
+-- files were opened once more, read and closed: reads of them failed where a device is told, and nowhere else
+abbrev pub LogsAgain : {T : Type 0} → Log → Log → Result T Stop → Type 0
+LogsAgain before after (Err Device) = (count : ℕ) × (after ≡ with_closed before count)
+LogsAgain before after other = after ≡ before
 
 -- a new file was begun, or none was
 abbrev pub after_draft : {T : Type 0} → Log → Result T Stop → Log

@@ -4,7 +4,7 @@ use Rattle.tl_output.specs.declared.stop.Stop.{Stop}
 use Rattle.tl_output.specs.declared.stop.Stop.TheVariants.{Record, Memory, Device, Budget}
 use Rattle.tl_files.specs.Files.{Under, bytes_under, IsFree, KeepsBut, KeepsEach, StandsUnder}
 use Rattle.tl_files.specs.declared.beginning.FileKind.{FileKind}
-use Rattle.tl_files.specs.Log.{Log, Fails}
+use Rattle.tl_files.specs.Log.{Log, Fails, together, with_opened}
 
 -- what stands under each name before and after, what had been done and what has, and whether that is known
 pub record World : Type 0 where
@@ -26,13 +26,13 @@ SomeMissing under names = (name : List ℕ) × Contains names name × (bytes_und
 abbrev pub Failed : World → List (List ℕ) → Type 0
 Failed w names = SomeMissing w.before names ⊎ Fails w.knows w.log w.logged
 
--- files of these names were opened, each once and in their order; or some of them from the front, where there is no answer. No read
--- failed but where a device is told
+-- files of these names were opened, each once, in their order, and all before the first is read; or none, where there is no answer. No
+-- read failed but where a device is told
 abbrev pub LogsReading : {T : Type 0} → Log → Log → List (List ℕ) → Result T Stop → Type 0
-LogsReading before after names (Ok answer) = after ≡ record before { opened = before.opened ++ names }
+LogsReading before after names (Ok answer) = after ≡ with_opened before names
 LogsReading before after names (Err Device) =
-    (n : ℕ) × (m : ℕ) × (after ≡ record before { opened = before.opened ++ take n names; failures = before.failures + m })
-LogsReading before after names (Err other) = (n : ℕ) × (after ≡ record before { opened = before.opened ++ take n names })
+    (n : ℕ) × (count : ℕ) × (after ≡ record before { opened = before.opened ++ take n (together names); failures = before.failures + count })
+LogsReading before after names (Err other) = (n : ℕ) × (after ≡ record before { opened = before.opened ++ take n (together names) })
 
 -- why nothing is answered: memory was refused, a device failed, or as `stops` says, which may also say why a device failed
 abbrev pub MayStop : (stops : Stop → Type 0) → Stop → Type 0

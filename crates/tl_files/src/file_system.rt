@@ -2,8 +2,10 @@
 
 ghost use Rattle.std.specs.Prelude.{◌≡◌, ◌≢◌, ℕ, Bool, true, false, is_some, List, [], Option, None, Some};
 ghost use Rattle.std.specs.Prelude.{IfOk, IfErr, IfSome, IfNone, OnOk, OnErr, map, option_map, string_bytes};
+ghost use Rattle.std.specs.List.{sum_by};
 ghost use Rattle.tl_files.specs.Files.{Under, bytes_under, standing, beside, trouble_of, IsRoom, IsFree, KeepsBut, KeepsEach};
 ghost use Rattle.tl_files.specs.Log.{Log, after_open, with_closed, after_draft, with_settled};
+ghost use Rattle.tl_files.specs.World.{SomeMissing};
 ghost use Rattle.tl_files.specs.declared.beginning.FileKind.{FileKind};
 ghost use Rattle.tl_output.specs.Stops.{StopsFor};
 ghost use Rattle.tl_output.specs.Texts.{PrintsText};
@@ -69,13 +71,15 @@ pub trait FileSystem {
     // Whether it is known what is done, and what the bytes of new files are.
     ghost knows: { Bool };
 
-    /// Opens the file that stands under a name. A device fails only where the bytes of none are known.
-    fn open(&mut self, alloc: Global, name: &str) -> Result<Self::Reader, Stop>
-        ensures opened { IfOk result (λ file. Self.Reader.remaining file ≡ bytes_under (under self.old) name.now) }
-        ensures fresh { IfOk result (λ file. Self.Reader.failure_count file ≡ 0) }
-        ensures failed { IfErr result (StopsFor (bytes_under (under self.old) name.now ≡ None)) }
+    /// Opens the files that stand under these names, each once and in their order, so that all are open before the first is read. A
+    /// device fails only where the bytes of one aren't known.
+    fn open(&mut self, alloc: Global, names: &[String]) -> Result<Vec<Self::Reader>, Stop>
+        ensures opened { IfOk result (λ files. map Self.Reader.remaining files.items
+            ≡ map (λ name. bytes_under (under self.old) (string_bytes name)) names.now) }
+        ensures fresh { IfOk result (λ files. sum_by Self.Reader.failure_count files.items ≡ 0) }
+        ensures failed { IfErr result (StopsFor (SomeMissing (under self.old) (map string_bytes names.now))) }
         ensures stays { under self.new ≡ under self.old }
-        ensures logged { knows ≡ true → log self.new ≡ after_open (log self.old) name.now result };
+        ensures logged { knows ≡ true → log self.new ≡ after_open (log self.old) (map string_bytes names.now) result };
 
     /// The file is done with.
     fn close(&mut self, file: Self::Reader)
@@ -87,6 +91,7 @@ pub trait FileSystem {
     fn open_again(&self, alloc: Global, name: &str) -> Result<Option<Self::Reader>, Stop>
         ensures opened { IfOk result (λ again. IfSome again (λ file.
             Self.Reader.remaining file ≡ bytes_under (under self.now) name.now)) }
+        ensures fresh { IfOk result (λ again. IfSome again (λ file. Self.Reader.failure_count file ≡ 0)) }
         ensures passing { IfOk result (λ again. IfNone again (under self.now name.now ≡ None)) }
         ensures failed { IfErr result (StopsFor (bytes_under (under self.now) name.now ≡ None)) };
 

@@ -10,6 +10,7 @@ use crate::beginning::FileKind;
 use crate::file_system::{FileSystem, Room};
 use crate::looking::room_of;
 use crate::new_file::NewFile;
+use crate::opening::{Opener, open_each};
 use crate::place::{Names, SystemPlace};
 use crate::progress::Progress;
 use crate::reading::{ShownReader, read_through};
@@ -77,6 +78,18 @@ impl<'a, R: Files<File = File> + Clock + Eprint> SystemFiles<'a, R> {
     }
 }
 
+impl<'a, R: Files<File = File> + Clock + Eprint> Opener for SystemFiles<'a, R> {
+    type Reader = Meter<ShownReader<'a, File, R>>;
+
+    ghost use Rattle.std.specs.Prelude.{None};
+
+    ghost held = { λ _ _. None };
+
+    fn open_one(&self, alloc: Global, name: &str) -> Result<Meter<ShownReader<'a, File, R>>, Stop> {
+        or_stop(self.opened(alloc, name))
+    }
+}
+
 impl<'a, R: Files<File = File> + Clock + Eprint> FileSystem for SystemFiles<'a, R> {
     type Reader = Meter<ShownReader<'a, File, R>>;
 
@@ -94,8 +107,12 @@ impl<'a, R: Files<File = File> + Clock + Eprint> FileSystem for SystemFiles<'a, 
 
     ghost alike = { λ draft. not_known (file_of draft) };
 
-    fn open(&mut self, alloc: Global, name: &str) -> Result<Meter<ShownReader<'a, File, R>>, Stop> {
-        or_stop(self.opened(alloc, name))
+    fn open(
+        &mut self,
+        alloc: Global,
+        names: &[String],
+    ) -> Result<Vec<Meter<ShownReader<'a, File, R>>>, Stop> {
+        open_each(self, alloc, names)
     }
 
     fn close(&mut self, _file: Meter<ShownReader<'a, File, R>>) {}
@@ -108,7 +125,7 @@ impl<'a, R: Files<File = File> + Clock + Eprint> FileSystem for SystemFiles<'a, 
         if !or_stop(fs::metadata(self.rt, name))?.is_file() {
             return Ok(None);
         }
-        Ok(Some(or_stop(self.opened(alloc, name))?))
+        Ok(Some(self.open_one(alloc, name)?))
     }
 
     fn trouble(&self, alloc: Global, name: &str) -> Result<Option<String>, AllocError> {

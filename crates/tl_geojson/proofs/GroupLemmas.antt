@@ -5,12 +5,12 @@ use Rattle.std.proofs.lemmas.Bool.Decides.{eqb_tells}
 use Rattle.std.proofs.lemmas.Bool.{cases_eq}
 use Rattle.std.proofs.lemmas.List.{length-drop}
 use Rattle.std.specs.Prelude.{codes, slice_index, if◌then◌else◌}
-use Rattle.tl_geojson.specs.Printed.{Printed}
-use Rattle.tl_geojson.specs.Printing.{Prints}
+use Rattle.tl_output.specs.Printed.{Printed}
+use Rattle.tl_output.specs.Printing.{Prints}
 use Rattle.std.specs.List.{flat_map}
 use Rattle.tl_geojson.specs.Groups.{is_group, places_from, GoesThrough}
 use Rattle.tl_geojson.specs.Features.{separated}
-use Rattle.tl_geojson.proofs.PrinterLemmas.{both, as_text, nothing}
+use Rattle.tl_output.proofs.PrinterLemmas.{both, as_text, nothing}
 
 plus_one : (n : ℕ) → n + 1 ≡ suc n
 plus_one n = omega arith
@@ -96,13 +96,13 @@ separated_none next g at [] beyond goes = refl
 separated_none next g at (n ∷ rest) beyond goes = absurd (omega (arith, beyond, goes.0, goes.1))
 
 module _ {S : Type 0} {C : S → Option (List ℕ)} {F : S → ℕ} (f : ℕ → List ℕ) (next : List ℕ) where
-  pub at_start : (a : S) (p : Printed) (at : ℕ) (ns : List ℕ) → GoesThrough next at ns → IsOnTheWay f next at ns (Prints C F a a p p)
+  pub at_start : (a : S) (p : Printed) (at : ℕ) (ns : List ℕ) → GoesThrough next at ns → IsOnTheWay f next at ns (Prints C F (a, p) (a, p))
   at_start a p at ns goes = record { rest = ns; goes = goes; text = []; is = nothing a p; whole = refl }
 
-  step_on : {a b c : S} {p q r : Printed} (at : ℕ) (ns rest text : List ℕ) → at < length next → GoesThrough next at rest → Prints C F a b p q text → text ++ flat_map f rest ≡ flat_map f ns
-      → Prints C F b c q r (f at) → IsOnTheWay f next (slice_index next at) ns (Prints C F a c p r)
+  step_on : {a b c : S × Printed} (at : ℕ) (ns rest text : List ℕ) → at < length next → GoesThrough next at rest → Prints C F a b text → text ++ flat_map f rest ≡ flat_map f ns
+      → Prints C F b c (f at) → IsOnTheWay f next (slice_index next at) ns (Prints C F a c)
   step_on at ns [] text within goes is whole more = absurd (omega (arith, within, goes))
-  step_on {a} {b} {c} {p} {q} {r} at ns (n ∷ rest) text within goes is whole more = record {
+  step_on {a} {b} {c} at ns (n ∷ rest) text within goes is whole more = record {
     rest = rest;
     goes = rw goes.0 goes.2;
     text = text ++ f n;
@@ -110,21 +110,21 @@ module _ {S : Type 0} {C : S → Option (List ℕ)} {F : S → ℕ} (f : ℕ →
     whole = append_assoc text (f n) (flat_map f rest) ∙ whole;
   }
 
-  pub one_on : {a b c : S} {p q r : Printed} (at : ℕ) (ns : List ℕ) → at < length next → IsOnTheWay f next at ns (Prints C F a b p q)
-      → Prints C F b c q r (f at) → IsOnTheWay f next (slice_index next at) ns (Prints C F a c p r)
+  pub one_on : {a b c : S × Printed} (at : ℕ) (ns : List ℕ) → at < length next → IsOnTheWay f next at ns (Prints C F a b)
+      → Prints C F b c (f at) → IsOnTheWay f next (slice_index next at) ns (Prints C F a c)
   one_on at ns within way more = step_on at ns way.rest way.text within way.goes way.is way.whole more
 
-  ended : {a b : S} {p q : Printed} (at : ℕ) (ns rest text : List ℕ) → length next ≤ at → GoesThrough next at rest → Prints C F a b p q text → text ++ flat_map f rest ≡ flat_map f ns
-      → Prints C F a b p q (flat_map f ns)
+  ended : {a b : S × Printed} (at : ℕ) (ns rest text : List ℕ) → length next ≤ at → GoesThrough next at rest → Prints C F a b text → text ++ flat_map f rest ≡ flat_map f ns
+      → Prints C F a b (flat_map f ns)
   ended at ns [] text beyond goes is whole = as_text is (sym (append-nil text) ∙ whole)
   ended at ns (n ∷ rest) text beyond goes is whole = absurd (omega (arith, beyond, goes.0, goes.1))
 
-  pub at_end : {a b : S} {p q : Printed} (at : ℕ) (ns : List ℕ) → length next ≤ at → IsOnTheWay f next at ns (Prints C F a b p q) → Prints C F a b p q (flat_map f ns)
+  pub at_end : {a b : S × Printed} (at : ℕ) (ns : List ℕ) → length next ≤ at → IsOnTheWay f next at ns (Prints C F a b) → Prints C F a b (flat_map f ns)
   at_end at ns beyond way = ended at ns way.rest way.text beyond way.goes way.is way.whole
 
 module _ {S : Type 0} {C : S → Option (List ℕ)} {F : S → ℕ} (next : List ℕ) where
   -- the first item, and the others behind it
-  pub separated_both : {a b c : S} {p q r : Printed} (g : ℕ → List ℕ) (at : ℕ) (ns : List ℕ) → at < length next → GoesThrough next at ns → Prints C F a b p q (g at)
-      → ((others : List ℕ) → GoesThrough next (slice_index next at) others → Prints C F b c q r (flat_map (λ n. codes "," ++ g n) others)) → Prints C F a c p r (separated g ns)
+  pub separated_both : {a b c : S × Printed} (g : ℕ → List ℕ) (at : ℕ) (ns : List ℕ) → at < length next → GoesThrough next at ns → Prints C F a b (g at)
+      → ((others : List ℕ) → GoesThrough next (slice_index next at) others → Prints C F b c (flat_map (λ n. codes "," ++ g n) others)) → Prints C F a c (separated g ns)
   separated_both g at [] within goes one more = absurd (omega (arith, within, goes))
   separated_both g at (n ∷ rest) within goes one more = both (as_text one (ap g goes.0)) (more rest (rw goes.0 goes.2))

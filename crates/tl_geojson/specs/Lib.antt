@@ -1,6 +1,4 @@
 -- What the contracts of GeoJSON cite.
-pub mod Printed
-pub mod Printing
 pub mod Strings
 pub mod Positions
 pub mod Groups

@@ -2,7 +2,7 @@
 
 ghost use Rattle.std.specs.Prelude.{◌≡◌, ◌++◌, IfOk, length, map as map_list};
 ghost use Rattle.tl_sides.specs.Walks.{AreWalks};
-ghost use Rattle.tl_geojson.specs.Printing.{Prints};
+ghost use Rattle.tl_output.specs.Printing.{Prints};
 ghost use Rattle.tl_output.specs.Texts.{PrintsText};
 ghost use Rattle.tl_geojson.specs.Features.{linked_lands, linked_polygons, collection_opening};
 ghost use Rattle.tl_geojson.specs.Groups.{AreGroups};
@@ -12,11 +12,10 @@ use crate::areas::doubled_areas;
 use crate::features::print_chains;
 use crate::groups::Groups;
 use crate::polygons::{list_links, print_polygons};
-use crate::printer::Printer;
 use crate::rings::{list_walk_polygons, print_boundaries};
 use std::alloc::{AllocError, Global};
 use tl_county::Map;
-use tl_output::Stop;
+use tl_output::{Printer, Stop};
 use tl_record::Sink;
 
 /// Prints a county: each chain with its TLID and its sides, and each polygon's point with its key and its landmarks.
@@ -75,7 +74,7 @@ impl Links {
 fn print_front<S: Sink>(map: &Map, links: &Links, printer: &mut Printer, out: &mut S)
     requires lands { links.now.lands.items ≡ linked_lands map.now.landmarks }
     requires polygons { AreGroups (length map.now.polygons) (linked_polygons map.now.landmarks) links.now.polygons }
-    ensures { Prints S.contents S.failure_count out.old out.new printer.old printer.new
+    ensures { Prints S.contents S.failure_count (out.old, printer.old) (out.new, printer.new)
         (collection_opening ++ chains_and_points map.now) }
 {
     printer.add(

@@ -1,18 +1,18 @@
 //! Features: chains, and polygons' points.
 
 ghost use Rattle.std.specs.Prelude.{◌<◌, length};
-ghost use Rattle.tl_geojson.specs.Printing.{Prints};
+ghost use Rattle.tl_output.specs.Printing.{Prints};
 ghost use Rattle.tl_geojson.specs.Features.{lead, features_below, side_text, chain_text, chain_feature};
 
 use crate::positions::print_positions;
-use crate::printer::Printer;
 use crate::strings::print_key;
 use tl_county::{Chain, Map, Side};
+use tl_output::Printer;
 use tl_record::Sink;
 
 /// Prints what stands before a feature, before which so many others stand.
 pub fn print_lead<S: Sink>(before: u64, printer: &mut Printer, out: &mut S)
-    ensures { Prints S.contents S.failure_count out.old out.new printer.old printer.new (lead before) }
+    ensures { Prints S.contents S.failure_count (out.old, printer.old) (out.new, printer.new) (lead before) }
 {
     if before == 0 {
         printer.add(b"\n", out);
@@ -23,7 +23,7 @@ pub fn print_lead<S: Sink>(before: u64, printer: &mut Printer, out: &mut S)
 
 /// Prints the chains of a map.
 pub fn print_chains<S: Sink>(map: &Map, printer: &mut Printer, out: &mut S)
-    ensures { Prints S.contents S.failure_count out.old out.new printer.old printer.new
+    ensures { Prints S.contents S.failure_count (out.old, printer.old) (out.new, printer.new)
         (features_below 0 (chain_feature map.now) (length map.now.chains)) }
 {
     for number in 0..map.chains() {
@@ -35,7 +35,7 @@ pub fn print_chains<S: Sink>(map: &Map, printer: &mut Printer, out: &mut S)
 /// Prints the chain of this number.
 pub fn print_chain<S: Sink>(map: &Map, number: u32, printer: &mut Printer, out: &mut S)
     requires { number < length map.now.chains }
-    ensures { Prints S.contents S.failure_count out.old out.new printer.old printer.new (chain_feature map.now number) }
+    ensures { Prints S.contents S.failure_count (out.old, printer.old) (out.new, printer.new) (chain_feature map.now number) }
 {
     print_line(map, &map.chain(number), printer, out);
 }
@@ -43,7 +43,7 @@ pub fn print_chain<S: Sink>(map: &Map, number: u32, printer: &mut Printer, out: 
 // Prints a chain: its line, its TLID and its sides.
 fn print_line<S: Sink>(map: &Map, chain: &Chain<'_>, printer: &mut Printer, out: &mut S)
     requires { 0 < length chain.now.points.now }
-    ensures { Prints S.contents S.failure_count out.old out.new printer.old printer.new
+    ensures { Prints S.contents S.failure_count (out.old, printer.old) (out.new, printer.new)
         (chain_text map.now.polygons chain.now.tlid chain.now.points.now chain.now.left chain.now.right) }
 {
     printer.add(
@@ -62,7 +62,7 @@ fn print_line<S: Sink>(map: &Map, chain: &Chain<'_>, printer: &mut Printer, out:
 
 // Prints what lies on a side.
 fn print_side<S: Sink>(map: &Map, side: Side, printer: &mut Printer, out: &mut S)
-    ensures { Prints S.contents S.failure_count out.old out.new printer.old printer.new (side_text map.now.polygons side) }
+    ensures { Prints S.contents S.failure_count (out.old, printer.old) (out.new, printer.new) (side_text map.now.polygons side) }
 {
     match side {
         Side::Polygon(number) if number < map.polygons() => {

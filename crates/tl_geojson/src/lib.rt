@@ -1,8 +1,8 @@
-//! Counties as GeoJSON, and a printer for such texts.
+//! Counties as GeoJSON.
 //!
-//! A [`Printer`] takes text on its way to a sink, and keeps its first failure. [`print_county`] and [`print_county_with`] write a
-//! county's chains and polygons as one FeatureCollection of RFC 7946, and say exactly which bytes are written. [`CountyText`] and
-//! [`CountyTextWith`] are these as texts that can be handed to whoever makes a file of them.
+//! [`print_county`] and [`print_county_with`] write a county's chains and polygons as one FeatureCollection of RFC 7946, and say
+//! exactly which bytes are written. [`CountyText`] and [`CountyTextWith`] are these as texts that can be handed to whoever makes
+//! a file of them.
 #![tactic(auto)]
 
 mod areas;
@@ -11,7 +11,6 @@ mod features;
 mod groups;
 mod polygons;
 mod positions;
-mod printer;
 mod rings;
 mod strings;
 mod text;
@@ -19,6 +18,5 @@ mod text;
 pub use county::{print_county, print_county_with};
 pub use features::{print_chain, print_lead};
 pub use positions::print_position;
-pub use printer::Printer;
 pub use strings::{print_key, print_string};
 pub use text::{CountyText, CountyTextWith};

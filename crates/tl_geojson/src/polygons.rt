@@ -2,18 +2,18 @@
 
 ghost use Rattle.std.specs.Prelude.{◌≡◌, ◌+◌, ◌<◌, ◌++◌, [], ◌∷◌, ℕ, List};
 ghost use Rattle.std.specs.Prelude.{IfOk, OnOk, Some, codes, decimal, length, slice_index, slice_index_or};
-ghost use Rattle.tl_geojson.specs.Printing.{Prints};
+ghost use Rattle.tl_output.specs.Printing.{Prints};
 ghost use Rattle.std.specs.List.{flat_map};
 ghost use Rattle.tl_geojson.specs.Groups.{GoesThrough, AreGroups};
-ghost use Rattle.tl_geojson.specs.Features.{features_below, separated, linked_lands, linked_polygons, lands_text, polygon_text, polygon_feature};
+ghost use Rattle.tl_geojson.specs.Features.{features_below, separated, linked_lands, linked_polygons, polygon_feature};
 
 use crate::features::print_lead;
 use crate::groups::Groups;
 use crate::positions::print_position;
-use crate::printer::Printer;
 use crate::strings::print_key;
 use std::alloc::{AllocError, Global};
 use tl_county::{Landmark, Map};
+use tl_output::Printer;
 use tl_record::Sink;
 
 /// Of each link of a landmark with a polygon the LAND, and the polygon.
@@ -56,7 +56,7 @@ pub fn print_polygons<S: Sink>(
     requires lands { lands.now ≡ linked_lands map.now.landmarks }
     requires links { AreGroups (length map.now.polygons) (linked_polygons map.now.landmarks) links.now }
     requires beside { length lands.now ≡ length links.now.next }
-    ensures { Prints S.contents S.failure_count out.old out.new printer.old printer.new
+    ensures { Prints S.contents S.failure_count (out.old, printer.old) (out.new, printer.new)
         (features_below (length map.now.chains) (polygon_feature map.now) (length map.now.polygons)) }
 {
     let before = u64::from(map.chains());
@@ -79,7 +79,7 @@ fn print_polygon<S: Sink>(
     requires lands { lands.now ≡ linked_lands map.now.landmarks }
     requires links { AreGroups (length map.now.polygons) (linked_polygons map.now.landmarks) links.now }
     requires beside { length lands.now ≡ length links.now.next }
-    ensures { Prints S.contents S.failure_count out.old out.new printer.old printer.new (polygon_feature map.now number) }
+    ensures { Prints S.contents S.failure_count (out.old, printer.old) (out.new, printer.new) (polygon_feature map.now number) }
 {
     let polygon = map.polygon(number);
     printer.add(
@@ -105,7 +105,7 @@ fn print_lands<S: Sink>(
     requires polygon { polygon < length links.now.first }
     requires beside { length lands.now ≡ length links.now.next }
     ensures { (ns : List ℕ) → GoesThrough links.now.next (slice_index links.now.first polygon) ns →
-        Prints S.contents S.failure_count out.old out.new printer.old printer.new
+        Prints S.contents S.failure_count (out.old, printer.old) (out.new, printer.new)
         (separated (λ n. decimal (slice_index_or lands.now n 0)) ns) }
 {
     let first = links.first(polygon);
@@ -125,7 +125,7 @@ fn print_more_lands<S: Sink>(
 )
     requires { length lands.now ≡ length links.now.next }
     ensures { (ns : List ℕ) → GoesThrough links.now.next start ns →
-        Prints S.contents S.failure_count out.old out.new printer.old printer.new
+        Prints S.contents S.failure_count (out.old, printer.old) (out.new, printer.new)
         (flat_map (λ n. codes "," ++ decimal (slice_index_or lands.now n 0)) ns) }
 {
     let mut at = start;

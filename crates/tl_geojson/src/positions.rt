@@ -2,18 +2,18 @@
 
 ghost use Rattle.std.specs.Prelude.{◌≡◌, ◌+◌, ◌<◌, drop, length, slice_get, Some};
 ghost use Rattle.tl_county.specs.Darts.{directed};
-ghost use Rattle.tl_geojson.specs.Printing.{Prints};
+ghost use Rattle.tl_output.specs.Printing.{Prints};
 ghost use Rattle.std.specs.List.{flat_map};
 ghost use Rattle.tl_geojson.specs.Positions.{sign_text, six_digits, degrees_text, position_text, comma_position, positions_text};
 
-use crate::printer::Printer;
 use tl_geom::Point;
+use tl_output::Printer;
 use tl_record::Sink;
 
 /// Prints positions with a comma between two.
 pub fn print_positions<S: Sink>(points: &[Point], printer: &mut Printer, out: &mut S)
     requires { 0 < length points.now }
-    ensures { Prints S.contents S.failure_count out.old out.new printer.old printer.new (positions_text points.now) }
+    ensures { Prints S.contents S.failure_count (out.old, printer.old) (out.new, printer.new) (positions_text points.now) }
 {
     print_position(points[0], printer, out);
     print_behind(points, true, printer, out);
@@ -21,7 +21,7 @@ pub fn print_positions<S: Sink>(points: &[Point], printer: &mut Printer, out: &m
 
 /// Prints the points of a chain behind its first one, or in the other direction behind its last one, each behind a comma.
 pub fn print_behind<S: Sink>(points: &[Point], is_along: bool, printer: &mut Printer, out: &mut S)
-    ensures { Prints S.contents S.failure_count out.old out.new printer.old printer.new
+    ensures { Prints S.contents S.failure_count (out.old, printer.old) (out.new, printer.new)
         (flat_map comma_position (drop 1 (directed is_along points.now))) }
 {
     for place in 1..points.len() {
@@ -44,7 +44,7 @@ pub fn point_at(points: &[Point], is_along: bool, place: usize) -> Point
 
 /// Prints a position.
 pub fn print_position<S: Sink>(point: Point, printer: &mut Printer, out: &mut S)
-    ensures { Prints S.contents S.failure_count out.old out.new printer.old printer.new (position_text point) }
+    ensures { Prints S.contents S.failure_count (out.old, printer.old) (out.new, printer.new) (position_text point) }
 {
     printer.add(b"[", out);
     print_degrees(point.x, printer, out);
@@ -55,7 +55,7 @@ pub fn print_position<S: Sink>(point: Point, printer: &mut Printer, out: &mut S)
 
 // Prints a number of millionths of a degree in degrees.
 fn print_degrees<S: Sink>(millionths: i32, printer: &mut Printer, out: &mut S)
-    ensures { Prints S.contents S.failure_count out.old out.new printer.old printer.new (degrees_text millionths) }
+    ensures { Prints S.contents S.failure_count (out.old, printer.old) (out.new, printer.new) (degrees_text millionths) }
 {
     let size = millionths.unsigned_abs();
     printer.add(sign(millionths < 0), out);

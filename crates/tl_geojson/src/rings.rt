@@ -5,19 +5,19 @@ ghost use Rattle.std.specs.List.{flat_map};
 ghost use Rattle.tl_county.specs.TheMap.{MapChain};
 ghost use Rattle.tl_sides.specs.Lists.{list_at};
 ghost use Rattle.tl_sides.specs.Walks.{AreWalks};
-ghost use Rattle.tl_geojson.specs.Printing.{Prints};
+ghost use Rattle.tl_output.specs.Printing.{Prints};
 ghost use Rattle.tl_geojson.specs.Groups.{GoesThrough, AreGroups};
 ghost use Rattle.tl_geojson.specs.Areas.{AreAreas, polygon_on, half_part, half_text};
 ghost use Rattle.tl_geojson.specs.Features.{separated};
-ghost use Rattle.tl_geojson.specs.Rings.{walk_polygon, behind_start, ring_text, rings_text, boundary_text, boundary_feature, boundaries};
+ghost use Rattle.tl_geojson.specs.Rings.{walk_polygon, behind_start, ring_text, boundary_feature, boundaries};
 
 use crate::features::print_lead;
 use crate::groups::Groups;
 use crate::positions::{print_behind, print_position, sign};
-use crate::printer::Printer;
 use crate::strings::print_key;
 use std::alloc::{AllocError, Global};
 use tl_county::{Map, Side};
+use tl_output::Printer;
 use tl_record::Sink;
 
 /// The polygon on the left of each walk.
@@ -58,7 +58,7 @@ pub fn print_boundaries<S: Sink>(
     requires walks { AreWalks map.now.chains (map_list (λ w. w.items) walks.now) }
     requires groups { AreGroups (length map.now.polygons) (map_list (walk_polygon map.now.chains) (map_list (λ w. w.items) walks.now)) groups.now }
     requires areas { AreAreas map.now areas.now }
-    ensures { Prints S.contents S.failure_count out.old out.new printer.old printer.new
+    ensures { Prints S.contents S.failure_count (out.old, printer.old) (out.new, printer.new)
         (boundaries map.now (map_list (λ w. w.items) walks.now)) }
 {
     let before = u64::from(map.chains()) + u64::from(map.polygons());
@@ -82,7 +82,7 @@ fn print_boundary<S: Sink>(
     requires walks { AreWalks map.now.chains (map_list (λ w. w.items) walks.now) }
     requires groups { AreGroups (length map.now.polygons) (map_list (walk_polygon map.now.chains) (map_list (λ w. w.items) walks.now)) groups.now }
     requires areas { AreAreas map.now areas.now }
-    ensures { Prints S.contents S.failure_count out.old out.new printer.old printer.new
+    ensures { Prints S.contents S.failure_count (out.old, printer.old) (out.new, printer.new)
         (boundary_feature map.now (map_list (λ w. w.items) walks.now) number) }
 {
     printer.add(
@@ -110,7 +110,7 @@ fn print_rings<S: Sink>(
     requires polygon { polygon < length groups.now.first }
     requires beside { length walks.now ≡ length groups.now.next }
     ensures { (ns : List ℕ) → GoesThrough groups.now.next (slice_index groups.now.first polygon) ns →
-        Prints S.contents S.failure_count out.old out.new printer.old printer.new
+        Prints S.contents S.failure_count (out.old, printer.old) (out.new, printer.new)
         (separated (λ n. ring_text map.now.chains (list_at (map_list (λ w. w.items) walks.now) n)) ns) }
 {
     let first = groups.first(polygon);
@@ -132,7 +132,7 @@ fn print_more_rings<S: Sink>(
     requires walks { AreWalks map.now.chains (map_list (λ w. w.items) walks.now) }
     requires beside { length walks.now ≡ length groups.now.next }
     ensures { (ns : List ℕ) → GoesThrough groups.now.next start ns →
-        Prints S.contents S.failure_count out.old out.new printer.old printer.new
+        Prints S.contents S.failure_count (out.old, printer.old) (out.new, printer.new)
         (flat_map (λ n. codes "," ++ ring_text map.now.chains (list_at (map_list (λ w. w.items) walks.now) n)) ns) }
 {
     let mut at = start;
@@ -153,7 +153,7 @@ fn print_ring<S: Sink>(
 )
     requires walks { AreWalks map.now.chains (map_list (λ w. w.items) walks.now) }
     requires number { number < length walks.now }
-    ensures { Prints S.contents S.failure_count out.old out.new printer.old printer.new
+    ensures { Prints S.contents S.failure_count (out.old, printer.old) (out.new, printer.new)
         (ring_text map.now.chains (list_at (map_list (λ w. w.items) walks.now) number)) }
 {
     print_walk(map, walk_at(walks, number), printer, out);
@@ -174,7 +174,7 @@ fn walk_at(walks: &[Vec<u32>], number: usize) -> &[u32]
 fn print_walk<S: Sink>(map: &Map, walk: &[u32], printer: &mut Printer, out: &mut S)
     requires some { 0 < length walk.now }
     requires darts { (k : ℕ) → k < length walk.now → slice_index walk.now k < 2 * length map.now.chains }
-    ensures { Prints S.contents S.failure_count out.old out.new printer.old printer.new (ring_text map.now.chains walk.now) }
+    ensures { Prints S.contents S.failure_count (out.old, printer.old) (out.new, printer.new) (ring_text map.now.chains walk.now) }
 {
     printer.add(b"[", out);
     print_position(map.dart_start(walk[0]), printer, out);
@@ -185,7 +185,7 @@ fn print_walk<S: Sink>(map: &Map, walk: &[u32], printer: &mut Printer, out: &mut
 // Prints the points of darts, of each those behind its start.
 fn print_darts<S: Sink>(map: &Map, walk: &[u32], printer: &mut Printer, out: &mut S)
     requires { (k : ℕ) → k < length walk.now → slice_index walk.now k < 2 * length map.now.chains }
-    ensures { Prints S.contents S.failure_count out.old out.new printer.old printer.new (flat_map (behind_start map.now.chains) walk.now) }
+    ensures { Prints S.contents S.failure_count (out.old, printer.old) (out.new, printer.new) (flat_map (behind_start map.now.chains) walk.now) }
 {
     for dart in walk {
         print_dart(map, *dart, printer, out);
@@ -194,14 +194,14 @@ fn print_darts<S: Sink>(map: &Map, walk: &[u32], printer: &mut Printer, out: &mu
 
 fn print_dart<S: Sink>(map: &Map, dart: u32, printer: &mut Printer, out: &mut S)
     requires { dart < 2 * length map.now.chains }
-    ensures { Prints S.contents S.failure_count out.old out.new printer.old printer.new (behind_start map.now.chains dart) }
+    ensures { Prints S.contents S.failure_count (out.old, printer.old) (out.new, printer.new) (behind_start map.now.chains dart) }
 {
     print_behind(map.chain(dart / 2).points, dart % 2 == 0, printer, out);
 }
 
 // Prints half of a number.
 fn print_half<S: Sink>(doubled: i128, printer: &mut Printer, out: &mut S)
-    ensures { Prints S.contents S.failure_count out.old out.new printer.old printer.new (half_text doubled) }
+    ensures { Prints S.contents S.failure_count (out.old, printer.old) (out.new, printer.new) (half_text doubled) }
 {
     let size = doubled.unsigned_abs();
     printer.add(sign(doubled < 0), out);

@@ -2,15 +2,15 @@
 
 ghost use Rattle.std.specs.Prelude.{◌≡◌, ◌+◌, ◌<◌, ◌≤◌, ◌++◌, encode_utf8};
 ghost use Rattle.arrayvec.specs.ArrayString.{array_string_len};
-ghost use Rattle.tl_key.specs.KeyText.{cenid_text, key_text};
-ghost use Rattle.tl_geojson.specs.Printing.{Prints};
+ghost use Rattle.tl_key.specs.KeyText.{key_text};
+ghost use Rattle.tl_output.specs.Printing.{Prints};
 ghost use Rattle.std.specs.List.{flat_map};
 ghost use Rattle.tl_geojson.specs.Strings.{hex_digit, control_text, escaped_byte, string_text, key_string};
 
-use crate::printer::Printer;
 use arrayvec::ArrayString;
 use itoa::Buffer;
 use tl_key::PolyKey;
+use tl_output::Printer;
 use tl_record::Sink;
 
 // Five characters of up to four bytes each, a slash, and twenty digits.
@@ -18,7 +18,7 @@ const LONGEST_KEY: usize = 41;
 
 /// Prints a text as a string.
 pub fn print_string<S: Sink>(text: &[u8], printer: &mut Printer, out: &mut S)
-    ensures { Prints S.contents S.failure_count out.old out.new printer.old printer.new (string_text text.now) }
+    ensures { Prints S.contents S.failure_count (out.old, printer.old) (out.new, printer.new) (string_text text.now) }
 {
     printer.add(b"\"", out);
     print_escaped(text, printer, out);
@@ -27,7 +27,7 @@ pub fn print_string<S: Sink>(text: &[u8], printer: &mut Printer, out: &mut S)
 
 // Prints the bytes of a string.
 fn print_escaped<S: Sink>(text: &[u8], printer: &mut Printer, out: &mut S)
-    ensures { Prints S.contents S.failure_count out.old out.new printer.old printer.new (flat_map escaped_byte text.now) }
+    ensures { Prints S.contents S.failure_count (out.old, printer.old) (out.new, printer.new) (flat_map escaped_byte text.now) }
 {
     for byte in text {
         print_byte(*byte, printer, out);
@@ -35,7 +35,7 @@ fn print_escaped<S: Sink>(text: &[u8], printer: &mut Printer, out: &mut S)
 }
 
 fn print_byte<S: Sink>(byte: u8, printer: &mut Printer, out: &mut S)
-    ensures { Prints S.contents S.failure_count out.old out.new printer.old printer.new (escaped_byte byte) }
+    ensures { Prints S.contents S.failure_count (out.old, printer.old) (out.new, printer.new) (escaped_byte byte) }
 {
     if byte == b'"' {
         printer.add(b"\\\"", out);
@@ -50,7 +50,7 @@ fn print_byte<S: Sink>(byte: u8, printer: &mut Printer, out: &mut S)
 
 // Prints a control character by its number.
 fn print_control<S: Sink>(byte: u8, printer: &mut Printer, out: &mut S)
-    ensures { Prints S.contents S.failure_count out.old out.new printer.old printer.new (control_text byte) }
+    ensures { Prints S.contents S.failure_count (out.old, printer.old) (out.new, printer.new) (control_text byte) }
 {
     printer.add(b"\\u00", out);
     printer.add(&[digit(byte / 16), digit(byte % 16)], out);
@@ -70,7 +70,7 @@ fn digit(number: u8) -> u8
 
 /// Prints the key of a polygon as a string.
 pub fn print_key<S: Sink>(key: PolyKey, printer: &mut Printer, out: &mut S)
-    ensures { Prints S.contents S.failure_count out.old out.new printer.old printer.new (key_string key) }
+    ensures { Prints S.contents S.failure_count (out.old, printer.old) (out.new, printer.new) (key_string key) }
 {
     let text = text_of_key(key);
     print_string(text.as_str().as_bytes(), printer, out);

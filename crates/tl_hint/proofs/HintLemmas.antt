@@ -1,13 +1,10 @@
 -- What is told behind a stop.
-use Rattle.std.proofs.Common.{◌≡◌, ℕ, zero, suc, ◌+◌, ◌<◌, ◌≤◌, List, [], ◌∷◌, ◌++◌, Option, None, Some, IfSome, Result, Ok, Err, IfOk, IfErr, OnOk, map, length, drop, get_or, slice_get, refl, sym, ap, subst, inl, inr, ◌^◌, Contains, ◌∙◌, arith, append_assoc, append-nil, drop-cons, add-one}
+use Rattle.std.proofs.Common.{◌≡◌, ℕ, zero, suc, ◌+◌, ◌<◌, ◌≤◌, List, [], ◌∷◌, ◌++◌, Option, None, Some, IfSome, Result, Ok, Err, IfOk, IfErr, OnOk, map, length, drop, get_or, slice_get, refl, sym, ap, inl, inr, Contains, ◌∙◌, arith, append_assoc, append-nil, drop-cons, add-one}
 use Rattle.std.proofs.lemmas.List.{drop_all, length-map, get_or-map}
 use Rattle.std.proofs.lemmas.Option.{slice_get-get_or, slice_get_past}
 use Rattle.std.specs.Io.KnownBytes.{Appends}
 use Rattle.tl_record.specs.declared.layout.Layout.{Layout}
 use Rattle.tl_record.specs.declared.stop.Cause.{Cause}
-use Rattle.tl_record.specs.Searching.{CountsSkip}
-use Rattle.tl_record.specs.declared.refusal.RefusalStop.{RefusalStop}
-use Rattle.tl_record.specs.declared.refusal.RefusalStop.TheVariants.{Device as ReadFailed, Endless}
 use Rattle.tl_where.specs.LinePlaces.{line_count, place_of}
 use Rattle.tl_where.specs.Finding.{Answers, IsCount}
 use Rattle.tl_files.specs.Files.{Under, bytes_under, trouble_of}
@@ -18,8 +15,8 @@ use Rattle.tl_output.specs.Writing.{TriesToPassOn, CountsFailure}
 use Rattle.tl_output.proofs.StopLemmas.{stops_for}
 use Rattle.tl_output.proofs.WritingLemmas.{writes_some}
 use Rattle.tl_hint.specs.Hints.{refusal_at, hint_at, hint_in}
-use Rattle.tl_hint.specs.Again.{SomeUnknown, CountFails}
-use Rattle.tl_hint.specs.Telling.{HaveTexts, TellsWords, TellsTrouble, TellsHint, TriesToWrite}
+use Rattle.tl_hint.specs.Telling.{HaveTexts, TellsWords, TellsTrouble, TellsHint}
+use Rattle.tl_output.specs.Streams.{Tries, stream}
 
 -- what holds of a text that was made holds where it is written
 words_told : (P Q : List ℕ → Type 0) → ((t : List ℕ) → P t → Q t) → (name : List ℕ) (words : Option (List ℕ)) (A B : Type 0) → (A → B) → TellsWords name words P A → TellsWords name words Q B
@@ -43,7 +40,7 @@ hint_told P Q f Budget layout under names told = f [] told
 
 -- what a write of a text tells of it
 pub tries : {S T E : Type 0} (contents : S → Option (List ℕ)) (failures : S → ℕ) (old new : S) (text : List ℕ) (r : Result T E) → OnOk r (Appends (contents old) (contents new) text)
-    → TriesToPassOn (contents old) (contents new) [] [] text r → CountsFailure (failures old) (failures new) r → TriesToWrite contents failures old new text
+    → TriesToPassOn (contents old) (contents new) [] [] text r → CountsFailure (failures old) (failures new) r → Tries (stream contents failures old new) text
 tries contents failures old new text (Ok done) bytes passes counts = inl (record { grown = bytes; no_failure = counts })
 tries contents failures old new text (Err error) bytes passes counts = inr (writes_some contents failures old new text passes counts)
 
@@ -85,42 +82,18 @@ named h [] i name within is = absurd (omega arith)
 named h (first ∷ names) zero name within is = ap h (sym is)
 named h (first ∷ names) (suc i) name within is = named h names i name (omega arith) is
 
--- ---- why files can't be read again
+-- ---- one of the names
 
--- it is given up where a text has no end
-has_no_end : {T : Type 0} (holds : List ℕ → T → Type 0) (known : Option (List ℕ)) → Answers known holds (Err Endless) → IfSome known (λ text. 2 ^ 64 ≤ length text + 1)
-has_no_end holds None given = tt
-has_no_end holds (Some text) given = given
-
-module _ {A : Type 0} (h : A → List ℕ) (under : Under) (names : List A) (i : ℕ) (name : A) (told : List ℕ) (within : i < length names) (is : name ≡ get_or names i name) (said : told ≡ h name) where
-  -- it is one of the names
-  pub among : Contains (map h names) (h name)
-  among = let long = length-map names h in (i, omega (arith, within, long), get_or-map h names i name (h name) within ∙ ap h (sym is))
-
-  -- the file of a name can't be opened again
-  pub unopened : (why : Stop) → StopsFor (bytes_under under told ≡ None) why → StopsFor (SomeUnknown under (map h names)) why
-  unopened why = stops_for _ _ why (λ none. (h name, among, ap (bytes_under under) (sym said) ∙ none))
-
-  -- its lines can't be read to their end
-  pub unread : {R T : Type 0} (reads : R → ℕ) (old new : R) (holds : List ℕ → T → Type 0) (known : Option (List ℕ)) (stop : RefusalStop) → known ≡ bytes_under under told → Answers known holds (Err stop)
-      → CountsSkip {T = T} (reads old) (reads new) (Err stop) → CountFails reads under (map h names)
-  unread reads old new holds known ReadFailed is_text given counts = inr (inl (old, new, counts))
-  unread reads old new holds known Endless is_text given counts =
-      inr (inr (h name, among, subst (λ (text : Option (List ℕ)). IfSome text (λ t. 2 ^ 64 ≤ length t + 1)) (is_text ∙ ap (bytes_under under) said) (has_no_end holds known given)))
+pub among : {A : Type 0} (h : A → List ℕ) (names : List A) (i : ℕ) (name : A) → i < length names → name ≡ get_or names i name → Contains (map h names) (h name)
+among h names i name within is = let long = length-map names h in (i, omega (arith, within, long), get_or-map h names i name (h name) within ∙ ap h (sym is))
 
 -- one name has no other
 only_at : {A : Type 0} (name other : A) (k : ℕ) → k < length (name ∷ []) → get_or (name ∷ []) k other ≡ other → name ≡ other
 only_at name other zero within is = is
 only_at name other (suc k) within is = absurd (omega arith)
 
-only : {A : Type 0} (name other : A) → Contains (name ∷ []) other → name ≡ other
+pub only : {A : Type 0} (name other : A) → Contains (name ∷ []) other → name ≡ other
 only name other there = only_at name other there.0 there.1 there.2
-
--- what fails of one of the names fails of them
-pub fails_among : {R : Type 0} (reads : R → ℕ) (under : Under) (names : List (List ℕ)) (name : List ℕ) → Contains names name → CountFails reads under (name ∷ []) → CountFails reads under names
-fails_among reads under names name here (inl unknown) = inl (unknown.0, subst (Contains names) (only name unknown.0 unknown.1) here, unknown.2)
-fails_among reads under names name here (inr (inl failed)) = inr (inl failed)
-fails_among reads under names name here (inr (inr endless)) = inr (inr (endless.0, subst (Contains names) (only name endless.0 endless.1) here, endless.2))
 
 -- ---- the place of a line
 

@@ -1,1 +1,2 @@
 pub mod HintLemmas
+pub mod AgainLemmas

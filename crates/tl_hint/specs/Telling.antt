@@ -1,11 +1,11 @@
 -- What is told behind a stop. `told` says of a text that it was written; nothing is claimed of names under which what stands
 -- isn't known.
-use Rattle.std.specs.Prelude.{◌≡◌, ◌⊎◌, ℕ, List, [], ◌∷◌, Option, None, Some, IfSome, map}
+use Rattle.std.specs.Prelude.{◌≡◌, ℕ, List, [], ◌∷◌, Option, None, Some, IfSome, map}
 use Rattle.tl_record.specs.declared.layout.Layout.{Layout}
 use Rattle.tl_record.specs.declared.stop.Cause.{Cause}
 use Rattle.tl_output.specs.declared.stop.Stop.{Stop}
 use Rattle.tl_output.specs.declared.stop.Stop.TheVariants.{Record, Memory, Device, Budget}
-use Rattle.tl_output.specs.Writing.{Writes, WritesSome, line_of}
+use Rattle.tl_output.specs.Writing.{line_of}
 use Rattle.tl_files.specs.Files.{Under, bytes_under, trouble_of}
 use Rattle.tl_hint.specs.Hints.{refusal_at, trouble_text}
 
@@ -34,7 +34,3 @@ TellsHint (Record line cause) layout under names told = TellsRefusal layout unde
 TellsHint Memory layout under names told = told []
 TellsHint Device layout under names told = TellsTrouble under names told
 TellsHint Budget layout under names told = told []
-
--- the sink took the text, or a write failed behind a beginning of it
-abbrev pub TriesToWrite : {S : Type 0} → (S → Option (List ℕ)) → (S → ℕ) → (old new : S) → List ℕ → Type 0
-TriesToWrite contents failures old new text = Writes contents failures old new text ⊎ WritesSome contents failures old new text

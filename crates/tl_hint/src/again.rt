@@ -1,10 +1,13 @@
 //! Files that are read again.
 
-ghost use Rattle.std.specs.Prelude.{◌≡◌, ℕ, List, Some, IfOk, IfErr, IfSome, IfNone, map, option_map, string_bytes};
+ghost use Rattle.std.specs.Prelude.{◌≡◌, ℕ, true, List, Some, IfOk, IfErr, IfSome, IfNone, map, option_map, string_bytes};
+ghost use Rattle.std.specs.List.{sum_by};
 ghost use Rattle.tl_files.specs.Files.{bytes_under};
+ghost use Rattle.tl_files.specs.Log.{LogsAgain};
+ghost use Rattle.tl_files.specs.World.{world, SomeMissing};
 ghost use Rattle.tl_where.specs.LinePlaces.{line_count};
 ghost use Rattle.tl_hint.specs.Telling.{HaveTexts};
-ghost use Rattle.tl_hint.specs.Again.{SomeUnknown, CountFails};
+ghost use Rattle.tl_hint.specs.Again.{FailsAgain};
 ghost use Rattle.tl_output.specs.Stops.{StopsFor};
 
 use std::alloc::Global;
@@ -23,7 +26,8 @@ pub fn open_again<F: FileSystem>(
         ≡ map (λ name. bytes_under (F.under files.now) (string_bytes name)) names.now)) }
     ensures passing { IfOk result (λ found. IfNone found ((texts : List (List ℕ)) →
         ¬ HaveTexts (F.under files.now) (map string_bytes names.now) texts)) }
-    ensures stops { IfErr result (StopsFor (SomeUnknown (F.under files.now) (map string_bytes names.now))) }
+    ensures fresh { IfOk result (λ found. IfSome found (λ readers. sum_by F.Reader.failure_count readers.items ≡ 0)) }
+    ensures stops { IfErr result (StopsFor (SomeMissing (F.under files.now) (map string_bytes names.now))) }
 {
     let mut readers = Vec::new(alloc);
     for name in names {
@@ -36,22 +40,26 @@ pub fn open_again<F: FileSystem>(
 }
 
 /// How many lines each of the files of these names has, where each can be read again. A device fails only where one of them
-/// may not be opened, a read failed, or one has no end within 2^64 - 1 bytes.
+/// may not be opened, a read failed, or one has no end within 2^64 - 1 bytes. Each file is closed behind its reading.
 pub fn count_all<F: FileSystem>(
-    files: &F,
+    files: &mut F,
     alloc: Global,
     names: &[String],
 ) -> Result<Option<Vec<u64>>, Stop>
-    ensures counted { IfOk result (λ found. (texts : List (List ℕ)) → HaveTexts (F.under files.now) (map string_bytes names.now) texts
+    ensures counted { IfOk result (λ found. (texts : List (List ℕ)) → HaveTexts (F.under files.old) (map string_bytes names.now) texts
         → option_map (λ counts. counts.items) found ≡ Some (map line_count texts)) }
-    ensures stops { IfErr result (StopsFor (CountFails F.Reader.failure_count (F.under files.now) (map string_bytes names.now))) }
+    ensures stops { IfErr result (StopsFor (FailsAgain (world F.under F.log F.knows files.old files.new) (map string_bytes names.now))) }
+    ensures stays { F.under files.new ≡ F.under files.old }
+    ensures logged { F.knows ≡ true → LogsAgain (F.log files.old) (F.log files.new) result }
 {
     let mut counts = Vec::new(alloc);
     for name in names {
         let Some(mut file) = files.open_again(alloc, name.as_str())? else {
             return Ok(None);
         };
-        match count_lines(&mut file) {
+        let counted = count_lines(&mut file);
+        files.close(file);
+        match counted {
             Ok(count) => counts.push(count)?,
             Err(_) => return Err(Stop::Device),
         }

@@ -1,13 +1,16 @@
 //! What is said behind a stop.
 
-ghost use Rattle.std.specs.Prelude.{◌≡◌, ℕ, List, [], ◌∷◌, Some, OnOk, OnErr, IfOk, IfErr, map, string_bytes};
+ghost use Rattle.std.specs.Prelude.{◌≡◌, ℕ, true, List, [], ◌∷◌, Some, OnOk, OnErr, IfOk, IfErr, map, string_bytes};
 ghost use Rattle.tl_record.specs.Layout.{layout_with};
 ghost use Rattle.tl_output.specs.Stops.{StopsFor};
 ghost use Rattle.tl_output.specs.Writing.{line_of};
 ghost use Rattle.tl_files.specs.Files.{bytes_under};
+ghost use Rattle.tl_files.specs.Log.{LogsAgain};
+ghost use Rattle.tl_files.specs.World.{world};
 ghost use Rattle.tl_where.specs.LinePlaces.{place_pair};
-ghost use Rattle.tl_hint.specs.Again.{CountFails};
-ghost use Rattle.tl_hint.specs.Telling.{HaveTexts, TellsHint, TellsRefusal, TellsTrouble, TriesToWrite};
+ghost use Rattle.tl_hint.specs.Again.{FailsAgain};
+ghost use Rattle.tl_hint.specs.Telling.{HaveTexts, TellsHint, TellsRefusal, TellsTrouble};
+ghost use Rattle.tl_output.specs.Streams.{Tries, stream};
 ghost use Rattle.tl_hint.specs.Hints.{hint_at, hint_in, trouble_text};
 
 use crate::again::count_all;
@@ -26,17 +29,19 @@ use tl_where::{Found, TextLine, find_line, place_of};
 /// Nothing is written where it can't be made: [`Stop::Memory`] says that memory was refused for it, [`Stop::Device`] that a
 /// file can't be read again. A write of it that fails isn't told.
 pub fn say_hint<F: FileSystem, E: Sink>(
-    files: &F,
+    files: &mut F,
     alloc: Global,
     names: &[String],
     options: Options,
     stop: &Stop,
     err: &mut E,
 ) -> Result<(), Stop>
-    ensures hint { OnOk result (TellsHint stop.now (layout_with options) (F.under files.now) (map string_bytes names.now)
-        (TriesToWrite E.contents E.failure_count err.old err.new)) }
+    ensures hint { OnOk result (TellsHint stop.now (layout_with options) (F.under files.old) (map string_bytes names.now)
+        (Tries (stream E.contents E.failure_count err.old err.new))) }
     ensures silent { OnErr result (err.new ≡ err.old) }
-    ensures stops { IfErr result (StopsFor (CountFails F.Reader.failure_count (F.under files.now) (map string_bytes names.now))) }
+    ensures stops { IfErr result (StopsFor (FailsAgain (world F.under F.log F.knows files.old files.new) (map string_bytes names.now))) }
+    ensures stays { F.under files.new ≡ F.under files.old }
+    ensures logged { F.knows ≡ true → LogsAgain (F.log files.old) (F.log files.new) result }
 {
     let text = hint_of(files, alloc, names, options, stop)?;
     let _ = write_all(text.as_slice(), err);
@@ -45,15 +50,17 @@ pub fn say_hint<F: FileSystem, E: Sink>(
 
 // What is said, which may be nothing.
 fn hint_of<F: FileSystem>(
-    files: &F,
+    files: &mut F,
     alloc: Global,
     names: &[String],
     options: Options,
     stop: &Stop,
 ) -> Result<Vec<u8>, Stop>
-    ensures hint { IfOk result (λ text. TellsHint stop.now (layout_with options) (F.under files.now) (map string_bytes names.now)
+    ensures hint { IfOk result (λ text. TellsHint stop.now (layout_with options) (F.under files.old) (map string_bytes names.now)
         (λ told. text.items ≡ told)) }
-    ensures stops { IfErr result (StopsFor (CountFails F.Reader.failure_count (F.under files.now) (map string_bytes names.now))) }
+    ensures stops { IfErr result (StopsFor (FailsAgain (world F.under F.log F.knows files.old files.new) (map string_bytes names.now))) }
+    ensures stays { F.under files.new ≡ F.under files.old }
+    ensures logged { F.knows ≡ true → LogsAgain (F.log files.old) (F.log files.new) result }
 {
     match *stop {
         Stop::Record { line, cause } => refusal_hint(files, alloc, names, options, line, cause),
@@ -92,16 +99,18 @@ fn trouble_line(alloc: Global, name: &str, words: &str) -> Result<Vec<u8>, Alloc
 
 // Where a refused line stands, if each file can be read again.
 fn refusal_hint<F: FileSystem>(
-    files: &F,
+    files: &mut F,
     alloc: Global,
     names: &[String],
     options: Options,
     line: u64,
     cause: Cause,
 ) -> Result<Vec<u8>, Stop>
-    ensures hint { IfOk result (λ text. TellsRefusal (layout_with options) (F.under files.now) (map string_bytes names.now)
+    ensures hint { IfOk result (λ text. TellsRefusal (layout_with options) (F.under files.old) (map string_bytes names.now)
         (line, cause) (λ told. text.items ≡ told)) }
-    ensures stops { IfErr result (StopsFor (CountFails F.Reader.failure_count (F.under files.now) (map string_bytes names.now))) }
+    ensures stops { IfErr result (StopsFor (FailsAgain (world F.under F.log F.knows files.old files.new) (map string_bytes names.now))) }
+    ensures stays { F.under files.new ≡ F.under files.old }
+    ensures logged { F.knows ≡ true → LogsAgain (F.log files.old) (F.log files.new) result }
 {
     let Some(counts) = count_all(files, alloc, names)? else {
         return Ok(Vec::new(alloc));
@@ -114,16 +123,18 @@ fn refusal_hint<F: FileSystem>(
 
 // The line of a place, where a line is refused.
 fn place_line<F: FileSystem>(
-    files: &F,
+    files: &mut F,
     alloc: Global,
     names: &[String],
     options: Options,
     place: TextLine,
     cause: Cause,
 ) -> Result<Vec<u8>, Stop>
-    ensures hint { IfOk result (λ text. (texts : List (List ℕ)) → HaveTexts (F.under files.now) (map string_bytes names.now) texts
+    ensures hint { IfOk result (λ text. (texts : List (List ℕ)) → HaveTexts (F.under files.old) (map string_bytes names.now) texts
         → text.items ≡ hint_at (layout_with options) (map string_bytes names.now) texts cause (place_pair place)) }
-    ensures stops { IfErr result (StopsFor (CountFails F.Reader.failure_count (F.under files.now) (map string_bytes names.now))) }
+    ensures stops { IfErr result (StopsFor (FailsAgain (world F.under F.log F.knows files.old files.new) (map string_bytes names.now))) }
+    ensures stays { F.under files.new ≡ F.under files.old }
+    ensures logged { F.knows ≡ true → LogsAgain (F.log files.old) (F.log files.new) result }
 {
     if place.text >= names.len() {
         return Ok(Vec::new(alloc));
@@ -134,23 +145,27 @@ fn place_line<F: FileSystem>(
 
 // The line of a file's line, which is refused.
 fn line_at<F: FileSystem>(
-    files: &F,
+    files: &mut F,
     alloc: Global,
     name: &String,
     options: Options,
     number: u64,
     cause: Cause,
 ) -> Result<Vec<u8>, Stop>
-    ensures hint { IfOk result (λ text. (held : List ℕ) → bytes_under (F.under files.now) (string_bytes name.now) ≡ Some held
+    ensures hint { IfOk result (λ text. (held : List ℕ) → bytes_under (F.under files.old) (string_bytes name.now) ≡ Some held
         → text.items ≡ hint_in (layout_with options) (string_bytes name.now) held cause number) }
-    ensures stops { IfErr result (StopsFor (CountFails F.Reader.failure_count (F.under files.now) (string_bytes name.now ∷ []))) }
+    ensures stops { IfErr result (StopsFor (FailsAgain (world F.under F.log F.knows files.old files.new) (string_bytes name.now ∷ []))) }
+    ensures stays { F.under files.new ≡ F.under files.old }
+    ensures logged { F.knows ≡ true → LogsAgain (F.log files.old) (F.log files.new) result }
 {
     let mut text = Vec::new(alloc);
     let Some(mut file) = files.open_again(alloc, name.as_str())? else {
         return Ok(text);
     };
     let mut buffer = LineBuffer::new();
-    match find_line(&mut buffer, &mut file, number) {
+    let found = find_line(&mut buffer, &mut file, number);
+    files.close(file);
+    match found {
         Ok(Found::Line { len, .. }) => {
             let line = &buffer.bytes()[..len];
             push_place(&mut text, name.as_str(), number, line, options, cause)?;

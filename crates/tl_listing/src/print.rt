@@ -1,8 +1,10 @@
 //! Listings on their way out.
 
-ghost use Rattle.std.specs.Prelude.{◌≡◌, ◌≤◌, ◌++◌, [], None, codes, length};
+ghost use Rattle.std.specs.Prelude.{◌≡◌, ◌≤◌, ◌++◌, None, IfErr, codes, length};
 ghost use Rattle.arrayvec.specs.ArrayString.{array_string_len};
-ghost use Rattle.tl_output.specs.Writing.{CountsFailure, TriesToPassOn};
+ghost use Rattle.tl_output.specs.declared.stop.Stop.TheVariants.{Device};
+ghost use Rattle.tl_output.specs.Printing.{Prints};
+ghost use Rattle.tl_output.specs.Texts.{PrintsText};
 ghost use Rattle.tl_verdict.specs.Messages.{map_fault_text};
 ghost use Rattle.tl_listing.specs.declared.listing.Listing.TheVariants.{Sound};
 ghost use Rattle.tl_listing.specs.Texts.{lines, told_refusal, printed, printed_text, left_text, count_line, listing_text};
@@ -11,55 +13,44 @@ use crate::faults::fault_line;
 use crate::line::{LINE_ROOM, push_number};
 use crate::listing::Listing;
 use arrayvec::ArrayString;
-use std::io;
-use tl_output::OutputBuffer;
+use tl_output::{Printer, Stop};
 use tl_record::{Refusal, Sink};
 use tl_text::refusal_line;
 use tl_verdict::{MapFault, Report};
 
-/// Writes the line of a sound county, or a line for each fault or refusal and how many there are; where a number is
-/// given, only so many of their lines, and how many those are. An error says that a write failed: the sink took some of
-/// this, from the front.
-pub fn print_listing<S: Sink>(listing: &Listing, most: Option<u64>, out: &mut S) -> io::Result<()>
-    ensures bytes { TriesToPassOn (S.contents out.old) (S.contents out.new) [] [] (listing_text most listing.now) result }
-    ensures failures { CountsFailure (S.failure_count out.old) (S.failure_count out.new) result }
+/// Prints the line of a sound county, or a line for each fault or refusal and how many there are; where a number is given, only
+/// so many of their lines, and how many those are. The error is that a write failed.
+pub fn print_listing<S: Sink>(listing: &Listing, most: Option<u64>, out: &mut S) -> Result<(), Stop>
+    ensures prints { PrintsText S.contents S.failure_count out.old out.new (listing_text most listing.now) result }
+    ensures stop { IfErr result (λ stop. stop ≡ Device) }
 {
-    let mut buffer = OutputBuffer::new();
-    match print_lines(listing, most, &mut buffer, out) {
-        Ok(()) => buffer.flush(out),
-        Err(error) => Err(error),
-    }
+    let mut printer = Printer::new();
+    print_lines(listing, most, &mut printer, out);
+    printer.finish(out)
 }
 
-// The same through a buffer. What it holds behind that is yet to be written.
-fn print_lines<S: Sink>(
-    listing: &Listing,
-    most: Option<u64>,
-    buffer: &mut OutputBuffer,
-    out: &mut S,
-) -> io::Result<()>
-    ensures bytes { TriesToPassOn (S.contents out.old) (S.contents out.new) buffer.old buffer.new
-        (listing_text most listing.now) result }
-    ensures failures { CountsFailure (S.failure_count out.old) (S.failure_count out.new) result }
+// Prints the same.
+fn print_lines<S: Sink>(listing: &Listing, most: Option<u64>, printer: &mut Printer, out: &mut S)
+    ensures { Prints S.contents S.failure_count (out.old, printer.old) (out.new, printer.new)
+        (listing_text most listing.now) }
 {
     match listing {
-        Listing::Sound(report) => print_report(report, buffer, out),
-        Listing::Refused(list) => print_refusals(list.as_slice(), most, buffer, out),
+        Listing::Sound(report) => print_report(report, printer, out),
+        Listing::Refused(list) => print_refusals(list.as_slice(), most, printer, out),
         Listing::Faults {
             faults,
             points_left,
-        } => print_faults(faults.as_slice(), *points_left, most, buffer, out),
+        } => print_faults(faults.as_slice(), *points_left, most, printer, out),
     }
 }
 
 // The line of a sound county.
-fn print_report<S: Sink>(report: &Report, buffer: &mut OutputBuffer, out: &mut S) -> io::Result<()>
-    ensures bytes { TriesToPassOn (S.contents out.old) (S.contents out.new) buffer.old buffer.new
-        (listing_text None (Sound report.now)) result }
-    ensures failures { CountsFailure (S.failure_count out.old) (S.failure_count out.new) result }
+fn print_report<S: Sink>(report: &Report, printer: &mut Printer, out: &mut S)
+    ensures { Prints S.contents S.failure_count (out.old, printer.old) (out.new, printer.new)
+        (listing_text None (Sound report.now)) }
 {
     let line = report_line(report);
-    buffer.add(line.as_str().as_bytes(), out)
+    printer.add(line.as_str().as_bytes(), out);
 }
 
 // The same, put together before it is added.
@@ -78,20 +69,12 @@ fn report_line(report: &Report) -> ArrayString<LINE_ROOM>
 }
 
 // The refused lines, or so many of them, and how many there are.
-fn print_refusals<S: Sink>(
-    list: &[Refusal],
-    most: Option<u64>,
-    buffer: &mut OutputBuffer,
-    out: &mut S,
-) -> io::Result<()>
-    ensures bytes { TriesToPassOn (S.contents out.old) (S.contents out.new) buffer.old buffer.new
-        (lines told_refusal (printed most list.now) ++ count_line (codes "refused=") most (length list.now)) result }
-    ensures failures { CountsFailure (S.failure_count out.old) (S.failure_count out.new) result }
+fn print_refusals<S: Sink>(list: &[Refusal], most: Option<u64>, printer: &mut Printer, out: &mut S)
+    ensures { Prints S.contents S.failure_count (out.old, printer.old) (out.new, printer.new)
+        (lines told_refusal (printed most list.now) ++ count_line (codes "refused=") most (length list.now)) }
 {
-    match print_refusal_lines(first_of(list, most), buffer, out) {
-        Ok(()) => print_end(false, "refused=", most, list.len(), buffer, out),
-        Err(error) => Err(error),
-    }
+    print_refusal_lines(first_of(list, most), printer, out);
+    print_end(false, "refused=", most, list.len(), printer, out);
 }
 
 // The faults, or so many of them, whether points weren't looked at, and how many there are.
@@ -99,18 +82,15 @@ fn print_faults<S: Sink>(
     list: &[MapFault],
     points_left: bool,
     most: Option<u64>,
-    buffer: &mut OutputBuffer,
+    printer: &mut Printer,
     out: &mut S,
-) -> io::Result<()>
-    ensures bytes { TriesToPassOn (S.contents out.old) (S.contents out.new) buffer.old buffer.new
+)
+    ensures { Prints S.contents S.failure_count (out.old, printer.old) (out.new, printer.new)
         (lines map_fault_text (printed most list.now)
-        ++ (left_text points_left ++ count_line (codes "faults=") most (length list.now))) result }
-    ensures failures { CountsFailure (S.failure_count out.old) (S.failure_count out.new) result }
+        ++ (left_text points_left ++ count_line (codes "faults=") most (length list.now))) }
 {
-    match print_fault_lines(first_of(list, most), buffer, out) {
-        Ok(()) => print_end(points_left, "faults=", most, list.len(), buffer, out),
-        Err(error) => Err(error),
-    }
+    print_fault_lines(first_of(list, most), printer, out);
+    print_end(points_left, "faults=", most, list.len(), printer, out);
 }
 
 /// What is printed of a list: all of it, or where a number is given, so many from the front.
@@ -124,37 +104,25 @@ pub fn first_of<T>(list: &[T], most: Option<u64>) -> &[T]
 }
 
 // A line for each refusal.
-fn print_refusal_lines<S: Sink>(
-    list: &[Refusal],
-    buffer: &mut OutputBuffer,
-    out: &mut S,
-) -> io::Result<()>
-    ensures bytes { TriesToPassOn (S.contents out.old) (S.contents out.new) buffer.old buffer.new
-        (lines told_refusal list.now) result }
-    ensures failures { CountsFailure (S.failure_count out.old) (S.failure_count out.new) result }
+fn print_refusal_lines<S: Sink>(list: &[Refusal], printer: &mut Printer, out: &mut S)
+    ensures { Prints S.contents S.failure_count (out.old, printer.old) (out.new, printer.new)
+        (lines told_refusal list.now) }
 {
     for refusal in list {
         let line = refusal_line(refusal.line, refusal.cause);
-        buffer.add(line.as_str().as_bytes(), out)?;
+        printer.add(line.as_str().as_bytes(), out);
     }
-    Ok(())
 }
 
 // A line for each fault.
-fn print_fault_lines<S: Sink>(
-    list: &[MapFault],
-    buffer: &mut OutputBuffer,
-    out: &mut S,
-) -> io::Result<()>
-    ensures bytes { TriesToPassOn (S.contents out.old) (S.contents out.new) buffer.old buffer.new
-        (lines map_fault_text list.now) result }
-    ensures failures { CountsFailure (S.failure_count out.old) (S.failure_count out.new) result }
+fn print_fault_lines<S: Sink>(list: &[MapFault], printer: &mut Printer, out: &mut S)
+    ensures { Prints S.contents S.failure_count (out.old, printer.old) (out.new, printer.new)
+        (lines map_fault_text list.now) }
 {
     for fault in list {
         let line = fault_line(fault);
-        buffer.add(line.as_str().as_bytes(), out)?;
+        printer.add(line.as_str().as_bytes(), out);
     }
-    Ok(())
 }
 
 // Whether points weren't looked at, and the line of how many there are.
@@ -163,16 +131,15 @@ fn print_end<S: Sink>(
     word: &str,
     most: Option<u64>,
     count: usize,
-    buffer: &mut OutputBuffer,
+    printer: &mut Printer,
     out: &mut S,
-) -> io::Result<()>
+)
     requires { length word.now ≤ 10 }
-    ensures bytes { TriesToPassOn (S.contents out.old) (S.contents out.new) buffer.old buffer.new
-        (left_text points_left ++ count_line word.now most count) result }
-    ensures failures { CountsFailure (S.failure_count out.old) (S.failure_count out.new) result }
+    ensures { Prints S.contents S.failure_count (out.old, printer.old) (out.new, printer.new)
+        (left_text points_left ++ count_line word.now most count) }
 {
     let text = text_of_end(points_left, word, most, count as u64);
-    buffer.add(text.as_str().as_bytes(), out)
+    printer.add(text.as_str().as_bytes(), out);
 }
 
 /// Whether points weren't looked at, and the line of how many there are, behind a word of at most ten bytes.

@@ -1,5 +1,5 @@
 -- What is answered of what was found.
-use Rattle.std.proofs.Common.{◌≡◌, inl, inr, ℕ, ◌+◌, Bool, List, [], ◌∷◌, ◌++◌, map, Some, None, Option, Result, Ok, Err, refl, sym, ap, subst, ◌∙◌, arith, append-nil}
+use Rattle.std.proofs.Common.{◌≡◌, ◌⊎◌, inl, inr, ℕ, ◌+◌, Bool, true, List, [], ◌∷◌, ◌++◌, map, Some, None, Option, Result, Ok, Err, refl, sym, ap, subst, ◌∙◌, arith, append-nil}
 use Rattle.std.specs.Prelude.{slice_get, Vec}
 use Rattle.std.specs.Global.{Global}
 use Rattle.std.specs.Option.{IfSome}
@@ -16,9 +16,10 @@ use Rattle.tl_record.specs.Searching.{pair_of}
 use Rattle.tl_record.proofs.RefusalLemmas.{first_refusal as first_of_judged}
 use Rattle.tl_county.specs.TheMap.{TheMap, MapChain}
 use Rattle.tl_files.specs.Files.{Under}
-use Rattle.tl_files.specs.Log.{Log}
-use Rattle.tl_files.specs.World.{World, Does, MayStop, Made}
-use Rattle.tl_files.proofs.WorldLemmas.{all_kept, none_made, unmade_from, may_stop, may_stop_for}
+use Rattle.tl_files.specs.Log.{Log, LogsAgain}
+use Rattle.tl_files.specs.World.{World, Does, Failed, MayStop, Made}
+use Rattle.tl_hint.specs.Again.{FailsAgain, SomeUnread}
+use Rattle.tl_files.proofs.WorldLemmas.{all_kept, none_made, unmade_from, may_stop, does_then}
 use Rattle.tl_plan.specs.declared.budget.Told.{Told}
 use Rattle.tl_plan.specs.declared.budget.Told.TheVariants.{One, All}
 use Rattle.tl_output.specs.declared.stop.Stop.{Stop}
@@ -36,83 +37,83 @@ use Rattle.tl_record_lines.specs.Keeping.{held}
 use Rattle.tl_placing.specs.declared.again.Spoken.{Spoken}
 use Rattle.tl_placing.specs.Again.{AreSpoken}
 use Rattle.tl_fault_map.specs.Texts.{faults_text}
+use Rattle.tl_answers.specs.Records.{StopsNever}
 use Rattle.tl_answers.specs.declared.said.Answer.{Answer}
 use Rattle.tl_lists.specs.declared.listed.Listed.{Listed}
-use Rattle.tl_lists.specs.Listed.{Asked, ListAnswers, IsSoundList, IsFaultList, StopsList, StopsAgain, listed_text, told_text, featured}
+use Rattle.tl_lists.specs.Listed.{Asked, ListAnswers, IsSoundList, IsFaultList, StopsList, StopsAgain, listed_text, told_text, featured, reads_again}
 use Rattle.tl_lists.specs.Keeping.{IsPrepared, first_stop, refused_list, faults_answer}
 
 -- ---- what is done with files
 
-module _ {T : Type 0} (w : World) (names : List (List ℕ)) (made : Option (List ℕ)) (P Q : T → Type 0) (S other : Stop → Type 0) (so : (t : T) → P t → Q t) (wider : (s : Stop) → S s → other s) where
-  -- the same, said less exactly
-  pub does_so : (r : Result T Stop) → Does w names made P S r → Does w names made Q other r
-  does_so (Ok t) does = record { answered = so t does.answered; stopped = tt; device = λ e. absurd (cc); keeps = does.keeps; unmade = tt; logged = does.logged }
-  does_so (Err stop) does = record {
-    answered = tt;
-    stopped = may_stop_for S other stop wider does.stopped;
-    device = λ e. elim (does.device e) [ inl failed ↦ inl failed | inr why ↦ inr (wider Device why) ];
-    keeps = does.keeps;
-    unmade = does.unmade;
-    logged = does.logged;
-  }
+module _ {T : Type 0} (w : World) (same : w.after ≡ w.before) (logs : w.knows ≡ true → w.logged ≡ w.log) (made : Option (List ℕ)) (P : T → Type 0) (S : Stop → Type 0) where
+  none_opened : w.log ≡ record w.log { opened = w.log.opened ++ [] }
+  none_opened = ap (λ xs. record w.log { opened = xs }) (sym (append-nil w.log.opened))
 
--- nothing was done so far
-abbrev pub still : Under → Log → Bool → World
-still u l k = record { before = u; after = u; log = l; logged = l; knows = k }
-
-module _ {T : Type 0} (u : Under) (l : Log) (k : Bool) (made : Option (List ℕ)) (P : T → Type 0) (S : Stop → Type 0) where
-  none_opened : l ≡ record l { opened = l.opened ++ [] }
-  none_opened = ap (λ xs. record l { opened = xs }) (sym (append-nil l.opened))
-
-  none_failed : l ≡ record l { opened = l.opened ++ []; failures = l.failures + 0 }
+  none_failed : w.log ≡ record w.log { opened = w.log.opened ++ []; failures = w.log.failures + 0 }
   none_failed =
-      let same : l.failures ≡ l.failures + 0 = omega arith in
-      none_opened ∙ ap (λ n. record l { opened = l.opened ++ []; failures = n }) same
+      let same : w.log.failures ≡ w.log.failures + 0 = omega arith in
+      none_opened ∙ ap (λ n. record w.log { opened = w.log.opened ++ []; failures = n }) same
 
   -- nothing is done with files
-  pub does_nothing : (t : T) → P t → Does (still u l k) [] made P S (Ok t)
-  does_nothing t so = record { answered = so; stopped = tt; device = λ e. absurd (cc); keeps = all_kept (still u l k) made refl; unmade = tt; logged = λ known. none_opened }
+  pub does_nothing : (t : T) → P t → Does w [] made P S (Ok t)
+  does_nothing t so = record { answered = so; stopped = tt; device = λ e. absurd (cc); keeps = all_kept w made same; unmade = tt; logged = λ known. logs known ∙ none_opened }
 
   -- nothing is, and nothing is answered
-  pub stops_still : (stop : Stop) → MayStop S stop → (stop ≡ Device → S Device) → Does {T = T} (still u l k) [] made P S (Err stop)
-  stops_still (Record line cause) why device = record {
-    answered = tt;
-    stopped = why;
-    device = λ e. absurd (cc);
-    keeps = all_kept (still u l k) made refl;
-    unmade = none_made (still u l k) made refl;
-    logged = λ known. (0, none_opened);
-  }
-  stops_still Memory why device = record {
-    answered = tt;
-    stopped = tt;
-    device = λ e. absurd (cc);
-    keeps = all_kept (still u l k) made refl;
-    unmade = none_made (still u l k) made refl;
-    logged = λ known. (0, none_opened);
-  }
-  stops_still Device why device = record {
-    answered = tt;
-    stopped = tt;
-    device = λ e. inr (device refl);
-    keeps = all_kept (still u l k) made refl;
-    unmade = none_made (still u l k) made refl;
-    logged = λ known. (0, 0, none_failed);
-  }
-  stops_still Budget why device = record {
-    answered = tt;
-    stopped = why;
-    device = λ e. absurd (cc);
-    keeps = all_kept (still u l k) made refl;
-    unmade = none_made (still u l k) made refl;
-    logged = λ known. (0, none_opened);
-  }
+  pub stops_still : (stop : Stop) → MayStop S stop → (stop ≡ Device → S Device) → Does {T = T} w [] made P S (Err stop)
+  stops_still (Record line cause) why device =
+      record { answered = tt; stopped = why; device = λ e. absurd (cc); keeps = all_kept w made same; unmade = none_made w made same; logged = λ known. (0, logs known ∙ none_opened) }
+  stops_still Memory why device =
+      record { answered = tt; stopped = tt; device = λ e. absurd (cc); keeps = all_kept w made same; unmade = none_made w made same; logged = λ known. (0, logs known ∙ none_opened) }
+  stops_still Device why device =
+      record { answered = tt; stopped = tt; device = λ e. inr (device refl); keeps = all_kept w made same; unmade = none_made w made same; logged = λ known. (0, 0, logs known ∙ none_failed) }
+  stops_still Budget why device =
+      record { answered = tt; stopped = why; device = λ e. absurd (cc); keeps = all_kept w made same; unmade = none_made w made same; logged = λ known. (0, logs known ∙ none_opened) }
 
   -- the same of what `?` passes on
-  pub does_not : (failed : Type 0) (stop : Stop) → StopsFor failed stop → (failed → S Device) → (r : Result T Stop) → IsErrAnd r (λ told. told ≡ stop) → Does (still u l k) [] made P S r
+  pub does_not : (failed : Type 0) (stop : Stop) → StopsFor failed stop → (failed → S Device) → (r : Result T Stop) → IsErrAnd r (λ told. told ≡ stop) → Does w [] made P S r
   does_not failed stop why device (Ok t) is = absurd is
-  does_not failed stop why device (Err other) is = subst (λ s. Does {T = T} (still u l k) [] made P S (Err s)) (sym is)
-      (stops_still stop (may_stop failed S stop why) (λ e. device (subst (StopsFor failed) e why)))
+  does_not failed stop why device (Err other) is = subst (λ s. Does {T = T} w [] made P S (Err s)) (sym is) (stops_still stop (may_stop failed S stop why) (λ e. device (subst (StopsFor failed) e why)))
+
+-- files were read again for the records, and that failed
+fails_again : (w : World) (asked : Asked) → FailsAgain w asked.names → reads_again asked.places asked.made ≡ true → Failed w [] ⊎ StopsAgain w asked Device
+fails_again w asked (inl (inl missing)) again = inr (again, inl missing)
+fails_again w asked (inl (inr failed)) again = inl (inr failed)
+fails_again w asked (inr endless) again = inr (again, inr endless)
+
+module _ (A : Type 0) {T : Type 0} (w : World) (asked : Asked) (same : w.after ≡ w.before) (P : T → Type 0) where
+  stops_behind : (stop : Stop) → StopsFor ((reads_again asked.places asked.made ≡ true) × FailsAgain w asked.names) stop → (w.knows ≡ true → LogsAgain {T = A} w.log w.logged (Err stop))
+      → Does {T = T} w [] asked.made P (StopsAgain w asked) (Err stop)
+  stops_behind (Record line cause) why logs = absurd why
+  stops_behind Memory why logs = stops_still w same logs asked.made P (StopsAgain w asked) Memory tt (λ e. absurd (cc))
+  stops_behind Device why logs = record {
+    answered = tt;
+    stopped = tt;
+    device = λ e. fails_again w asked why.1 why.0;
+    keeps = all_kept w asked.made same;
+    unmade = none_made w asked.made same;
+    logged = λ known. let some = logs known in (0, some.0, some.1 ∙ ap (λ xs. record w.log { opened = xs; failures = w.log.failures + some.0 }) (sym (append-nil w.log.opened)));
+  }
+  stops_behind Budget why logs = absurd why
+
+  pub does_not_read_again : (stop : Stop) → StopsFor ((reads_again asked.places asked.made ≡ true) × FailsAgain w asked.names) stop → (w.knows ≡ true → LogsAgain {T = A} w.log w.logged (Err stop))
+      → (r : Result T Stop) → IsErrAnd r (λ told. told ≡ stop) → Does w [] asked.made P (StopsAgain w asked) r
+  does_not_read_again stop why logs (Ok t) is = absurd is
+  does_not_read_again stop why logs (Err other) is = subst (λ s. Does {T = T} w [] asked.made P (StopsAgain w asked) (Err s)) (sym is) (stops_behind stop why logs)
+
+-- what is made stands there, whatever was done before
+made_from : (u v after : Under) (l m q : Log) (k : Bool) (made : Option (List ℕ)) (text : List ℕ) → Made (record { before = v; after = after; log = m; logged = q; knows = k }) made text
+    → Made (record { before = u; after = after; log = l; logged = q; knows = k }) made text
+made_from u v after l m q k None text made = tt
+made_from u v after l m q k (Some name) text made = made
+
+-- a file was made, or none, behind files that were read again
+pub made_behind : {T : Type 0} (u v after : Under) (l m q : Log) (k : Bool) (asked : Asked) → v ≡ u → (k ≡ true → m ≡ l) → (text : List ℕ) (r : Result T Stop)
+    → Does (record { before = v; after = after; log = m; logged = q; knows = k }) [] asked.made (λ done. Made (record { before = v; after = after; log = m; logged = q; knows = k }) asked.made text) StopsNever r
+    → Does (record { before = u; after = after; log = l; logged = q; knows = k }) [] asked.made (λ done. Made (record { before = u; after = after; log = l; logged = q; knows = k }) asked.made text)
+    (StopsAgain (record { before = u; after = after; log = l; logged = q; knows = k }) asked) r
+made_behind u v after l m q k asked same logs text r makes =
+    does_then {A = Unit {0}} u v after l m q k [] asked.made (λ _. Unit {0}) _ tt (does_nothing (record { before = u; after = v; log = l; logged = m; knows = k }) same logs None _ _ tt tt) _ _ StopsNever r makes
+    (λ t so. made_from u v after l m q k asked.made text so) (λ s never. absurd never)
 
 -- ---- what is answered of what was found
 
@@ -148,44 +149,39 @@ module _ (options : Options) (known : Option (List ℕ)) (asked : Asked) where
     lines = so.lines;
   }))
 
-  pub fault_stops : (again : Type 0) (stop : Stop) → StopsAgain asked again stop → StopsList options known asked again stop
-  fault_stops again (Record line cause) why = absurd why
-  fault_stops again Memory why = why
-  fault_stops again Device why = why
-  fault_stops again Budget why = why
+  pub fault_stops : (w : World) (stop : Stop) → StopsAgain w asked stop → StopsList w options known asked stop
+  fault_stops w (Record line cause) why = absurd why
+  fault_stops w Memory why = why
+  fault_stops w Device why = why
+  fault_stops w Budget why = why
 
   -- lines are refused
-  module _ (again : Type 0) (list : Vec Refusal Global) (are : IfSome known (λ text. IsListingOf options text (Refused list))) where
-    first_stops : (refusals : List Refusal) → asked.told ≡ One → list.items ≡ refusals → MayStop (StopsList options known asked again) (first_stop refusals)
+  module _ (w : World) (list : Vec Refusal Global) (are : IfSome known (λ text. IsListingOf options text (Refused list))) where
+    first_stops : (refusals : List Refusal) → asked.told ≡ One → list.items ≡ refusals → MayStop (StopsList w options known asked) (first_stop refusals)
     first_stops [] one is = tt
     first_stops (refusal ∷ rest) one is = (
       one,
       IfSome_then known are (λ text lists. sym (first_is (layout_with options) text) ∙ sym (ap (λ rs. slice_get rs 0) (ap (map pair_of) (sym is) ∙ lists.1))),
     )
 
-    no_device : (refusals : List Refusal) → first_stop refusals ≡ Device → StopsList options known asked again Device
+    no_device : (refusals : List Refusal) → first_stop refusals ≡ Device → StopsList w options known asked Device
     no_device [] is = absurd (cc)
     no_device (refusal ∷ rest) is = absurd (cc)
 
-    pub refused_answers : (u : Under) (l : Log) (k : Bool) (told : Told) → asked.told ≡ told
-        → Does (still u l k) [] asked.made (λ answer. ListAnswers (still u l k) options known asked answer.status (listed_text answer.text)) (StopsList options known asked again) (refused_list told list)
-    refused_answers u l k One is = stops_still u l k asked.made _ (StopsList options known asked again) (first_stop list.items) (first_stops list.items is refl) (no_device list.items)
-    refused_answers u l k (All most) is = does_nothing u l k asked.made _ (StopsList options known asked again) _ (inr (inr (record {
+    pub refused_answers : (same : w.after ≡ w.before) (logs : w.knows ≡ true → w.logged ≡ w.log) (told : Told) → asked.told ≡ told
+        → Does w [] asked.made (λ answer. ListAnswers w options known asked answer.status (listed_text answer.text)) (StopsList w options known asked) (refused_list told list)
+    refused_answers same logs One is = stops_still w same logs asked.made _ (StopsList w options known asked) (first_stop list.items) (first_stops list.items is refl) (no_device list.items)
+    refused_answers same logs (All most) is = does_nothing w same logs asked.made _ (StopsList w options known asked) _ (inr (inr (record {
       most = most;
       all = is;
       list = list;
       are_all = are;
-      unmade = none_made (still u l k) asked.made refl;
+      unmade = none_made w asked.made same;
       is = refl;
       lines = refl;
     })))
 
 -- ---- the same behind reading
-
-made_from : (u v after : Under) (l m q : Log) (k : Bool) (made : Option (List ℕ)) (text : List ℕ) → Made (record { before = v; after = after; log = m; logged = q; knows = k }) made text
-    → Made (record { before = u; after = after; log = l; logged = q; knows = k }) made text
-made_from u v after l m q k None text made = tt
-made_from u v after l m q k (Some name) text made = made
 
 pub answers_from : (u v after : Under) (l m q : Log) (k : Bool) (options : Options) (known : Option (List ℕ)) (asked : Asked) (status : ℕ) (text : List ℕ) → v ≡ u
     → ListAnswers (record { before = v; after = after; log = m; logged = q; knows = k }) options known asked status text
@@ -213,6 +209,13 @@ answers_from u v after l m q k options known asked status text same (inr (inr re
   is = refused.is;
   lines = refused.lines;
 }))
+
+pub stops_from : (u v after : Under) (l m q : Log) (k : Bool) (options : Options) (known : Option (List ℕ)) (asked : Asked) → v ≡ u → (stop : Stop)
+    → StopsList (record { before = v; after = after; log = m; logged = q; knows = k }) options known asked stop → StopsList (record { before = u; after = after; log = l; logged = q; knows = k }) options known asked stop
+stops_from u v after l m q k options known asked same (Record line cause) why = why
+stops_from u v after l m q k options known asked same Memory why = why
+stops_from u v after l m q k options known asked same Device why = (why.0, subst (λ x. SomeUnread x asked.names) same why.1)
+stops_from u v after l m q k options known asked same Budget why = why
 
 -- ---- what is printed of faults, and what stands in the file
 

@@ -10,6 +10,7 @@ use Rattle.tl_record.specs.Layout.{layout_with}
 use Rattle.tl_record.specs.Records.{records_of}
 use Rattle.tl_county.specs.TheMap.{TheMap, MapChain}
 use Rattle.tl_files.specs.World.{World, Made, Unmade}
+use Rattle.tl_hint.specs.Again.{SomeUnread}
 use Rattle.tl_plan.specs.declared.budget.Told.{Told}
 use Rattle.tl_plan.specs.declared.budget.Told.TheVariants.{One, All}
 use Rattle.tl_output.specs.declared.stop.Stop.{Stop}
@@ -90,15 +91,15 @@ pub record IsFaultList (w : World) (layout : Layout) (asked : Asked) (map : Opti
   pub is : answer.status ≡ 1
   pub lines : listed_text answer.text ≡ told_text asked.names (chains_of map) spoken asked.places asked.told list.faults.items list.points_left
 
--- why that isn't: where files are read again for the records, a device failed for this
-abbrev pub StopsAgain : Asked → (again : Type 0) → Stop → Type 0
-StopsAgain asked again Device = (reads_again asked.places asked.made ≡ true) × again
-StopsAgain asked again other = ⊥
+-- why that isn't: where files are read again for the records, one of them may not be read
+abbrev pub StopsAgain : World → Asked → Stop → Type 0
+StopsAgain w asked Device = (reads_again asked.places asked.made ≡ true) × SomeUnread w.before asked.names
+StopsAgain w asked other = ⊥
 
 -- why nothing is answered: the same, or the first line that is refused, where one fault is asked for
-abbrev pub StopsList : Options → (known : Option (List ℕ)) → Asked → (again : Type 0) → Stop → Type 0
-StopsList options known asked again (Record line cause) = (asked.told ≡ One) × StopsRecords (layout_with options) known (Record line cause)
-StopsList options known asked again other = StopsAgain asked again other
+abbrev pub StopsList : World → Options → (known : Option (List ℕ)) → Asked → Stop → Type 0
+StopsList w options known asked (Record line cause) = (asked.told ≡ One) × StopsRecords (layout_with options) known (Record line cause)
+StopsList w options known asked other = StopsAgain w asked other
 
 -- with the status 0 the report of a map that is sound, of which no fault stands in the file
 pub record TellsSound (w : World) (options : Options) (known : Option (List ℕ)) (asked : Asked) (status : ℕ) (text : List ℕ) : Type 0 where

@@ -2,7 +2,7 @@
 
 use std::alloc::Global;
 use tl_listing::{Listing, print_listing};
-use tl_output::{Bytes, Stop, Text, as_printed};
+use tl_output::{Bytes, Stop, Text};
 use tl_record::Sink;
 
 /// A text that is answered where all that is wrong is asked for, or the records of it.
@@ -24,7 +24,7 @@ impl Text for Listed {
 
     fn print<S: Sink>(&self, alloc: Global, out: &mut S) -> Result<(), Stop> {
         match self {
-            Listed::Listing { listing, most } => as_printed(print_listing(listing, *most, out)),
+            Listed::Listing { listing, most } => print_listing(listing, *most, out),
             Listed::Lines(text) => Bytes {
                 bytes: text.as_slice(),
             }

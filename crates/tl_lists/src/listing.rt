@@ -6,7 +6,6 @@ ghost use Rattle.tl_record.specs.Layout.{layout_with};
 ghost use Rattle.tl_all_faults.specs.Findings.{AreFindingsOf};
 ghost use Rattle.tl_files.specs.World.{Does, MayMake, world};
 ghost use Rattle.tl_files.specs.declared.beginning.FileKind.TheVariants.{Collection};
-ghost use Rattle.tl_placing.specs.Again.{AgainFails};
 ghost use Rattle.tl_answers.specs.Reading.{text_under};
 ghost use Rattle.tl_answers.specs.Records.{StopsNever};
 ghost use Rattle.tl_lists.specs.Listed.{ListAnswers, IsSoundList, IsFaultList, StopsList, StopsAgain, listed_text, reads_again, wanted_of};
@@ -56,7 +55,7 @@ pub fn list<F: FileSystem>(
         let known = text_under (F.under files.old) (map_list string_bytes names.now) in
         let asked = wanted_of (map_list string_bytes names.now) wanted.entry in
         Does w asked.names asked.made (λ answer. ListAnswers w options known asked answer.status (listed_text answer.text))
-        (StopsList options known asked (AgainFails F.Reader.failure_count (F.under files.old) asked.names)) result }
+        (StopsList w options known asked) result }
 {
     let found = over_records(files, alloc, hasher, names, &FindingsIn { options })?;
     tell_found(files, alloc, hasher, options, names, wanted, found)
@@ -77,7 +76,7 @@ fn tell_found<F: FileSystem>(
         let w = world F.under F.log F.knows files.old files.new in
         let asked = wanted_of (map_list string_bytes names.now) wanted.entry in
         Does w [] asked.made (λ answer. ListAnswers w options known asked answer.status (listed_text answer.text))
-        (StopsList options known asked (AgainFails F.Reader.failure_count (F.under files.old) asked.names)) result }
+        (StopsList w options known asked) result }
 {
     let Findings { listing, map } = found;
     match listing {
@@ -170,13 +169,13 @@ fn tell_faults<F: FileSystem>(
     ensures { let w = world F.under F.log F.knows files.old files.new in
         let asked = wanted_of (map_list string_bytes names.now) wanted.entry in
         Does w [] asked.made (IsFaultList w (layout_with options) asked map (record { faults = faults; points_left = points_left }))
-        (StopsAgain asked (AgainFails F.Reader.failure_count (F.under files.old) asked.names)) result }
+        (StopsAgain w asked) result }
 {
     let drawn = map.as_ref();
     let listed = faults.as_slice();
     let shown = featured(wanted.told, listed);
     let spoken = speak_of(
-        &*files,
+        files,
         alloc,
         hasher,
         names,

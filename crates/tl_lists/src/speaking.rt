@@ -4,7 +4,10 @@ ghost use Rattle.std.specs.Prelude.{◌≡◌, true, IfOk, IfErr, map, option_co
 ghost use Rattle.tl_record.specs.Layout.{layout_with};
 ghost use Rattle.tl_record_lines.specs.SpokenOf.{chains_of};
 ghost use Rattle.tl_output.specs.Stops.{StopsFor};
-ghost use Rattle.tl_placing.specs.Again.{AreSpoken, AgainFails};
+ghost use Rattle.tl_files.specs.Log.{LogsAgain};
+ghost use Rattle.tl_files.specs.World.{world};
+ghost use Rattle.tl_hint.specs.Again.{FailsAgain};
+ghost use Rattle.tl_placing.specs.Again.{AreSpoken};
 ghost use Rattle.tl_lists.specs.Listed.{featured};
 
 use std::alloc::Global;
@@ -19,7 +22,7 @@ use tl_verdict::MapFault;
 
 /// The records that faults speak of, from files that are read again, where they are asked for. A device fails only there.
 pub(crate) fn speak_of<F: FileSystem>(
-    files: &F,
+    files: &mut F,
     alloc: Global,
     hasher: RandomState,
     names: &[String],
@@ -28,10 +31,12 @@ pub(crate) fn speak_of<F: FileSystem>(
     again: bool,
     faults: &[MapFault],
 ) -> Result<Spoken, Stop>
-    ensures spoken { IfOk result (λ spoken. again ≡ true → AreSpoken (layout_with options) (F.under files.now)
+    ensures spoken { IfOk result (λ spoken. again ≡ true → AreSpoken (layout_with options) (F.under files.old)
         (map string_bytes names.now) (chains_of (option_copied drawn.entry)) faults.now spoken) }
     ensures stops { IfErr result (StopsFor ((again ≡ true)
-        × AgainFails F.Reader.failure_count (F.under files.now) (map string_bytes names.now))) }
+        × FailsAgain (world F.under F.log F.knows files.old files.new) (map string_bytes names.now))) }
+    ensures stays { F.under files.new ≡ F.under files.old }
+    ensures logged { F.knows ≡ true → LogsAgain (F.log files.old) (F.log files.new) result }
 {
     if again {
         read_again(files, alloc, hasher, names, options, drawn, faults)

@@ -2,7 +2,6 @@
 
 ghost use Rattle.std.specs.Prelude.{◌≡◌, [], Some, map as map_list, string_bytes, length};
 ghost use Rattle.tl_record.specs.Layout.{layout_with};
-ghost use Rattle.tl_cert.specs.Certificates.{IsCertificate};
 ghost use Rattle.tl_files.specs.Files.{IsFree};
 ghost use Rattle.tl_files.specs.World.{Does, world};
 ghost use Rattle.tl_files.specs.declared.beginning.FileKind.TheVariants.{Certificate as CertificateKind};
@@ -21,11 +20,11 @@ use tl_answers::reading::over_records;
 use tl_answers::records::MapOf;
 use tl_answers::said::{Answer, Said};
 use tl_build::{Built, build_with};
-use tl_cert::{Certificate, write_cert};
+use tl_cert::{Certificate, look_at_certificate};
 use tl_county::Map;
 use tl_files::{FileKind, FileSystem, make_file};
 use tl_output::Stop;
-use tl_record::{MeterOut, Options};
+use tl_record::Options;
 use tl_verdict::report;
 
 /// Makes a certificate of the map of the records of these files, where that keeps what the options ask, of the name `made`, which it may
@@ -96,15 +95,6 @@ fn keep<F: FileSystem>(
         &CertificateText { certificate },
     )?;
     Ok(Answer::of(Outcome::Built(report(map, rings_of(certificate)))))
-}
-
-// Looks at a certificate, so that it is known that it is one, of numbers in range. `write_cert` says so of each, and where nothing is
-// taken of its text, too: so none is written here.
-fn look_at_certificate(certificate: &Certificate)
-    ensures { IsCertificate certificate.now }
-{
-    let mut no_room = [];
-    let _ = write_cert(certificate, &mut MeterOut::new(&mut no_room[..]));
 }
 
 // How many walks the certificate has.

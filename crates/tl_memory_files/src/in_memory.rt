@@ -10,7 +10,10 @@ use std::alloc::{AllocError, Global};
 use std::collections::VecDeque;
 use std::io;
 use std::io::{ErrorKind, Read, Write};
-use tl_files::{FileKind, FileSystem, Lookup, Room, Seen, Spot, name_beside, room_of};
+use tl_files::{
+    FileKind, FileSystem, Lookup, Opener, Room, Seen, Spot, copy_names, name_beside, open_each,
+    room_of,
+};
 use tl_output::{Stop, Text};
 use tl_record::{Sink, Source};
 
@@ -27,8 +30,8 @@ pub struct Stored {
 pub struct FilesInMemory {
     alloc: Global,
     files: Vec<Stored>,
-    // The names of the files that were opened.
-    opened: Vec<String>,
+    // The names of the files that were opened, in one list those that were opened together.
+    opened: Vec<Vec<String>>,
     // How many new files are neither kept nor taken away.
     drafts: u64,
     // The name of the file that is read last, where it is to be shown how far reading is.
@@ -180,6 +183,19 @@ fn with_printed<T: Text>(alloc: Global, held: &[u8], text: &T) -> Result<Vec<u8>
     }
 }
 
+impl Opener for FilesInMemory {
+    type Reader = Held;
+
+    ghost use Rattle.std.specs.Prelude.{Some};
+    ghost use Rattle.tl_memory_files.specs.Keeping.Stored.{file_in};
+
+    ghost held = { λ files name. Some (file_in files.files.items name) };
+
+    fn open_one(&self, alloc: Global, name: &str) -> Result<Held, Stop> {
+        held_of(self.bytes(name), alloc)
+    }
+}
+
 impl FileSystem for FilesInMemory {
     type Reader = Held;
 
@@ -191,7 +207,7 @@ impl FileSystem for FilesInMemory {
     ghost under = { λ files name. Some (file_in files.files.items name) };
 
     ghost log = { λ files. record {
-      opened = map string_bytes files.opened.items;
+      opened = map (λ names. map string_bytes names.items) files.opened.items;
       drafts = files.drafts;
       failures = 0;
       watched = option_map string_bytes files.watched;
@@ -201,20 +217,18 @@ impl FileSystem for FilesInMemory {
 
     ghost alike = { λ draft. refl };
 
-    fn open(&mut self, alloc: Global, name: &str) -> Result<Held, Stop> {
-        let held = held_of(self.bytes(name), alloc)?;
-        let opened = String::from_str(alloc, name)?;
-        self.opened.push(opened)?;
-        Ok(held)
+    fn open(&mut self, alloc: Global, names: &[String]) -> Result<Vec<Held>, Stop> {
+        let files = open_each(self, alloc, names)?;
+        if !names.is_empty() {
+            self.opened.push(copy_names(alloc, names)?)?;
+        }
+        Ok(files)
     }
 
     fn close(&mut self, _file: Held) {}
 
     fn open_again(&self, alloc: Global, name: &str) -> Result<Option<Held>, Stop> {
-        match held_of(self.bytes(name), alloc) {
-            Ok(file) => Ok(Some(file)),
-            Err(stop) => Err(stop),
-        }
+        Ok(Some(self.open_one(alloc, name)?))
     }
 
     fn trouble(&self, alloc: Global, name: &str) -> Result<Option<String>, AllocError> {

@@ -1,6 +1,6 @@
 -- What writes tell of failures and of what the sink took.
 use Rattle.std.proofs.Common.{◌≡◌, ℕ, List, [], ◌++◌, Result, Ok, Err, refl, sym, ap, subst, ◌∙◌, arith, false, length, take, drop}
-use Rattle.std.proofs.Common.{append_assoc, append-nil, take-append-drop}
+use Rattle.std.proofs.Common.{append_assoc, take-append-drop}
 use lib.Seq.{take-append_seam}
 use Rattle.std.specs.Io.KnownBytes.{Appends}
 use Rattle.std.proofs.KnownBytes.{Appends-trans}
@@ -50,42 +50,11 @@ passes_both old mid new held kept last front behind p q =
           ∙ append_assoc held front behind;
     }
 
--- the same, where the second may fail
-pub passes_then : {T E : Type 0} (r : Result T E) (old mid new : Option (List ℕ)) (held kept last front behind : List ℕ)
-    → PassesOn old mid held kept front → TriesToPassOn mid new kept last behind r → TriesToPassOn old new held last (front ++ behind) r
-passes_then (Ok x) old mid new held kept last front behind p q = passes_both old mid new held kept last front behind p q
-passes_then (Err e) old mid new held kept last front behind p q =
-    record { lost = q.lost; passes = passes_both old mid new held kept q.lost front behind p q.passes }
-
 -- one text is passed on whole, and another behind it isn't
 pub passes_some_then : (old mid new : Option (List ℕ)) (held kept front behind : List ℕ) → PassesOn old mid held kept front
     → PassesSome mid new kept behind → PassesSome old new held (front ++ behind)
 passes_some_then old mid new held kept front behind p q =
     record { lost = q.lost; passes = passes_both old mid new held kept q.lost front behind p q.passes }
-
--- the last part of a whole
-pub passes_last : {T E : Type 0} (r : Result T E) (old mid new : Option (List ℕ)) (held kept last front behind whole : List ℕ)
-    → PassesOn old mid held kept front → TriesToPassOn mid new kept last behind r → front ++ behind ≡ whole
-    → TriesToPassOn old new held last whole r
-passes_last r old mid new held kept last front behind whole p q same =
-    subst (λ l. TriesToPassOn old new held last l r) same (passes_then r old mid new held kept last front behind p q)
-
--- the first part of a whole got lost
-pub passes_some_first : (old new : Option (List ℕ)) (held front more whole : List ℕ) → PassesSome old new held front → front ++ more ≡ whole
-    → PassesSome old new held whole
-passes_some_first old new held front more whole p same =
-    subst (PassesSome old new held) same (passes_some_more old new held front more p)
-
--- nothing is kept at the end
-pub passes_emptied : {T E : Type 0} (r : Result T E) (old new : Option (List ℕ)) (held kept text : List ℕ)
-    → OnOk r (kept ≡ []) → TriesToPassOn old new held kept text r → TriesToPassOn old new held [] text r
-passes_emptied (Ok x) old new held kept text empty p = subst (λ l. PassesOn old new held l text) empty p
-passes_emptied (Err e) old new held kept text empty p = p
-
--- all that was held was passed on
-pub passes_held : (old new : Option (List ℕ)) (held kept text : List ℕ) → text ≡ held → kept ≡ [] → PassesOn old new [] [] text → PassesOn old new held kept []
-passes_held old new held kept text same none p =
-    record { taken = p.taken; grown = p.grown; whole = ap (λ l. p.taken ++ l) none ∙ p.whole ∙ same ∙ sym (append-nil held) }
 
 -- what the sink took is a beginning of the text
 pub writes_some : {S : Type 0} (contents : S → Option (List ℕ)) (failures : S → ℕ) (old new : S) (text : List ℕ)

@@ -1,5 +1,8 @@
 -- What the contracts of output cite.
 pub mod Writing
+pub mod Printed
+pub mod Printing
 pub mod Lines
 pub mod Stops
+pub mod Streams
 pub mod Texts

@@ -61,8 +61,8 @@ impl Text for Bytes<'_> {
     }
 }
 
-/// What a print of a text answers where writing it answered this.
-pub fn as_printed(written: io::Result<()>) -> Result<(), Stop>
+// What a print of a text answers where writing it answered this.
+fn as_printed(written: io::Result<()>) -> Result<(), Stop>
     ensures { result ≡ printed_by written }
 {
     Ok(written?)

@@ -1,14 +1,13 @@
 -- What faults speak of, in files that are read again.
-use Rattle.std.specs.Prelude.{◌≡◌, ◌⊎◌, ℕ, List, map}
+use Rattle.std.specs.Prelude.{◌≡◌, ℕ, List, map}
 use Rattle.tl_record.specs.declared.layout.Layout.{Layout}
 use Rattle.tl_record.specs.Records.{records_of}
-use Rattle.tl_text.specs.Joining.{joined, failures_of}
+use Rattle.tl_text.specs.Joining.{joined}
 use Rattle.tl_county.specs.TheMap.{MapChain}
 use Rattle.tl_files.specs.Files.{Under}
 use Rattle.tl_verdict.specs.declared.fault.MapFault.{MapFault}
 use Rattle.tl_where.specs.LinePlaces.{line_count}
 use Rattle.tl_hint.specs.Telling.{HaveTexts}
-use Rattle.tl_hint.specs.Again.{SomeReadFails, CountFails}
 use Rattle.tl_record_lines.specs.Finding.{HoldsAll}
 use Rattle.tl_placing.specs.declared.again.Spoken.{Spoken}
 
@@ -20,8 +19,3 @@ pub record AreOf (layout : Layout) (texts : List (List ℕ)) (chains : List MapC
 -- the same where the text under each name is known
 abbrev pub AreSpoken : Layout → Under → List (List ℕ) → List MapChain → List MapFault → Spoken → Type 0
 AreSpoken layout under names chains faults spoken = (texts : List (List ℕ)) → HaveTexts under names texts → AreOf layout texts chains faults spoken
-
--- the files of these names can't be read again: their lines can't be counted, or a read of them as one text failed; `reads` counts
--- the reads of a file that failed
-abbrev pub AgainFails : {R : Type 0} → (reads : R → ℕ) → Under → List (List ℕ) → Type 0
-AgainFails reads under names = CountFails reads under names ⊎ SomeReadFails (failures_of reads)

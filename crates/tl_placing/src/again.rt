@@ -1,21 +1,24 @@
 //! The records that faults speak of, from files that are read again.
 
-ghost use Rattle.std.specs.Prelude.{◌≡◌, ℕ, List, [], IfOk, IfErr, IsSomeAnd, map, option_copied, string_bytes};
+ghost use Rattle.std.specs.Prelude.{◌≡◌, ℕ, true, List, [], IfOk, IfErr, IsSomeAnd, map, option_copied, string_bytes};
 ghost use Rattle.tl_record.specs.Layout.{layout_with};
 ghost use Rattle.tl_record.specs.Records.{records_of};
 ghost use Rattle.tl_text.specs.Joining.{joined};
+ghost use Rattle.tl_files.specs.Log.{LogsAgain};
+ghost use Rattle.tl_files.specs.World.{world};
+ghost use Rattle.tl_hint.specs.Again.{FailsAgain};
 ghost use Rattle.tl_hint.specs.Telling.{HaveTexts};
 ghost use Rattle.tl_record_lines.specs.declared.subject.Subject.{Subject};
 ghost use Rattle.tl_record_lines.specs.SpokenOf.{chains_of};
 ghost use Rattle.tl_record_lines.specs.Finding.{HoldsAll};
 ghost use Rattle.tl_record_lines.specs.Keeping.{held};
 ghost use Rattle.tl_output.specs.Stops.{StopsFor};
-ghost use Rattle.tl_placing.specs.Again.{AreSpoken, AgainFails};
+ghost use Rattle.tl_placing.specs.Again.{AreSpoken};
 
 use std::alloc::{AllocError, Global};
 use std::hash::RandomState;
 use tl_county::Map;
-use tl_files::FileSystem;
+use tl_files::{FileSystem, close_all};
 use tl_hint::{count_all, open_again};
 use tl_output::Stop;
 use tl_record::Options;
@@ -49,7 +52,7 @@ impl Spoken {
 /// Reads the files of these names again for the records that faults speak of, which were found in them. Where one of the files
 /// can't be read again, as a pipe can't, there are none. Chains of darts are those of the map, where the records have one.
 pub fn read_again<F: FileSystem>(
-    files: &F,
+    files: &mut F,
     alloc: Global,
     hasher: RandomState,
     names: &[String],
@@ -59,11 +62,13 @@ pub fn read_again<F: FileSystem>(
 ) -> Result<Spoken, Stop>
     // Where the bytes of all files are known: so many lines have these, and the records are all that the faults speak of, and
     // no other.
-    ensures spoken { IfOk result (AreSpoken (layout_with options) (F.under files.now) (map string_bytes names.now)
+    ensures spoken { IfOk result (AreSpoken (layout_with options) (F.under files.old) (map string_bytes names.now)
         (chains_of (option_copied drawn.entry)) faults.now) }
     // `Device` is answered where one of the files may not be opened, a read failed, or one has no end within 2^64 - 1 bytes, and
     // nowhere else.
-    ensures stops { IfErr result (StopsFor (AgainFails F.Reader.failure_count (F.under files.now) (map string_bytes names.now))) }
+    ensures stops { IfErr result (StopsFor (FailsAgain (world F.under F.log F.knows files.old files.new) (map string_bytes names.now))) }
+    ensures stays { F.under files.new ≡ F.under files.old }
+    ensures logged { F.knows ≡ true → LogsAgain (F.log files.old) (F.log files.new) result }
 {
     let Some(counts) = count_all(files, alloc, names)? else {
         return Ok(Spoken::nothing(alloc, hasher)?);
@@ -76,7 +81,7 @@ pub fn read_again<F: FileSystem>(
 
 // The lines of the records that the faults speak of, of files that are read again, where each can be.
 fn lines_again<F: FileSystem>(
-    files: &F,
+    files: &mut F,
     alloc: Global,
     hasher: RandomState,
     names: &[String],
@@ -84,15 +89,18 @@ fn lines_again<F: FileSystem>(
     drawn: Option<&Map>,
     faults: &[MapFault],
 ) -> Result<Option<RecordLines>, Stop>
-    ensures found { IfOk result (λ found. (texts : List (List ℕ)) → HaveTexts (F.under files.now) (map string_bytes names.now) texts
+    ensures found { IfOk result (λ found. (texts : List (List ℕ)) → HaveTexts (F.under files.old) (map string_bytes names.now) texts
         → IsSomeAnd found (HoldsAll (chains_of (option_copied drawn.entry)) faults.now
         (records_of (layout_with options) (joined texts)).entries)) }
-    ensures stops { IfErr result (StopsFor (AgainFails F.Reader.failure_count (F.under files.now) (map string_bytes names.now))) }
+    ensures stops { IfErr result (StopsFor (FailsAgain (world F.under F.log F.knows files.old files.new) (map string_bytes names.now))) }
+    ensures stays { F.under files.new ≡ F.under files.old }
+    ensures logged { F.knows ≡ true → LogsAgain (F.log files.old) (F.log files.new) result }
 {
     let Some(readers) = open_again(files, alloc, names)? else {
         return Ok(None);
     };
     let mut text = JoinedSources::new(readers);
-    let lines = record_lines(alloc, hasher, &mut text, options, drawn, faults)?;
-    Ok(Some(lines))
+    let lines = record_lines(alloc, hasher, &mut text, options, drawn, faults);
+    close_all(files, text.into_readers());
+    Ok(Some(lines?))
 }

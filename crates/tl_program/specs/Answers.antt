@@ -23,9 +23,9 @@ AllAnswers (Draw made view faults) options names w =
     DrawAnswers w options (text_under w.before names) (record { name = string_bytes made; view = view; shows = faults })
 AllAnswers other options names w = PlainAnswers other options names w
 
--- why nothing is, but for want of memory and for a device that failed; `again` says that files can't be read again
-abbrev pub AllStops : (again : Type 0) → Asked → Options → (names : List (List ℕ)) → World → Stop → Type 0
-AllStops again (Audit One false None) options names w = PlainStops (Audit One false None) options names w
-AllStops again (Audit told places made) options names w =
-    StopsList options (text_under w.before names) (record { names = names; told = told; places = places; made = option_map string_bytes made }) again
-AllStops again other options names w = PlainStops other options names w
+-- why nothing is, but for want of memory and for a device that failed
+abbrev pub AllStops : Asked → Options → (names : List (List ℕ)) → World → Stop → Type 0
+AllStops (Audit One false None) options names w = PlainStops (Audit One false None) options names w
+AllStops (Audit told places made) options names w =
+    StopsList w options (text_under w.before names) (record { names = names; told = told; places = places; made = option_map string_bytes made })
+AllStops other options names w = PlainStops other options names w

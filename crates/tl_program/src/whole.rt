@@ -21,7 +21,7 @@ pub struct Whole;
 impl Program for Whole {
     ghost answers = { λ command. AllAnswers command.asked command.options (map string_bytes command.files.items) };
 
-    ghost stops = { λ again command. AllStops again command.asked command.options (map string_bytes command.files.items) };
+    ghost stops = { λ command. AllStops command.asked command.options (map string_bytes command.files.items) };
 
     ghost lacks = { λ command. ⊥ };
 

@@ -1,5 +1,5 @@
 -- Lemmas on pictures.
-pub mod PassingLemmas
+pub mod PieceLemmas
 pub mod DrawingLemmas
 pub mod FrameLemmas
 pub mod TextLemmas

@@ -1,4 +1,5 @@
 -- Lemmas on texts.
+pub mod FailureLemmas
 pub mod JoiningLemmas
 pub mod LandmarkLemmas
 pub mod PlaceLemmas

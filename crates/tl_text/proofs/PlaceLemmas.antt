@@ -1,11 +1,11 @@
 -- The landmarks of a place, one by one.
-use Rattle.std.proofs.Common.{◌≡◌, ℕ, ◌+◌, ◌<◌, List, [], ◌∷◌, ◌++◌, length, take, drop, get_or, refl, sym, ap, ◌∙◌, append_assoc, append-nil, add-one, take-append-drop, arith}
+use Rattle.std.proofs.Common.{◌≡◌, ℕ, ◌+◌, ◌<◌, List, [], ◌∷◌, ◌++◌, length, take, get_or, refl, sym, ap, ◌∙◌, append_assoc, append-nil, add-one}
 use Rattle.std.proofs.Math.Seq.{take-suc}
 use Rattle.std.specs.Prelude.{codes, decimal, slice_get}
 use Rattle.tl_geom.specs.declared.point.Point.{Point}
 use Rattle.tl_county.specs.declared.sides.Side.{Side}
 use Rattle.tl_county.specs.TheMap.{MapChain, MapLandmark, IsChain}
-use Rattle.tl_text.specs.Places.{on_text, land_text, lands_text, listed_lands}
+use Rattle.tl_text.specs.Places.{on_text, land_text, lands_text}
 
 module _ (landmarks : List MapLandmark) where
   lands_text-append : (xs ys : List ℕ) → lands_text landmarks (xs ++ ys) ≡ lands_text landmarks xs ++ lands_text landmarks ys
@@ -18,19 +18,6 @@ module _ (landmarks : List MapLandmark) where
   pub lands_text-next : (numbers : List ℕ) (i : ℕ) → i < length numbers
       → lands_text landmarks (take (i + 1) numbers) ≡ lands_text landmarks (take i numbers) ++ land_text landmarks (get_or numbers i 0)
   lands_text-next numbers i within = rw (add-one, take-suc numbers i 0, lands_text-append, append-nil) refl
-
-  -- the landmarks behind one
-  pub lands_text-split : (numbers : List ℕ) (i : ℕ) → i < length numbers
-      → lands_text landmarks (take i numbers) ++ land_text landmarks (get_or numbers i 0) ++ lands_text landmarks (drop (i + 1) numbers) ≡ lands_text landmarks numbers
-  lands_text-split numbers i within =
-      ap (λ l. l ++ lands_text landmarks (drop (i + 1) numbers)) (sym (lands_text-next numbers i within))
-      ∙ sym (lands_text-append (take (i + 1) numbers) (drop (i + 1) numbers))
-      ∙ ap (lands_text landmarks) (take-append-drop (i + 1) numbers)
-
-  -- some landmarks are listed as they are
-  pub listed_lands-some : (numbers : List ℕ) → 0 < length numbers → listed_lands landmarks numbers ≡ lands_text landmarks numbers
-  listed_lands-some [] some = absurd (omega arith)
-  listed_lands-some (number ∷ rest) some = refl
 
 -- the line of a chain that is there
 pub on_text-of : (chains : List MapChain) (number tlid : ℕ) (points : List Point) (left right : Side) → IsChain (slice_get chains number) tlid points left right

@@ -1,12 +1,9 @@
--- What is written piece by piece.
-use Rattle.std.proofs.Common.{◌≡◌, ℕ, zero, suc, ◌+◌, ◌-◌, ◌<◌, ◌≤◌, List, [], ◌∷◌, ◌++◌, length, take, drop, map, slice_get, slice_index_or, Some, None, refl, sym, ap, subst, ◌∙◌, append_assoc, append-nil, add-one, zero-add, arith, drop-cons, take-append-drop}
+-- What is printed piece by piece.
+use Rattle.std.proofs.Common.{◌≡◌, ℕ, zero, suc, ◌+◌, ◌-◌, ◌<◌, ◌≤◌, List, [], ◌∷◌, ◌++◌, length, take, drop, map, slice_get, slice_index_or, Some, refl, sym, ap, ◌∙◌, append_assoc, append-nil, add-one, zero-add, arith, drop-cons}
 use Rattle.std.proofs.Math.Seq.{take-nil}
 use Rattle.std.proofs.lemmas.List.{take_all}
-use Rattle.std.specs.Prelude.{Option}
 use Rattle.tl_geom.specs.declared.point.Point.{Point}
 use Rattle.tl_county.specs.Chains.{CompleteChain, tlids}
-use Rattle.tl_output.specs.Writing.{PassesOn, PassesSome}
-use Rattle.tl_output.proofs.WritingLemmas.{passes_some_more}
 use Rattle.tl_text.specs.Printing.{point_text, points_text, chain_text, chains_text}
 
 pub points_text-append : (xs ys : List Point) → points_text (xs ++ ys) ≡ points_text xs ++ points_text ys
@@ -26,35 +23,11 @@ chains_text-suc (chain ∷ rest) (suc i) t points tlid here =
     ap (λ l. chain_text chain ++ l) (chains_text-suc rest i t points tlid here)
     ∙ sym (append_assoc (chain_text chain) (chains_text (take i rest)) _)
 
-chains_text-append : (xs ys : List CompleteChain) → chains_text (xs ++ ys) ≡ chains_text xs ++ chains_text ys
-chains_text-append [] ys = refl
-chains_text-append (x ∷ xs) ys =
-    ap (λ l. chain_text x ++ l) (chains_text-append xs ys) ∙ sym (append_assoc (chain_text x) (chains_text xs) (chains_text ys))
-
 -- one chain more
 pub chains_text-next : (list : List CompleteChain) (i t : ℕ) (points : List Point) → slice_get (tlids list) i ≡ Some t
     → slice_get (map (λ chain. chain.points) list) i ≡ Some points
     → chains_text (take (i + 1) list) ≡ chains_text (take i list) ++ chain_text (record { tlid = t; points = points })
 chains_text-next list i t points tlid here = rw add-one (chains_text-suc list i t points tlid here)
-
--- the lines of the chains behind one
-pub chains_text-split : (list : List CompleteChain) (i t : ℕ) (points : List Point) → slice_get (tlids list) i ≡ Some t
-    → slice_get (map (λ chain. chain.points) list) i ≡ Some points
-    → chains_text (take i list) ++ chain_text (record { tlid = t; points = points }) ++ chains_text (drop (i + 1) list) ≡ chains_text list
-chains_text-split list i t points tlid here =
-    ap (λ l. l ++ chains_text (drop (i + 1) list)) (sym (chains_text-next list i t points tlid here))
-    ∙ sym (chains_text-append (take (i + 1) list) (drop (i + 1) list))
-    ∙ ap chains_text (take-append-drop (i + 1) list)
-
--- a text and these behind it
-abbrev pub appended : List ℕ → List (List ℕ) → List ℕ
-appended text [] = text
-appended text (piece ∷ rest) = appended (text ++ piece) rest
-
--- some got lost, and so did these behind it
-pub passes_lost : (old new : Option (List ℕ)) (held text : List ℕ) (behind : List (List ℕ)) (whole : List ℕ) → PassesSome old new held text → appended text behind ≡ whole → PassesSome old new held whole
-passes_lost old new held text [] whole some same = subst (PassesSome old new held) same some
-passes_lost old new held text (piece ∷ rest) whole some same = passes_lost old new held (text ++ piece) rest whole (passes_some_more old new held text piece some) same
 
 -- a blank, a text, a comma and a text before the rest, piece by piece
 pub point_parts : (x y rest : List ℕ) → 32 ∷ (x ++ 44 ∷ (y ++ rest)) ≡ 32 ∷ x ++ 44 ∷ [] ++ y ++ rest
@@ -80,18 +53,3 @@ pub chain_parts : (head : List ℕ) (points : List Point) (i : ℕ) (end : List 
 chain_parts head points i end within =
     let all : take (i + (length points - i)) points ≡ points = take_all _ points (omega arith) in
     ap (λ l. l ++ end) (append_assoc head _ _ ∙ ap (λ l. head ++ l) (sym (points_text-several points i (length points - i)) ∙ ap points_text all))
-
--- the same of three parts
-pub chain_pieces : (head : List ℕ) (points : List Point) (i n : ℕ) (end : List ℕ)
-    → head ++ points_text (take i points) ++ points_text (take n (drop i points)) ++ points_text (drop (i + n) points) ++ end ≡ head ++ points_text points ++ end
-chain_pieces head points i n end =
-    ap (λ l. l ++ end) (
-    ap (λ l. l ++ points_text (drop (i + n) points)) (append_assoc head _ _ ∙ ap (λ l. head ++ l) (sym (points_text-several points i n)))
-    ∙ append_assoc head _ _
-    ∙ ap (λ l. head ++ l) (sym (points_text-append (take (i + n) points) (drop (i + n) points)) ∙ ap points_text (take-append-drop (i + n) points))
-    )
-
--- before anything is passed on
-pub passes_nothing : (old : Option (List ℕ)) (held : List ℕ) → PassesOn old old held held []
-passes_nothing None held = record { taken = []; grown = tt; whole = sym (append-nil held) }
-passes_nothing (Some bytes) held = record { taken = []; grown = sym (append-nil bytes); whole = sym (append-nil held) }

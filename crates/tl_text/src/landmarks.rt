@@ -5,136 +5,98 @@ ghost use Rattle.arrayvec.specs.ArrayString.{array_string_len};
 ghost use Rattle.tl_key.specs.KeyText.{cenid_text};
 ghost use Rattle.tl_text.specs.Printing.{polygon_text, listed_text, polygons_text, place_text, landmark_text};
 ghost use Rattle.tl_text.specs.Printing.{landmark_count_text, listing_text};
-ghost use Rattle.tl_output.specs.Writing.{CountsFailure, TriesToPassOn};
+ghost use Rattle.tl_output.specs.Printing.{Prints};
 
-use crate::numbered::numbered;
 use crate::print::print_point;
 use arrayvec::ArrayString;
-use std::io;
 use tl_county::{Landmark, Map};
 use tl_geom::Point;
-use tl_output::OutputBuffer;
+use tl_output::Printer;
 use tl_record::{PolyKey, Sink};
 
 // A blank, and five characters of up to four bytes each.
 const LONGEST_CENID: usize = 21;
 
-/// Writes a line for each landmark, with the keys of its polygons, and a line of their number. An error says that a write
-/// failed: the sink took some of what was held and of the lines, from the front.
-pub fn print_landmarks<S: Sink>(map: &Map, buffer: &mut OutputBuffer, out: &mut S) -> io::Result<()>
-    ensures bytes { TriesToPassOn (S.contents out.old) (S.contents out.new) buffer.old buffer.new
-        (listing_text map.now) result }
-    ensures failures { CountsFailure (S.failure_count out.old) (S.failure_count out.new) result }
+/// Prints a line for each landmark, with the keys of its polygons, and a line of their number.
+pub fn print_landmarks<S: Sink>(map: &Map, printer: &mut Printer, out: &mut S)
+    ensures { Prints S.contents S.failure_count (out.old, printer.old) (out.new, printer.new)
+        (listing_text map.now) }
 {
     for number in 0..map.landmarks() {
-        print_landmark(map, &map.landmark(number), buffer, out)?;
+        print_landmark(map, &map.landmark(number), printer, out);
     }
-    print_count(map.landmarks(), buffer, out)
+    print_count(map.landmarks(), printer, out);
 }
 
-fn print_count<S: Sink>(count: u32, buffer: &mut OutputBuffer, out: &mut S) -> io::Result<()>
-    ensures bytes { TriesToPassOn (S.contents out.old) (S.contents out.new) buffer.old buffer.new
-        (landmark_count_text count) result }
-    ensures failures { CountsFailure (S.failure_count out.old) (S.failure_count out.new) result }
+fn print_count<S: Sink>(count: u32, printer: &mut Printer, out: &mut S)
+    ensures { Prints S.contents S.failure_count (out.old, printer.old) (out.new, printer.new)
+        (landmark_count_text count) }
 {
-    let text = numbered("landmarks=", u64::from(count), "\n");
-    buffer.add(text.as_str().as_bytes(), out)
+    printer.add(b"landmarks=", out);
+    printer.number(count, out);
+    printer.add(b"\n", out);
 }
 
-fn print_landmark<S: Sink>(
-    map: &Map,
-    landmark: &Landmark<'_>,
-    buffer: &mut OutputBuffer,
-    out: &mut S,
-) -> io::Result<()>
+fn print_landmark<S: Sink>(map: &Map, landmark: &Landmark<'_>, printer: &mut Printer, out: &mut S)
     requires { All (λ p. p < length map.now.polygons) landmark.now.polygons.now }
-    ensures bytes { TriesToPassOn (S.contents out.old) (S.contents out.new) buffer.old buffer.new
+    ensures { Prints S.contents S.failure_count (out.old, printer.old) (out.new, printer.new)
         (landmark_text map.now.polygons
-        (record { land = landmark.now.land; point = landmark.now.point; polygons = landmark.now.polygons.now })) result }
-    ensures failures { CountsFailure (S.failure_count out.old) (S.failure_count out.new) result }
+        (record { land = landmark.now.land; point = landmark.now.point; polygons = landmark.now.polygons.now })) }
 {
-    print_place(landmark.land, landmark.point, buffer, out)?;
-    buffer.add(b" polygons", out)?;
-    print_listed(map, landmark.polygons, buffer, out)?;
-    buffer.add(b"\n", out)
+    print_place(landmark.land, landmark.point, printer, out);
+    printer.add(b" polygons", out);
+    print_listed(map, landmark.polygons, printer, out);
+    printer.add(b"\n", out);
 }
 
 // The beginning of a landmark's line: its LAND, and whether it is an area or where its point lies.
-fn print_place<S: Sink>(
-    land: u64,
-    point: Option<Point>,
-    buffer: &mut OutputBuffer,
-    out: &mut S,
-) -> io::Result<()>
-    ensures bytes { TriesToPassOn (S.contents out.old) (S.contents out.new) buffer.old buffer.new
-        (codes "land " ++ decimal land ++ place_text point) result }
-    ensures failures { CountsFailure (S.failure_count out.old) (S.failure_count out.new) result }
+fn print_place<S: Sink>(land: u64, point: Option<Point>, printer: &mut Printer, out: &mut S)
+    ensures { Prints S.contents S.failure_count (out.old, printer.old) (out.new, printer.new)
+        (codes "land " ++ decimal land ++ place_text point) }
 {
+    printer.add(b"land ", out);
+    printer.number(land, out);
     match point {
-        None => {
-            let text = numbered("land ", land, " area");
-            buffer.add(text.as_str().as_bytes(), out)
-        }
+        None => printer.add(b" area", out),
         Some(point) => {
-            let text = numbered("land ", land, " point");
-            buffer.add(text.as_str().as_bytes(), out)?;
-            print_point(point, buffer, out)
+            printer.add(b" point", out);
+            print_point(point, printer, out);
         }
     }
 }
 
-/// Writes the keys of the polygons with these numbers, or that there are none. An error says that a write failed: the
-/// sink took some of what was held and of the keys, from the front.
-pub fn print_listed<S: Sink>(
-    map: &Map,
-    numbers: &[u32],
-    buffer: &mut OutputBuffer,
-    out: &mut S,
-) -> io::Result<()>
+/// Prints the keys of the polygons with these numbers, or that there are none.
+pub fn print_listed<S: Sink>(map: &Map, numbers: &[u32], printer: &mut Printer, out: &mut S)
     requires { All (λ p. p < length map.now.polygons) numbers.now }
-    ensures bytes { TriesToPassOn (S.contents out.old) (S.contents out.new) buffer.old buffer.new
-        (listed_text map.now.polygons numbers.now) result }
-    ensures failures { CountsFailure (S.failure_count out.old) (S.failure_count out.new) result }
+    ensures { Prints S.contents S.failure_count (out.old, printer.old) (out.new, printer.new)
+        (listed_text map.now.polygons numbers.now) }
 {
     if numbers.is_empty() {
-        return buffer.add(b" none", out);
+        return printer.add(b" none", out);
     }
-    print_polygons(map, numbers, buffer, out)
+    print_polygons(map, numbers, printer, out);
 }
 
-fn print_polygons<S: Sink>(
-    map: &Map,
-    numbers: &[u32],
-    buffer: &mut OutputBuffer,
-    out: &mut S,
-) -> io::Result<()>
+fn print_polygons<S: Sink>(map: &Map, numbers: &[u32], printer: &mut Printer, out: &mut S)
     requires { All (λ p. p < length map.now.polygons) numbers.now }
-    ensures bytes { TriesToPassOn (S.contents out.old) (S.contents out.new) buffer.old buffer.new
-        (polygons_text map.now.polygons numbers.now) result }
-    ensures failures { CountsFailure (S.failure_count out.old) (S.failure_count out.new) result }
+    ensures { Prints S.contents S.failure_count (out.old, printer.old) (out.new, printer.new)
+        (polygons_text map.now.polygons numbers.now) }
 {
     for number in numbers {
-        print_polygon(map, *number, buffer, out)?;
+        print_polygon(map, *number, printer, out);
     }
-    Ok(())
 }
 
-fn print_polygon<S: Sink>(
-    map: &Map,
-    number: u32,
-    buffer: &mut OutputBuffer,
-    out: &mut S,
-) -> io::Result<()>
+fn print_polygon<S: Sink>(map: &Map, number: u32, printer: &mut Printer, out: &mut S)
     requires { number < length map.now.polygons }
-    ensures bytes { TriesToPassOn (S.contents out.old) (S.contents out.new) buffer.old buffer.new
-        (polygon_text map.now.polygons number) result }
-    ensures failures { CountsFailure (S.failure_count out.old) (S.failure_count out.new) result }
+    ensures { Prints S.contents S.failure_count (out.old, printer.old) (out.new, printer.new)
+        (polygon_text map.now.polygons number) }
 {
     let key = map.polygon(number).key;
     let cenid = text_of_cenid(key);
-    let polyid = numbered("/", key.polyid, "");
-    buffer.add(cenid.as_str().as_bytes(), out)?;
-    buffer.add(polyid.as_str().as_bytes(), out)
+    printer.add(cenid.as_str().as_bytes(), out);
+    printer.add(b"/", out);
+    printer.number(key.polyid, out);
 }
 
 // A blank and the five bytes of a CENID, put together before they are added.

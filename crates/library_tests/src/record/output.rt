@@ -3,20 +3,25 @@
 use crate::record::pieces::Few;
 use std::alloc::Global;
 use std::io::ErrorKind;
-use tl_output::{OutputBuffer, print_line, write_all};
+use tl_output::{Printer, Stop, print_line, write_all};
 use tl_record::{FailAtOut, MeterOut, Sink};
 
 const LINE: &str = "a line of several writes";
 
 const TEXT: &str = "a line of several writes\na line of several writes\n";
 
-/// Writes a line, and then the same text by a buffer that holds it back. Is all written?
+/// Writes a line, and then the same text by a printer that holds it back. Is all written?
 fn write<S: Sink>(out: &mut S) -> bool {
-    let mut buffer = OutputBuffer::new();
-    print_line(&LINE, out).is_ok()
-        && buffer.add(LINE.as_bytes(), out).is_ok()
-        && buffer.flush(out).is_ok()
-        && write_all(b"\n", out).is_ok()
+    print_line(&LINE, out).is_ok() && print(out).is_ok() && write_all(b"\n", out).is_ok()
+}
+
+/// Prints the text in two parts.
+fn print<S: Sink>(out: &mut S) -> Result<(), Stop> {
+    let (front, behind) = LINE.as_bytes().split_at(6);
+    let mut printer = Printer::new();
+    printer.add(front, out);
+    printer.add(behind, out);
+    printer.finish(out)
 }
 
 /// How many bytes of the text a writer that takes seven bytes a write took, where the write behind so many others fails.

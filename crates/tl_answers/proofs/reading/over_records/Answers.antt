@@ -1,4 +1,4 @@
-use Rattle.std.proofs.Common.{[], map, string_bytes}
+use Rattle.std.proofs.Common.{map, string_bytes}
 use Rattle.tl_files.specs.World.{world}
 use Rattle.tl_answers.specs.Reading.{text_under}
 use Rattle.tl_answers.proofs.ReadingLemmas.{does_not_open, does_ask}
@@ -6,7 +6,7 @@ use Rattle.tl_answers.proofs.reading.over_records.Goals as goal
 
 pub returns-in_err-records : goal.returns-in_err-records
 returns-in_err-records g c =
-    does_not_open (world g.F.FileSystem.under g.F.FileSystem.log g.F.FileSystem.knows c.args.files.now c.open_records.new.files) (map string_bytes c.args.names.now) [] _ _ c.in_err-records.field-0.0 c.from_residual.result c.from_residual.ensures.1
+    does_not_open (world g.F.FileSystem.under g.F.FileSystem.log g.F.FileSystem.knows c.args.files.now c.open_records.new.files) (map string_bytes c.args.names.now) _ _ c.in_err-records.field-0.0 c.from_residual.result c.from_residual.ensures.1
     c.in_err-records.ensures.stops c.in_err-records.ensures.stays c.in_err-records.ensures.logged
 
 pub returns : goal.returns

@@ -1,14 +1,5 @@
-use Rattle.std.proofs.Common.{append-nil, subst}
-use Rattle.tl_output.proofs.WritingLemmas.{passes_last, passes_emptied}
-use Rattle.tl_output.specs.Writing.{CountsFailure}
-use Rattle.tl_answers.specs.Places.{place_text}
+use Rattle.tl_output.proofs.PrinterLemmas.{ends_text}
 use Rattle.tl_answers.proofs.said.print_place.Goals as goal
 
-pub returns-clause-bytes : goal.returns-clause-bytes
-returns-clause-bytes g c =
-    passes_last c.flush.result _ _ _ _ _ _ _ _ _ (rw c.new-buffer.ensures at c.in_ok-add_place.ensures.bytes)
-    (passes_emptied c.flush.result _ _ _ _ _ c.flush.ensures.empty c.flush.ensures.passes)
-    (append-nil (place_text c.args.map.now c.args.place.now))
-
-pub returns-clause-failures : goal.returns-clause-failures
-returns-clause-failures g c = subst (λ n. CountsFailure n (g.W.Sink.failure_count c.flush.new.out) c.flush.result) c.in_ok-add_place.ensures.failures c.flush.ensures.failures
+pub returns : goal.returns
+returns g c = ends_text c.finish.result c.new-printer.ensures c.add_place.ensures c.finish.ensures.prints c.finish.ensures.stop

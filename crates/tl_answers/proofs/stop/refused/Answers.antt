@@ -1,5 +1,5 @@
 use Rattle.std.proofs.Common.{◌∙◌, subst}
-use Rattle.tl_answers.specs.Telling.{Tries, stream}
+use Rattle.tl_output.specs.Streams.{Tries, stream}
 use Rattle.tl_answers.proofs.stop.refused.Goals as goal
 
 pub returns-clause-told : goal.returns-clause-told

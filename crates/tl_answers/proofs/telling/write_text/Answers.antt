@@ -1,4 +1,4 @@
-use Rattle.tl_answers.specs.Telling.{stream}
+use Rattle.tl_output.specs.Streams.{stream}
 use Rattle.tl_answers.proofs.TellingLemmas.{text_stops}
 use Rattle.tl_answers.proofs.telling.write_text.Goals as goal
 

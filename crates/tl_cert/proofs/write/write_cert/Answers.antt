@@ -1,5 +1,11 @@
-use Rattle.tl_output.proofs.WritingLemmas.{writes_some}
+use Rattle.std.proofs.Common.{Ok, Err}
+use Rattle.tl_output.proofs.PrinterLemmas.{ends_text, some_text}
 use Rattle.tl_cert.proofs.write.write_cert.Goals as goal
 
+pub returns-in-Ok-clause-writes : goal.returns-in-Ok-clause-writes
+returns-in-Ok-clause-writes g c = ends_text {T = Unit {0}} (Ok tt) c.new-printer.ensures c.write_parts.ensures c.in-Ok.ensures.prints c.in-Ok.ensures.stop
+
 pub returns-in-Err-clause-writes : goal.returns-in-Err-clause-writes
-returns-in-Err-clause-writes g c = writes_some g.W.Sink.contents g.W.Sink.failure_count _ _ _ c.in-Err.ensures.bytes c.in-Err.ensures.failures
+returns-in-Err-clause-writes g c =
+    some_text (Unit {0}) c.in-Err.field-0 c.in-Err.ensures.stop
+    (ends_text {T = Unit {0}} (Err c.in-Err.field-0) c.new-printer.ensures c.write_parts.ensures c.in-Err.ensures.prints c.in-Err.ensures.stop)

@@ -1,6 +1,6 @@
-use Rattle.std.proofs.Common.{◌≡◌, length, arith, subst, rules}
+use Rattle.std.proofs.Common.{◌≡◌, length, arith, rules}
 use Rattle.std.proofs.lemmas.Fmt.{length-decimal-le}
-use Rattle.tl_output.specs.Writing.{TriesToPassOn}
+use Rattle.tl_output.proofs.PrinterLemmas.{as_text}
 use Rattle.tl_cert.proofs.WriteLemmas.{line_slice}
 use Rattle.tl_cert.proofs.write.write_number.Goals as goal
 
@@ -24,16 +24,11 @@ overflow_sub-digits g c =
     let short = length-decimal-le 20 c.args.number (omega arith) (omega (arith, c.ranges.number.fits)) c.ranges.number.fits in
     omega (arith, short, c.write_digits-digits.ensures.start)
 
-pub returns-clause-bytes : goal.returns-clause-bytes
-returns-clause-bytes g c =
+pub returns : goal.returns
+returns g c =
     let short = length-decimal-le 20 c.args.number (omega arith) (omega (arith, c.ranges.number.fits)) c.ranges.number.fits in
     let size : length c.write_digits-digits.new.buf ≡ 23 = search rules in
-    let line = line_slice c.args.letter c.write_digits-digits.result c.args.number 23 c.write_digits-digits.new.buf size
+    as_text c.add.ensures
+    (line_slice c.args.letter c.write_digits-digits.result c.args.number 23 c.write_digits-digits.new.buf size
     (omega (arith, short, c.write_digits-digits.ensures.start)) (omega (arith, c.write_digits-digits.ensures.start))
-    c.write_digits-digits.ensures.written in
-    subst
-    (λ l. TriesToPassOn (g.W.Sink.contents c.args.out.now) (g.W.Sink.contents c.add.new.out) c.args.buffer.now c.add.new.self l c.add.result)
-    line c.add.ensures.passes
-
-pub returns-clause-failures : goal.returns-clause-failures
-returns-clause-failures g c = c.add.ensures.failures
+    c.write_digits-digits.ensures.written)

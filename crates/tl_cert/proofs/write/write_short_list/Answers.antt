@@ -1,5 +1,6 @@
-use Rattle.std.proofs.Common.{◌≡◌, ◌*◌, ◌∷◌, [], length, subst, rules, arith}
-use Rattle.tl_output.specs.Writing.{TriesToPassOn, line_of}
+use Rattle.std.proofs.Common.{◌≡◌, ◌*◌, ◌∷◌, [], length, rules, arith}
+use Rattle.tl_output.specs.Writing.{line_of}
+use Rattle.tl_output.proofs.PrinterLemmas.{as_text}
 use Rattle.tl_cert.specs.Text.{numbered_line, dart_lines}
 use Rattle.tl_record.specs.Lines.{joined_lines}
 use Rattle.tl_cert.proofs.WriteLemmas.{line_first}
@@ -16,16 +17,11 @@ put_number-start-requires g c =
     let size : length c.args.text.now ≡ 221 = search rules in
     room_left 221 (13 * length c.args.darts.now) 13 221 _ c.args.text.now _ _ (omega (arith, c.requires)) (record { room = omega arith; within = omega (arith, size) }) c.put_numbers-behind.ensures
 
-pub returns-clause-bytes : goal.returns-clause-bytes
-returns-clause-bytes g c =
+pub returns : goal.returns
+returns g c =
     let size : length c.args.text.now ≡ 221 = search rules in
     let line = line_of (numbered_line (c.args.letter ∷ []) (length c.args.darts.now)) in
     let put = puts_both 221 (13 * length c.args.darts.now) 13 221 _ _ _ _ _ line (joined_lines (dart_lines c.args.darts.now)) _ (omega (arith, c.requires))
     c.put_numbers-behind.ensures c.put_number-start.ensures
     (line_first (numbered_line (c.args.letter ∷ []) (length c.args.darts.now)) (dart_lines c.args.darts.now)) in
-    subst
-    (λ l. TriesToPassOn (g.W.Sink.contents c.args.out.now) (g.W.Sink.contents c.add.new.out) c.args.buffer.now c.add.new.self l c.add.result)
-    (put_slice 221 c.put_number-start.result 221 c.args.text.now c.put_number-start.new.text _ size put) c.add.ensures.passes
-
-pub returns-clause-failures : goal.returns-clause-failures
-returns-clause-failures g c = c.add.ensures.failures
+    as_text c.add.ensures (put_slice 221 c.put_number-start.result 221 c.args.text.now c.put_number-start.new.text _ size put)

@@ -1,27 +1,10 @@
-use Rattle.std.proofs.Common.{length, codes, subst}
-use Rattle.std.proofs.lemmas.Result.{err_from_is_err_and}
+use Rattle.std.proofs.Common.{length, codes}
+use Rattle.tl_output.proofs.PrinterLemmas.{both, as_text}
 use Rattle.tl_cert.specs.Text.{numbered_line, nodes_lines}
-use Rattle.tl_output.proofs.WritingLemmas.{passes_last, passes_some_first}
 use Rattle.tl_cert.proofs.WriteLemmas.{line_first}
-use Rattle.tl_output.specs.Writing.{CountsFailure}
 use Rattle.tl_cert.proofs.write.write_tree.Goals as goal
 
-pub returns-in_err-write_number-clause-bytes : goal.returns-in_err-write_number-clause-bytes
-returns-in_err-write_number-clause-bytes g c =
-    let lost = passes_some_first _ _ _ _ _ _ c.in_err-write_number.ensures.bytes
-    (line_first (numbered_line (codes "T") (length c.args.nodes.now)) (nodes_lines c.args.version c.args.nodes.now)) in
-    let p = err_from_is_err_and c.from_residual.result c.from_residual.ensures.1 in
-    rw p.1 lost
-
-pub returns-clause-bytes : goal.returns-clause-bytes
-returns-clause-bytes g c =
-    passes_last c.write_nodes.result _ _ _ _ _ _ _ _ _ c.in_ok-write_number.ensures.bytes c.write_nodes.ensures.bytes
+pub returns : goal.returns
+returns g c =
+    as_text (both c.write_number.ensures c.write_nodes.ensures)
     (line_first (numbered_line (codes "T") (length c.args.nodes.now)) (nodes_lines c.args.version c.args.nodes.now))
-
-pub returns-in_err-write_number-clause-failures : goal.returns-in_err-write_number-clause-failures
-returns-in_err-write_number-clause-failures g c =
-    let p = err_from_is_err_and c.from_residual.result c.from_residual.ensures.1 in
-    rw p.1 c.in_err-write_number.ensures.failures
-
-pub returns-clause-failures : goal.returns-clause-failures
-returns-clause-failures g c = subst (λ n. CountsFailure n (g.W.Sink.failure_count c.write_nodes.new.out) c.write_nodes.result) (c.in_ok-write_number.ensures.failures) c.write_nodes.ensures.failures

@@ -3,9 +3,9 @@ use Rattle.std.specs.Prelude.{◌++◌}
 use Rattle.tl_output.specs.Stops.{StopsFor}
 use Rattle.tl_plan.specs.Asked.{made_of}
 use Rattle.tl_files.specs.World.{world}
-use Rattle.tl_answers.specs.Telling.{stream}
+use Rattle.tl_output.specs.Streams.{stream}
 use Rattle.tl_command.specs.Commands.{inputs_of, kind_of}
-use Rattle.tl_command.specs.Running.{SomeUnknown, watched}
+use Rattle.tl_command.specs.Running.{watched}
 use Rattle.tl_command.proofs.CommandLemmas.{on_ok, refused_name}
 use Rattle.tl_command.proofs.run.run.Goals as goal
 

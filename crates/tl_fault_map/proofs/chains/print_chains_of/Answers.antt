@@ -1,5 +1,5 @@
 use Rattle.std.proofs.Common.{arith}
-use Rattle.tl_geojson.proofs.PrinterLemmas.{both, as_text}
+use Rattle.tl_output.proofs.PrinterLemmas.{both, as_text}
 use Rattle.tl_fault_map.proofs.ChainLemmas.{named_next}
 use Rattle.tl_fault_map.proofs.chains.print_chains_of.Goals as goal
 

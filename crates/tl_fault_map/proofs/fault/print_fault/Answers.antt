@@ -1,6 +1,6 @@
 use Rattle.std.proofs.Common.{◌∙◌, refl}
 use Rattle.tl_verdict.specs.Messages.{map_fault_text}
-use Rattle.tl_geojson.proofs.PrinterLemmas.{both, as_text}
+use Rattle.tl_output.proofs.PrinterLemmas.{both, as_text}
 use Rattle.tl_fault_map.specs.Texts.{fault_text}
 use Rattle.tl_fault_map.proofs.fault.print_fault.Goals as goal
 

@@ -2,7 +2,7 @@ use Rattle.std.proofs.Common.{map, string_bytes, arith}
 use Rattle.std.specs.Prelude.{option_copied}
 use Rattle.tl_record_lines.specs.SpokenOf.{chains_of}
 use Rattle.tl_record_lines.specs.Keeping.{held}
-use Rattle.tl_geojson.proofs.PrinterLemmas.{both, as_text}
+use Rattle.tl_output.proofs.PrinterLemmas.{both, as_text}
 use Rattle.tl_geojson.proofs.FeatureLemmas.{one_feature_more}
 use Rattle.tl_fault_map.specs.Texts.{fault_text, fault_feature}
 use Rattle.tl_fault_map.proofs.ListLemmas.{text_at}

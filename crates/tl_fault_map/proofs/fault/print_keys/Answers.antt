@@ -1,5 +1,5 @@
 use Rattle.tl_geojson.specs.Strings.{key_string}
-use Rattle.tl_geojson.proofs.PrinterLemmas.{both, as_text}
+use Rattle.tl_output.proofs.PrinterLemmas.{both, as_text}
 use Rattle.tl_fault_map.proofs.ListLemmas.{two_separated}
 use Rattle.tl_fault_map.proofs.fault.print_keys.Goals as goal
 

@@ -1,4 +1,4 @@
-use Rattle.tl_geojson.proofs.PrinterLemmas.{both}
+use Rattle.tl_output.proofs.PrinterLemmas.{both}
 use Rattle.tl_fault_map.proofs.place.print_exact.Goals as goal
 
 pub returns-in-Some : goal.returns-in-Some

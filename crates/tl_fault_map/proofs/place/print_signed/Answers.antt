@@ -1,5 +1,5 @@
 use Rattle.std.proofs.Common.{refl, to_z-of_z}
-use Rattle.tl_geojson.proofs.PrinterLemmas.{as_text}
+use Rattle.tl_output.proofs.PrinterLemmas.{as_text}
 use Rattle.tl_fault_map.proofs.place.print_signed.Goals as goal
 
 pub returns : goal.returns

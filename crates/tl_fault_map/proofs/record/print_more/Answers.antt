@@ -1,5 +1,5 @@
 use Rattle.std.proofs.Common.{map, string_bytes}
-use Rattle.tl_geojson.proofs.PrinterLemmas.{both, as_text}
+use Rattle.tl_output.proofs.PrinterLemmas.{both, as_text}
 use Rattle.tl_fault_map.specs.Records.{record_text}
 use Rattle.tl_fault_map.proofs.ListLemmas.{more_next}
 use Rattle.tl_fault_map.proofs.record.print_more.Goals as goal

@@ -1,5 +1,5 @@
 use Rattle.tl_fault_map.specs.Records.{records_text}
-use Rattle.tl_geojson.proofs.PrinterLemmas.{both}
+use Rattle.tl_output.proofs.PrinterLemmas.{both}
 use Rattle.tl_fault_map.proofs.record.print_records.Goals as goal
 
 pub returns : goal.returns

@@ -1,6 +1,6 @@
 use Rattle.std.proofs.Common.{◌<◌, length, map, string_bytes, arith}
 use Rattle.std.proofs.lemmas.Bool.Decides.{nat_tests}
-use Rattle.tl_geojson.proofs.PrinterLemmas.{both, as_text}
+use Rattle.tl_output.proofs.PrinterLemmas.{both, as_text}
 use Rattle.tl_fault_map.specs.Records.{record_text}
 use Rattle.tl_fault_map.proofs.ListLemmas.{separated_parts}
 use Rattle.tl_fault_map.proofs.record.print_some.Goals as goal

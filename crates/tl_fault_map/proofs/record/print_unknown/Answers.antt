@@ -1,4 +1,4 @@
-use Rattle.tl_geojson.proofs.PrinterLemmas.{both}
+use Rattle.tl_output.proofs.PrinterLemmas.{both}
 use Rattle.tl_fault_map.proofs.record.print_unknown.Goals as goal
 
 pub returns : goal.returns

@@ -1,5 +1,5 @@
 use Rattle.std.proofs.Common.{◌∙◌, ap, sym, length}
-use Rattle.tl_geojson.proofs.PrinterLemmas.{both}
+use Rattle.tl_output.proofs.PrinterLemmas.{both}
 use Rattle.tl_geojson.proofs.FeatureLemmas.{links_beside}
 use Rattle.tl_geojson.proofs.county.print_front.Goals as goal
 

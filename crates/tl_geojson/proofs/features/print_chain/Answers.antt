@@ -1,5 +1,5 @@
 use Rattle.std.proofs.Common.{arith}
-use Rattle.tl_geojson.proofs.PrinterLemmas.{as_text}
+use Rattle.tl_output.proofs.PrinterLemmas.{as_text}
 use Rattle.tl_geojson.proofs.FeatureLemmas.{feature_of_chain}
 use Rattle.tl_geojson.proofs.features.print_chain.Goals as goal
 

@@ -1,5 +1,5 @@
 use Rattle.tl_geojson.specs.Features.{chain_text}
-use Rattle.tl_geojson.proofs.PrinterLemmas.{both}
+use Rattle.tl_output.proofs.PrinterLemmas.{both}
 use Rattle.tl_geojson.proofs.features.print_line.Goals as goal
 
 pub returns : goal.returns

@@ -1,6 +1,6 @@
 use Rattle.std.proofs.Common.{◌++◌, arith}
 use Rattle.std.specs.Prelude.{codes, decimal, slice_index_or}
-use Rattle.tl_geojson.proofs.PrinterLemmas.{both}
+use Rattle.tl_output.proofs.PrinterLemmas.{both}
 use Rattle.tl_geojson.proofs.GroupLemmas.{one_on, at_end}
 use Rattle.tl_geojson.proofs.polygons.print_more_lands.Goals as goal
 

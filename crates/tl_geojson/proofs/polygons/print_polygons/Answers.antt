@@ -1,6 +1,6 @@
 use Rattle.std.proofs.Common.{arith}
 use Rattle.tl_geojson.specs.Features.{polygon_feature}
-use Rattle.tl_geojson.proofs.PrinterLemmas.{both, as_text}
+use Rattle.tl_output.proofs.PrinterLemmas.{both, as_text}
 use Rattle.tl_geojson.proofs.FeatureLemmas.{one_feature_more}
 use Rattle.tl_geojson.proofs.polygons.print_polygons.Goals as goal
 

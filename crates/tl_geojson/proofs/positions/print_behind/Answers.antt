@@ -1,6 +1,6 @@
 use Rattle.std.proofs.Common.{sym, arith}
 use Rattle.tl_county.specs.Darts.{directed}
-use Rattle.tl_geojson.proofs.PrinterLemmas.{both, as_text}
+use Rattle.tl_output.proofs.PrinterLemmas.{both, as_text}
 use Rattle.tl_geojson.proofs.TextLemmas.{behind_next}
 use Rattle.tl_geojson.proofs.positions.print_behind.Goals as goal
 

@@ -1,6 +1,6 @@
 use Rattle.std.proofs.Common.{◌-◌, ◌≤◌, take, drop}
 use Rattle.tl_county.specs.Darts.{directed}
-use Rattle.tl_geojson.specs.Printing.{Prints}
+use Rattle.tl_output.specs.Printing.{Prints}
 use Rattle.std.specs.List.{flat_map}
 use Rattle.tl_geojson.specs.Positions.{comma_position}
 use Rattle.tl_geojson.proofs.positions.print_behind.Given as goal
@@ -8,5 +8,5 @@ use Rattle.tl_geojson.proofs.positions.print_behind.Given as goal
 abbrev pub invariant-loop-place : goal.invariant-loop-place
 invariant-loop-place g l =
     (1 ≤ l.place)
-    × Prints g.S.Sink.contents g.S.Sink.failure_count l.initial.out l.out l.initial.printer l.printer
+    × Prints g.S.Sink.contents g.S.Sink.failure_count (l.initial.out, l.initial.printer) (l.out, l.printer)
     (flat_map comma_position (take (l.place - 1) (drop 1 (directed l.is_along l.points))))

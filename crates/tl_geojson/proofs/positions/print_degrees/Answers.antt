@@ -1,6 +1,6 @@
 use Rattle.std.proofs.Common.{refl, to_z-of_z}
 use Rattle.tl_geojson.specs.Positions.{degrees_text}
-use Rattle.tl_geojson.proofs.PrinterLemmas.{both, as_text}
+use Rattle.tl_output.proofs.PrinterLemmas.{both, as_text}
 use Rattle.tl_geojson.proofs.positions.print_degrees.Goals as goal
 
 pub returns : goal.returns

@@ -1,4 +1,4 @@
-use Rattle.tl_geojson.proofs.PrinterLemmas.{both, as_text}
+use Rattle.tl_output.proofs.PrinterLemmas.{both, as_text}
 use Rattle.tl_geojson.proofs.TextLemmas.{positions_parts}
 use Rattle.tl_geojson.proofs.positions.print_positions.Goals as goal
 

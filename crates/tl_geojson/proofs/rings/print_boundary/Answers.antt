@@ -3,7 +3,7 @@ use Rattle.std.specs.Int.{w128}
 use Rattle.std.proofs.lemmas.Int.{fits_signed_from_abs}
 use Rattle.tl_geojson.specs.Areas.{doubled_area}
 use Rattle.tl_geojson.specs.Rings.{boundary_text}
-use Rattle.tl_geojson.proofs.PrinterLemmas.{both, as_text}
+use Rattle.tl_output.proofs.PrinterLemmas.{both, as_text}
 use Rattle.tl_geojson.proofs.rings.print_boundary.Goals as goal
 
 pub returns : goal.returns

@@ -1,6 +1,6 @@
 use Rattle.std.proofs.Common.{sym}
 use Rattle.tl_geojson.specs.Rings.{behind_start}
-use Rattle.tl_geojson.proofs.PrinterLemmas.{both, as_text}
+use Rattle.tl_output.proofs.PrinterLemmas.{both, as_text}
 use Rattle.tl_geojson.proofs.TextLemmas.{each_at}
 use Rattle.tl_geojson.proofs.rings.print_darts.Goals as goal
 

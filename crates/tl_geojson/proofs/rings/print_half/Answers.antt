@@ -1,5 +1,5 @@
 use Rattle.std.proofs.Common.{refl, to_z-of_z}
-use Rattle.tl_geojson.proofs.PrinterLemmas.{both, as_text}
+use Rattle.tl_output.proofs.PrinterLemmas.{both, as_text}
 use Rattle.tl_geojson.proofs.rings.print_half.Goals as goal
 
 pub returns : goal.returns

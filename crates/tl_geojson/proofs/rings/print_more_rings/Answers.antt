@@ -2,7 +2,7 @@ use Rattle.std.proofs.Common.{◌++◌, map, arith}
 use Rattle.std.specs.Prelude.{codes}
 use Rattle.tl_sides.specs.Lists.{list_at}
 use Rattle.tl_geojson.specs.Rings.{ring_text}
-use Rattle.tl_geojson.proofs.PrinterLemmas.{both}
+use Rattle.tl_output.proofs.PrinterLemmas.{both}
 use Rattle.tl_geojson.proofs.GroupLemmas.{one_on, at_end}
 use Rattle.tl_geojson.proofs.rings.print_more_rings.Goals as goal
 

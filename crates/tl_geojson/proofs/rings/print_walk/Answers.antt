@@ -1,5 +1,5 @@
 use Rattle.tl_geojson.specs.Rings.{ring_text}
-use Rattle.tl_geojson.proofs.PrinterLemmas.{both, as_text}
+use Rattle.tl_output.proofs.PrinterLemmas.{both, as_text}
 use Rattle.tl_geojson.proofs.RingLemmas.{start_is}
 use Rattle.tl_geojson.proofs.rings.print_walk.Goals as goal
 

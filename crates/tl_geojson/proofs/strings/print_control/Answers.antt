@@ -1,5 +1,5 @@
 use Rattle.std.proofs.Common.{refl}
-use Rattle.tl_geojson.proofs.PrinterLemmas.{both, as_text}
+use Rattle.tl_output.proofs.PrinterLemmas.{both, as_text}
 use Rattle.tl_geojson.proofs.strings.print_control.Goals as goal
 
 pub returns : goal.returns

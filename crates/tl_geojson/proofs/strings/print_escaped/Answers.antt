@@ -1,6 +1,6 @@
 use Rattle.std.proofs.Common.{sym}
 use Rattle.tl_geojson.specs.Strings.{escaped_byte}
-use Rattle.tl_geojson.proofs.PrinterLemmas.{both, as_text}
+use Rattle.tl_output.proofs.PrinterLemmas.{both, as_text}
 use Rattle.tl_geojson.proofs.TextLemmas.{each_at}
 use Rattle.tl_geojson.proofs.strings.print_escaped.Goals as goal
 

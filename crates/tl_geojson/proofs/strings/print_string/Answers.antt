@@ -1,5 +1,5 @@
 use Rattle.tl_geojson.specs.Strings.{string_text}
-use Rattle.tl_geojson.proofs.PrinterLemmas.{both}
+use Rattle.tl_output.proofs.PrinterLemmas.{both}
 use Rattle.tl_geojson.proofs.strings.print_string.Goals as goal
 
 pub returns : goal.returns

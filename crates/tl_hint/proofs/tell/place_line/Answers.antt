@@ -1,6 +1,8 @@
-use Rattle.std.proofs.Common.{map, refl, string_bytes}
+use Rattle.std.proofs.Common.{map, string_bytes}
 use Rattle.tl_record.specs.Layout.{layout_with}
-use Rattle.tl_hint.proofs.HintLemmas.{made_then, failed_then, fails_among, among, hint_within, hint_beyond}
+use Rattle.tl_files.specs.World.{world}
+use Rattle.tl_hint.proofs.HintLemmas.{made_then, failed_then, among, hint_within, hint_beyond}
+use Rattle.tl_hint.proofs.AgainLemmas.{fails_among}
 use Rattle.tl_hint.proofs.tell.place_line.Goals as goal
 
 pub returns-then-place-names-clause-hint : goal.returns-then-place-names-clause-hint
@@ -16,6 +18,6 @@ returns-clause-hint g c =
 pub returns-clause-stops : goal.returns-clause-stops
 returns-clause-stops g c =
     let names = c.args.names.now in
-    let under = g.F.FileSystem.under c.args.files.now in
-    let here = among string_bytes under names c.args.place.text c.index-names-place.result (string_bytes c.index-names-place.result) c.if-place-names.false c.index-names-place.is refl in
-    failed_then _ _ c.line_at.result (fails_among g.F.Reader.Source.failure_count under (map string_bytes names) (string_bytes c.index-names-place.result) here) c.line_at.ensures.stops
+    let w = world g.F.FileSystem.under g.F.FileSystem.log g.F.FileSystem.knows c.args.files.now c.line_at.new.files in
+    let here = among string_bytes names c.args.place.text c.index-names-place.result c.if-place-names.false c.index-names-place.is in
+    failed_then _ _ c.line_at.result (fails_among w (map string_bytes names) (string_bytes c.index-names-place.result) here) c.line_at.ensures.stops

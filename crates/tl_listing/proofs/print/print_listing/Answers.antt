@@ -1,10 +1,5 @@
-use Rattle.std.proofs.Common.{append-nil}
-use Rattle.tl_output.proofs.WritingLemmas.{passes_last, passes_emptied}
-use Rattle.tl_listing.specs.Texts.{listing_text}
+use Rattle.tl_output.proofs.PrinterLemmas.{ends_text}
 use Rattle.tl_listing.proofs.print.print_listing.Goals as goal
 
-pub returns-in-Ok-clause-bytes : goal.returns-in-Ok-clause-bytes
-returns-in-Ok-clause-bytes g c =
-    passes_last c.flush.result _ _ _ _ _ _ _ _ _ (rw c.new-buffer.ensures at c.in-Ok.ensures.bytes)
-    (passes_emptied c.flush.result _ _ _ _ _ c.flush.ensures.empty c.flush.ensures.passes)
-    (append-nil (listing_text c.args.most c.args.listing.now))
+pub returns-clause-prints : goal.returns-clause-prints
+returns-clause-prints g c = ends_text c.finish.result c.new-printer.ensures c.print_lines.ensures c.finish.ensures.prints c.finish.ensures.stop

@@ -1,10 +1,10 @@
 use Rattle.std.proofs.Common.{None, map, string_bytes, subst}
-use Rattle.tl_files.proofs.WorldLemmas.{does_then, does_stop}
-use Rattle.tl_placing.specs.Again.{AgainFails}
+use Rattle.tl_files.proofs.WorldLemmas.{does_so, does_then, does_stop}
 use Rattle.tl_answers.specs.Records.{StopsNever}
 use Rattle.tl_answers.specs.Reading.{text_under}
+use Rattle.tl_files.specs.World.{world}
 use Rattle.tl_lists.specs.Listed.{StopsList, wanted_of}
-use Rattle.tl_lists.proofs.ListLemmas.{does_so, answers_from}
+use Rattle.tl_lists.proofs.ListLemmas.{answers_from, stops_from}
 use Rattle.tl_lists.proofs.listing.list.Goals as goal
 
 pub returns-in_err-found : goal.returns-in_err-found
@@ -25,9 +25,9 @@ returns g c =
     let asked = wanted_of names c.args.wanted in
     let known = text_under u names in
     let first = c.in_ok-found.ensures in
-    let fails = StopsList c.args.options known asked (AgainFails g.F.Reader.Source.failure_count u names) in
+    let fails = StopsList (world g.F.FileSystem.under g.F.FileSystem.log g.F.FileSystem.knows c.args.files.now c.tell_found.new.files) c.args.options known asked in
     does_then u v after l m q k names asked.made _ fails c.in_ok-found.found
     (does_so _ names None _ _ StopsNever fails (λ t so. so) (λ s never. absurd never) _ first)
     _ _ _ c.tell_found.result (c.tell_found.ensures known first.answered)
     (λ answer. answers_from u v after l m q k c.args.options known asked answer.status _ first.keeps)
-    (λ s. subst (λ x. StopsList c.args.options known asked (AgainFails g.F.Reader.Source.failure_count x names) s) first.keeps)
+    (stops_from u v after l m q k c.args.options known asked first.keeps)

@@ -1,31 +1,49 @@
 use Rattle.std.proofs.Common.{[], ℕ, List, Option, map, string_bytes, sym, subst, ap, ◌∙◌}
-use Rattle.std.specs.Prelude.{option_copied}
+use Rattle.std.specs.Prelude.{option_copied, option_map}
 use Rattle.tl_record.specs.Layout.{layout_with}
 use Rattle.tl_county.specs.TheMap.{TheMap}
 use Rattle.tl_verdict.specs.declared.fault.MapFault.{MapFault}
 use Rattle.tl_record_lines.specs.SpokenOf.{chains_of}
 use Rattle.tl_record_lines.specs.Keeping.{held}
 use Rattle.tl_output.specs.declared.stop.Stop.TheVariants.{Memory}
-use Rattle.tl_files.specs.World.{Made, world}
+use Rattle.tl_files.specs.World.{Made, MayMake, world}
+use Rattle.tl_files.specs.declared.beginning.FileKind.TheVariants.{Collection}
 use Rattle.tl_files.proofs.WorldLemmas.{does_fail, does_answer}
-use Rattle.tl_placing.specs.Again.{AreSpoken, AgainFails}
+use Rattle.tl_placing.specs.declared.again.Spoken.{Spoken}
+use Rattle.tl_placing.specs.Again.{AreSpoken}
 use Rattle.tl_fault_map.specs.Texts.{faults_text}
-use Rattle.tl_answers.specs.Records.{StopsNever}
-use Rattle.tl_lists.specs.Listed.{StopsAgain, featured, wanted_of}
+use Rattle.tl_lists.specs.Listed.{featured, wanted_of}
 use Rattle.tl_lists.specs.Keeping.{IsPrepared}
-use Rattle.tl_lists.proofs.ListLemmas.{does_not, does_so, answer_text, answer_status}
+use Rattle.tl_lists.proofs.ListLemmas.{does_not, does_not_read_again, made_behind, answer_text, answer_status}
 use Rattle.tl_lists.proofs.listing.tell_faults.Goals as goal
 
 pub returns-in_err-spoken : goal.returns-in_err-spoken
 returns-in_err-spoken g c =
-    does_not _ _ _ _ _ _ _ c.in_err-spoken.field-0.0 c.in_err-spoken.ensures.stops (λ fails. (sym c.reads_again.ensures ∙ fails.0, fails.1)) c.from_residual.result c.from_residual.ensures.1
+    let w = world g.F.FileSystem.under g.F.FileSystem.log g.F.FileSystem.knows c.args.files.now c.speak_of.new.files in
+    let asked = wanted_of (map string_bytes c.args.names.now) c.args.wanted in
+    does_not_read_again Spoken w asked c.in_err-spoken.ensures.stays _ c.in_err-spoken.field-0.0 (rw c.reads_again.ensures at c.in_err-spoken.ensures.stops) c.in_err-spoken.ensures.logged c.from_residual.result c.from_residual.ensures.1
 
 pub returns-in_err-text : goal.returns-in_err-text
-returns-in_err-text g c = does_not _ _ _ _ _ _ ⊥ Memory tt (λ never. absurd never) c.from_residual-in_err-text.result c.from_residual-in_err-text.ensures.1
+returns-in_err-text g c =
+    let w = world g.F.FileSystem.under g.F.FileSystem.log g.F.FileSystem.knows c.args.files.now c.speak_of.new.files in
+    does_not w c.in_ok-spoken.ensures.stays c.in_ok-spoken.ensures.logged _ _ _ ⊥ Memory tt (λ never. absurd never) c.from_residual-in_err-text.result c.from_residual-in_err-text.ensures.1
+
+pub make_collection-requires : goal.make_collection-requires
+make_collection-requires g c =
+    subst (λ under. MayMake under (option_map string_bytes c.args.wanted.made.now) (map string_bytes c.args.names.now) Collection) (sym c.in_ok-spoken.ensures.stays) c.requires
 
 pub returns-in_err-make_collection : goal.returns-in_err-make_collection
 returns-in_err-make_collection g c =
-    does_fail _ [] _ _ _ c.in_err-make_collection.field-0.0 (does_so _ [] _ _ _ StopsNever _ (λ t so. so) (λ s never. absurd never) _ c.in_err-make_collection.ensures) _
+    let u = g.F.FileSystem.under c.args.files.now in
+    let v = g.F.FileSystem.under c.speak_of.new.files in
+    let after = g.F.FileSystem.under c.make_collection.new.files in
+    let l = g.F.FileSystem.log c.args.files.now in
+    let m = g.F.FileSystem.log c.speak_of.new.files in
+    let q = g.F.FileSystem.log c.make_collection.new.files in
+    let k = g.F.FileSystem.knows in
+    let asked = wanted_of (map string_bytes c.args.names.now) c.args.wanted in
+    does_fail _ [] asked.made _ _ c.in_err-make_collection.field-0.0
+    (made_behind u v after l m q k asked c.in_ok-spoken.ensures.stays c.in_ok-spoken.ensures.logged _ _ c.in_err-make_collection.ensures) _
     c.from_residual-in_err-make_collection.result c.from_residual-in_err-make_collection.ensures.1
 
 pub returns : goal.returns
@@ -39,7 +57,12 @@ returns g c =
     let shown = c.featured-shown.ensures ∙ ap (λ (fs : List MapFault). featured c.args.wanted.told fs) listed in
     let spoken = c.in_ok-spoken.spoken in
     let text = c.in_ok-text.text in
-    let done = does_so w [] asked.made _ _ StopsNever (StopsAgain asked (AgainFails g.F.Reader.Source.failure_count u names)) (λ t so. so) (λ s never. absurd never) _ c.in_ok-make_collection.ensures in
+    let v = g.F.FileSystem.under c.speak_of.new.files in
+    let after = g.F.FileSystem.under c.make_collection.new.files in
+    let l = g.F.FileSystem.log c.args.files.now in
+    let m = g.F.FileSystem.log c.speak_of.new.files in
+    let q = g.F.FileSystem.log c.make_collection.new.files in
+    let done = made_behind u v after l m q g.F.FileSystem.knows asked c.in_ok-spoken.ensures.stays c.in_ok-spoken.ensures.logged _ _ c.in_ok-make_collection.ensures in
     let same = ap (λ (m : Option TheMap). faults_text names spoken.counts.items m (held spoken.lines) c.featured-shown.result.now) drawn
     ∙ ap (λ (fs : List MapFault). faults_text names spoken.counts.items c.args.map (held spoken.lines) fs) shown in
     let prepared = subst (λ (m : Option TheMap). IsPrepared names (chains_of m) spoken c.args.wanted.places c.args.wanted.told c.args.faults.items c.args.points_left text) drawn

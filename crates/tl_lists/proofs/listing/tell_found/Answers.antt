@@ -1,10 +1,11 @@
 use Rattle.std.proofs.Common.{[], map, string_bytes, refl, subst}
 use Rattle.std.proofs.lemmas.Option.{IfSome_then}
 use Rattle.tl_listing.specs.Listings.{IsListingOf}
+use Rattle.tl_files.specs.World.{world}
+use Rattle.tl_files.proofs.WorldLemmas.{does_so}
 use Rattle.tl_answers.specs.Records.{StopsNever}
 use Rattle.tl_lists.specs.Listed.{wanted_of}
-use Rattle.tl_placing.specs.Again.{AgainFails}
-use Rattle.tl_lists.proofs.ListLemmas.{does_so, sound_answers, fault_answers, fault_stops, refused_answers}
+use Rattle.tl_lists.proofs.ListLemmas.{sound_answers, fault_answers, fault_stops, refused_answers}
 use Rattle.tl_lists.proofs.listing.tell_found.Goals as goal
 
 pub returns-in-Sound : goal.returns-in-Sound
@@ -16,13 +17,14 @@ returns-in-Sound g c = λ known are.
 pub returns-in-Refused : goal.returns-in-Refused
 returns-in-Refused g c = λ known are.
     let asked = wanted_of (map string_bytes c.args.names.now) c.args.wanted in
-    rw c.tell_refused.ensures (refused_answers c.args.options known asked (AgainFails g.F.Reader.Source.failure_count (g.F.FileSystem.under c.args.files.now) asked.names) c.in-Refused.list
-    (IfSome_then known are (λ text is. subst (IsListingOf c.args.options text) c.in-Refused.is is.told)) (g.F.FileSystem.under c.args.files.now) (g.F.FileSystem.log c.args.files.now) g.F.FileSystem.knows c.args.wanted.told refl)
+    let w = world g.F.FileSystem.under g.F.FileSystem.log g.F.FileSystem.knows c.args.files.now c.args.files.now in
+    rw c.tell_refused.ensures (refused_answers c.args.options known asked w c.in-Refused.list
+    (IfSome_then known are (λ text is. subst (IsListingOf c.args.options text) c.in-Refused.is is.told)) refl (λ knows. refl) c.args.wanted.told refl)
 
 pub returns-in-Faults : goal.returns-in-Faults
 returns-in-Faults g c = λ known are.
     let asked = wanted_of (map string_bytes c.args.names.now) c.args.wanted in
-    let again = AgainFails g.F.Reader.Source.failure_count (g.F.FileSystem.under c.args.files.now) asked.names in
+    let w = world g.F.FileSystem.under g.F.FileSystem.log g.F.FileSystem.knows c.args.files.now c.tell_faults.new.files in
     does_so _ [] _ _ _ _ _ (fault_answers c.args.options known asked _ c.args.found.map c.in-Faults.faults c.in-Faults.points_left
     (IfSome_then known are (λ text is. record { told = subst (IsListingOf c.args.options text) c.in-Faults.is is.told; drawn = is.drawn })))
-    (fault_stops c.args.options known asked again) _ c.tell_faults.ensures
+    (fault_stops c.args.options known asked w) _ c.tell_faults.ensures

@@ -7,7 +7,7 @@ use Rattle.tl_lists.proofs.ListLemmas.{does_not, no_features}
 use Rattle.tl_lists.proofs.listing.tell_sound.Goals as goal
 
 pub returns-in_err-nothing : goal.returns-in_err-nothing
-returns-in_err-nothing g c = does_not _ _ _ _ _ StopsNever ⊥ Memory tt (λ never. absurd never) c.from_residual.result c.from_residual.ensures.1
+returns-in_err-nothing g c = does_not _ refl (λ known. refl) _ _ StopsNever ⊥ Memory tt (λ never. absurd never) c.from_residual.result c.from_residual.ensures.1
 
 pub returns-in_err-make_collection : goal.returns-in_err-make_collection
 returns-in_err-make_collection g c =

@@ -1,25 +1,7 @@
-use Rattle.std.proofs.Common.{codes, refl}
-use Rattle.std.specs.Prelude.{flat_map}
-use Rattle.std.proofs.lemmas.Result.{err_from_is_err_and}
-use Rattle.tl_svg.specs.Texts.{points_part, polygon_text}
-use Rattle.tl_svg.proofs.PassingLemmas.{lost_first, lost_second, three_pieces}
+use Rattle.tl_output.proofs.PrinterLemmas.{both}
+use Rattle.tl_svg.specs.Texts.{points_part}
 use Rattle.tl_svg.proofs.print.print_points_part.Goals as goal
 
-pub returns-in_err-add-clause-bytes : goal.returns-in_err-add-clause-bytes
+pub returns : goal.returns
 unfolding points_part
-returns-in_err-add-clause-bytes g c =
-    let lost = lost_first _ _ _ (codes "<path class=\"points\" d=\"") (flat_map (polygon_text c.args.frame) c.args.map.now.polygons) (codes "\"/>\n") _ refl c.in_err-add.ensures.passes in
-    let p = err_from_is_err_and c.from_residual.result c.from_residual.ensures.1 in
-    rw p.1 lost
-
-pub returns-in_err-print_points-clause-bytes : goal.returns-in_err-print_points-clause-bytes
-unfolding points_part
-returns-in_err-print_points-clause-bytes g c =
-    let lost = lost_second _ _ _ _ _ (codes "<path class=\"points\" d=\"") (flat_map (polygon_text c.args.frame) c.args.map.now.polygons) (codes "\"/>\n") _ _ refl refl c.in_ok-add.ensures.passes c.in_err-print_points.ensures.bytes in
-    let p = err_from_is_err_and c.from_residual-in_err-print_points.result c.from_residual-in_err-print_points.ensures.1 in
-    rw p.1 lost
-
-pub returns-clause-bytes : goal.returns-clause-bytes
-unfolding points_part
-returns-clause-bytes g c =
-    three_pieces c.add-2.result _ _ _ _ _ _ _ _ (codes "<path class=\"points\" d=\"") (flat_map (polygon_text c.args.frame) c.args.map.now.polygons) (codes "\"/>\n") _ _ _ refl refl refl c.in_ok-add.ensures.passes c.in_ok-print_points.ensures.bytes c.add-2.ensures.passes
+returns g c = both (both c.add.ensures c.print_points.ensures) c.add-2.ensures

@@ -1,6 +1,6 @@
 use Rattle.tl_svg.specs.Texts.{style_text}
 use Rattle.tl_svg.proofs.print.print_style.Goals as goal
 
-pub returns-clause-bytes : goal.returns-clause-bytes
+pub returns : goal.returns
 unfolding style_text
-returns-clause-bytes g c = c.add.ensures.passes
+returns g c = c.add.ensures

@@ -1,51 +1,7 @@
-use Rattle.std.proofs.lemmas.Result.{err_from_is_err_and}
-use Rattle.std.proofs.Common.{◌∷◌, [], ◌∙◌, ap, refl, subst}
-use Rattle.std.specs.Prelude.{codes}
-use Rattle.tl_record.specs.Failures.{one_more}
-use Rattle.tl_output.specs.Writing.{CountsFailure}
-use Rattle.tl_output.proofs.WritingLemmas.{passes_both, passes_some_then, passes_last, counts_err}
-use Rattle.tl_text.specs.Printing.{listed_text, landmark_text}
-use Rattle.tl_text.proofs.PrintingLemmas.{passes_lost}
+use Rattle.tl_output.proofs.PrinterLemmas.{both}
+use Rattle.tl_text.specs.Printing.{landmark_text}
 use Rattle.tl_text.proofs.landmarks.print_landmark.Goals as goal
 
-pub returns-in_err-print_place-clause-bytes : goal.returns-in_err-print_place-clause-bytes
+pub returns : goal.returns
 unfolding landmark_text
-returns-in_err-print_place-clause-bytes g c =
-    let lost = passes_lost _ _ _ _ (codes " polygons" ∷ listed_text c.args.map.now.polygons c.args.landmark.now.polygons.now ∷ codes "\n" ∷ []) (landmark_text c.args.map.now.polygons (record { land = c.args.landmark.now.land; point = c.args.landmark.now.point; polygons = c.args.landmark.now.polygons.now })) c.in_err-print_place.ensures.bytes refl in
-    let p = err_from_is_err_and c.from_residual.result c.from_residual.ensures.1 in
-    rw p.1 lost
-
-pub returns-in_err-add-clause-bytes : goal.returns-in_err-add-clause-bytes
-unfolding landmark_text
-returns-in_err-add-clause-bytes g c =
-    let lost = passes_lost _ _ _ _ (listed_text c.args.map.now.polygons c.args.landmark.now.polygons.now ∷ codes "\n" ∷ []) (landmark_text c.args.map.now.polygons (record { land = c.args.landmark.now.land; point = c.args.landmark.now.point; polygons = c.args.landmark.now.polygons.now })) (passes_some_then _ _ _ _ _ _ _ c.in_ok-print_place.ensures.bytes c.in_err-add.ensures.passes) refl in
-    let p = err_from_is_err_and c.from_residual-in_err-add.result c.from_residual-in_err-add.ensures.1 in
-    rw p.1 lost
-
-pub returns-in_err-print_listed-clause-bytes : goal.returns-in_err-print_listed-clause-bytes
-unfolding landmark_text
-returns-in_err-print_listed-clause-bytes g c =
-    let s2 = passes_both _ _ _ _ _ _ _ _ c.in_ok-print_place.ensures.bytes c.in_ok-add.ensures.passes in
-    let lost = passes_lost _ _ _ _ (codes "\n" ∷ []) (landmark_text c.args.map.now.polygons (record { land = c.args.landmark.now.land; point = c.args.landmark.now.point; polygons = c.args.landmark.now.polygons.now })) (passes_some_then _ _ _ _ _ _ _ s2 c.in_err-print_listed.ensures.bytes) refl in
-    let p = err_from_is_err_and c.from_residual-in_err-print_listed.result c.from_residual-in_err-print_listed.ensures.1 in
-    rw p.1 lost
-
-pub returns-clause-bytes : goal.returns-clause-bytes
-unfolding landmark_text
-returns-clause-bytes g c =
-    let s2 = passes_both _ _ _ _ _ _ _ _ c.in_ok-print_place.ensures.bytes c.in_ok-add.ensures.passes in
-    let s3 = passes_both _ _ _ _ _ _ _ _ s2 c.in_ok-print_listed.ensures.bytes in
-    passes_last c.add-2.result _ _ _ _ _ _ _ _ _ s3 c.add-2.ensures.passes refl
-
-pub returns-in_err-print_place-clause-failures : goal.returns-in_err-print_place-clause-failures
-returns-in_err-print_place-clause-failures g c = counts_err _ _ c.from_residual.result c.from_residual.ensures.0 c.in_err-print_place.ensures.failures
-
-pub returns-in_err-add-clause-failures : goal.returns-in_err-add-clause-failures
-returns-in_err-add-clause-failures g c = counts_err _ _ c.from_residual-in_err-add.result c.from_residual-in_err-add.ensures.0 (c.in_err-add.ensures.failures ∙ ap one_more (c.in_ok-print_place.ensures.failures))
-
-pub returns-in_err-print_listed-clause-failures : goal.returns-in_err-print_listed-clause-failures
-returns-in_err-print_listed-clause-failures g c = counts_err _ _ c.from_residual-in_err-print_listed.result c.from_residual-in_err-print_listed.ensures.0 (c.in_err-print_listed.ensures.failures ∙ ap one_more (c.in_ok-add.ensures.failures ∙ c.in_ok-print_place.ensures.failures))
-
-pub returns-clause-failures : goal.returns-clause-failures
-returns-clause-failures g c =
-    subst (λ old. CountsFailure old (g.S.Sink.failure_count c.add-2.new.out) c.add-2.result) (c.in_ok-print_listed.ensures.failures ∙ c.in_ok-add.ensures.failures ∙ c.in_ok-print_place.ensures.failures) c.add-2.ensures.failures
+returns g c = both (both (both c.print_place.ensures c.add.ensures) c.print_listed.ensures) c.add-2.ensures

@@ -1,10 +1,8 @@
-use Rattle.std.proofs.Common.{◌≡◌, take}
-use Rattle.tl_output.specs.Writing.{PassesOn}
+use Rattle.std.proofs.Common.{take}
+use Rattle.tl_output.specs.Printing.{Prints}
 use Rattle.tl_text.specs.Printing.{landmark_lines}
 use Rattle.tl_text.proofs.landmarks.print_landmarks.Given as goal
 
 abbrev pub invariant-loop-number : goal.invariant-loop-number
 invariant-loop-number g l =
-    PassesOn (g.S.Sink.contents l.initial.out) (g.S.Sink.contents l.out) l.initial.buffer l.buffer
-    (landmark_lines l.map.polygons (take l.number l.map.landmarks))
-    × (g.S.Sink.failure_count l.out ≡ g.S.Sink.failure_count l.initial.out)
+    Prints g.S.Sink.contents g.S.Sink.failure_count (l.initial.out, l.initial.printer) (l.out, l.printer) (landmark_lines l.map.polygons (take l.number l.map.landmarks))

@@ -1,29 +1,16 @@
-use Rattle.std.proofs.lemmas.Result.{err_from_is_err_and}
-use Rattle.std.proofs.Common.{◌≡◌, ◌∷◌, [], ◌+◌, ◌∙◌, take, drop, arith, ap, subst}
+use Rattle.std.proofs.Common.{◌≡◌, take, arith, ap, sym}
 use Rattle.std.proofs.lemmas.List.{take_all}
-use Rattle.tl_output.specs.Writing.{PassesOn}
-use Rattle.tl_output.proofs.WritingLemmas.{passes_both, passes_some_then}
+use Rattle.tl_output.proofs.PrinterLemmas.{both, as_text}
 use Rattle.tl_text.specs.Printing.{polygons_text}
-use Rattle.tl_text.proofs.PrintingLemmas.{passes_lost}
-use Rattle.tl_text.proofs.LandmarkLemmas.{polygons_text-next, polygons_text-split}
+use Rattle.tl_text.proofs.LandmarkLemmas.{polygons_text-next}
 use Rattle.tl_text.proofs.landmarks.print_polygons.Goals as goal
 
 pub loop-number-preserved : goal.loop-number-preserved
-loop-number-preserved g c = (
-  rw (polygons_text-next c.args.map.now.polygons c.args.numbers.now c.loop-number.number-index c.loop-number-test.true)
-      (passes_both _ _ _ _ _ _ _ _ c.loop-number.invariant.0 c.in_ok-print_polygon.ensures.bytes),
-  c.in_ok-print_polygon.ensures.failures ∙ c.loop-number.invariant.1,
-)
+loop-number-preserved g c =
+    as_text (both c.loop-number.invariant c.print_polygon.ensures)
+    (sym (polygons_text-next c.args.map.now.polygons c.args.numbers.now c.loop-number.number-index c.loop-number-test.true))
 
-pub returns-in_err-print_polygon-clause-bytes : goal.returns-in_err-print_polygon-clause-bytes
-returns-in_err-print_polygon-clause-bytes g c =
-    let lost = passes_lost _ _ _ _ (polygons_text c.args.map.now.polygons (drop (c.loop-number.number-index + 1) c.args.numbers.now) ∷ []) (polygons_text c.args.map.now.polygons c.args.numbers.now)
-    (passes_some_then _ _ _ _ _ _ _ c.loop-number.invariant.0 c.in_err-print_polygon.ensures.bytes)
-    (polygons_text-split c.args.map.now.polygons c.args.numbers.now c.loop-number.number-index c.loop-number-test.true) in
-    let p = err_from_is_err_and c.from_residual.result c.from_residual.ensures.1 in
-    rw p.1 lost
-
-pub returns-clause-bytes : goal.returns-clause-bytes
-returns-clause-bytes g c =
+pub returns : goal.returns
+returns g c =
     let all : take c.loop-number.number-index c.args.numbers.now ≡ c.args.numbers.now = take_all _ _ (omega arith) in
-    subst (PassesOn _ _ _ _) (ap (polygons_text c.args.map.now.polygons) all) c.loop-number.invariant.0
+    as_text c.loop-number.invariant (ap (polygons_text c.args.map.now.polygons) all)

@@ -1,7 +1,7 @@
 use Rattle.std.proofs.Common.{inl, map, string_bytes}
 use Rattle.tl_files.specs.World.{world}
 use Rattle.tl_answers.specs.Answers.{IsSaid, said_text}
-use Rattle.tl_answers.specs.Telling.{stream}
+use Rattle.tl_output.specs.Streams.{stream}
 use Rattle.tl_command.specs.Commands.{PlainAnswers, PlainStops, IsPlain}
 use Rattle.tl_command.specs.Running.{streams, terms}
 use Rattle.tl_command.proofs.CommandLemmas.{answered, is_one}

@@ -1,5 +1,4 @@
-use Rattle.tl_output.proofs.TextLemmas.{prints_text}
 use Rattle.tl_draw.proofs.drawing.PictureTextText.print.Goals as goal
 
 pub returns : goal.returns
-returns g c = prints_text g.S.Sink.contents g.S.Sink.failure_count _ _ _ _ _ c.as_printed.ensures c.print_picture.ensures.bytes c.print_picture.ensures.failures
+returns g c = c.print_picture.ensures.prints
