@@ -1,10 +1,10 @@
 -- How files are opened, read and closed.
-use Rattle.std.proofs.Common.{◌≡◌, ◌⊎◌, inl, inr, ℕ, ◌+◌, ◌-◌, ◌^◌, ◌<◌, ◌≤◌, zero, suc, min, Bool, true, false, List, [], ◌∷◌, ◌++◌, map, length, take, drop, get_or, Contains, Option, Some, None, Result, Ok, Err, refl, sym, ap, subst, ◌∙◌, arith, append_assoc, append-nil}
+use Rattle.std.proofs.Common.{◌≡◌, ◌⊎◌, inl, inr, ℕ, ◌+◌, ◌-◌, ◌<◌, zero, suc, Bool, true, false, List, [], ◌∷◌, ◌++◌, map, length, take, Option, None, Result, Ok, Err, refl, sym, ap, subst, ◌∙◌, arith, append-nil}
 use Rattle.std.proofs.Math.Seq.{take-length}
 use Rattle.std.proofs.lemmas.List.{map-append, length-append}
 use Rattle.std.proofs.lemmas.List.Sums.{sum_by_push}
 use Rattle.std.specs.List.{sum_by}
-use Rattle.std.specs.Prelude.{IfOk, IfErr, IsSome, ◌↔◌}
+use Rattle.std.specs.Prelude.{IfOk, IfErr}
 use Rattle.std.specs.Option.{option_map}
 use Rattle.std.specs.Fmt.{option_append}
 use Rattle.std.specs.Result.{IsErrAnd}
@@ -18,7 +18,6 @@ use Rattle.tl_verdict.specs.Records.{TellsEither}
 use Rattle.tl_files.specs.Files.{Under, bytes_under}
 use Rattle.tl_files.specs.Log.{Log, together, with_opened, with_closed}
 use Rattle.tl_files.specs.World.{World, Does, SomeMissing, MayStop}
-use Rattle.tl_files.proofs.WorldLemmas.{may_stop}
 use Rattle.tl_text.proofs.FailureLemmas.{none_failed, none_counted, some_failed}
 use Rattle.tl_answers.specs.Reading.{Closes, text_under}
 

@@ -1,5 +1,5 @@
 -- What is answered of records.
-use Rattle.std.proofs.Common.{◌≡◌, inr, ℕ, List, Option, Result, Ok, Err, refl, sym, subst}
+use Rattle.std.proofs.Common.{◌≡◌, ℕ, List, Option, Ok, refl, sym, subst}
 use Rattle.std.specs.Bool.{⊤}
 use Rattle.std.specs.Option.{IfSome}
 use Rattle.std.specs.Prelude.{IfOk}
@@ -11,7 +11,6 @@ use Rattle.tl_drawn.specs.declared.fault.MapStop.TheVariants as map_stop
 use Rattle.tl_drawn.specs.Reading.{IfFault, StopsReading}
 use Rattle.tl_output.specs.Writing.{line_of}
 use Rattle.tl_verdict.specs.declared.fault.MapFault.{MapFault as TheMapFault}
-use Rattle.tl_verdict.specs.declared.verdict.Verdict.TheVariants.{MapFault}
 use Rattle.tl_verdict.specs.Messages.{map_fault_text}
 use Rattle.tl_verdict.specs.Stops.{unmapped}
 use Rattle.tl_answers.specs.Answers.{TellsRecordFault}

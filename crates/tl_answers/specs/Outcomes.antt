@@ -2,7 +2,6 @@
 -- certificate has one, 3 where a record is refused, 4 where it stopped otherwise, and 64 where the words are no use of a command or no
 -- file may be made.
 use Rattle.std.specs.Prelude.{ℕ, List, ◌++◌, Option, Some, None, codes, decimal}
-use Rattle.tl_verdict.specs.declared.verdict.Report.{Report}
 use Rattle.tl_verdict.specs.declared.verdict.Verdict.{Verdict as TheVerdict}
 use Rattle.tl_verdict.specs.declared.verdict.Verdict.TheVariants.{Sound, MapFault, CertFault}
 use Rattle.tl_verdict.specs.Messages.{report_text, map_fault_text, cert_fault_text}

@@ -1,5 +1,5 @@
 -- How files are opened and closed.
-use Rattle.std.specs.Prelude.{◌≡◌, ◌<◌, ℕ, ◌+◌, false, List, [], ◌∷◌, ◌++◌, take, Option, Result, Ok, Err}
+use Rattle.std.specs.Prelude.{◌≡◌, ◌<◌, ℕ, ◌+◌, false, List, Option}
 use Rattle.tl_text.specs.Joining.{joined_bytes}
 use Rattle.tl_files.specs.Files.{Under, bytes_under}
 use Rattle.tl_files.specs.Log.{Log}

@@ -2,7 +2,7 @@
 --
 -- `layout` is the column table that the records are read by, and `options` what is asked of them; `known` is the text of the record
 -- files, where it is known, and `spelt` that of the certificate.
-use Rattle.std.specs.Prelude.{◌≡◌, ◌↔◌, ◌≤◌, ℕ, Bool, List, Option, None, Some, IfSome, Ok, ⊤}
+use Rattle.std.specs.Prelude.{◌≡◌, ◌↔◌, ◌≤◌, ℕ, Bool, List, Option, None, Some, IfSome, Ok}
 use Rattle.tl_record.specs.declared.stop.Cause.{Cause}
 use Rattle.tl_record.specs.declared.layout.Layout.{Layout}
 use Rattle.tl_record.specs.declared.options.Options.{Options}
@@ -13,7 +13,7 @@ use Rattle.tl_drawn.specs.Faults.{IsTrueOf}
 use Rattle.tl_drawn.specs.Reading.{IsReadFrom, records_in}
 use Rattle.tl_county.specs.TheMap.{TheMap}
 use Rattle.tl_output.specs.declared.stop.Stop.{Stop}
-use Rattle.tl_output.specs.declared.stop.Stop.TheVariants.{Record, Memory, Device, Budget}
+use Rattle.tl_output.specs.declared.stop.Stop.TheVariants.{Record, Budget}
 use Rattle.tl_planar.specs.Planar.{IsPlanar}
 use Rattle.tl_planar.specs.Searching.{meeting_segments, AreBeyond}
 use Rattle.tl_verdict.specs.declared.fault.MapFault.{MapFault as TheMapFault}

@@ -1,6 +1,5 @@
 -- Why no file may be made of a name.
 use Rattle.std.specs.Prelude.{◌≡◌, ℕ, List, codes}
-use Rattle.tl_files.specs.Files.{Under, IsRoom}
 use Rattle.tl_files.specs.declared.beginning.FileKind.{FileKind}
 use Rattle.tl_files.specs.declared.beginning.FileKind.TheVariants.{Certificate, Collection, Picture}
 use Rattle.tl_files.specs.declared.file_system.Room.{Room}

@@ -1,5 +1,5 @@
 -- What becomes of commands.
-use Rattle.std.proofs.Common.{◌≡◌, inl, inr, ℕ, Bool, true, false, List, [], map, Option, Some, None, Result, Ok, Err, refl, sym, ap, subst}
+use Rattle.std.proofs.Common.{◌≡◌, ℕ, Bool, true, false, List, map, Option, Some, None, Result, Ok, Err, refl, sym, subst}
 use Rattle.std.specs.Prelude.{string_bytes, option_map, String, OnOk, is_err}
 use Rattle.std.specs.Global.{Global}
 use Rattle.tl_output.specs.declared.stop.Stop.{Stop}
@@ -18,7 +18,7 @@ use Rattle.tl_files.specs.World.{World, Does, MayMake}
 use Rattle.tl_answers.specs.declared.said.Answer.{Answer}
 use Rattle.tl_answers.specs.declared.said.Said.{Said}
 use Rattle.tl_answers.specs.Answers.{IsSaid}
-use Rattle.tl_command.specs.Commands.{PlainAnswers, PlainStops, IsPlain, is_plain, names_with, names_read, inputs_with, inputs_of, kind_of}
+use Rattle.tl_command.specs.Commands.{PlainAnswers, PlainStops, IsPlain, is_plain, names_with, names_read, inputs_with, kind_of}
 use Rattle.tl_answers.specs.Telling.{Tells}
 use Rattle.tl_command.specs.declared.run.Outcome.{Outcome}
 use Rattle.tl_command.specs.Running.{IsRoomWith, Streams, Terms, IsTold, Answered, stop_in, told_of}

@@ -1,5 +1,5 @@
 -- What becomes of a command: what is told, with which status, and what is done with files.
-use Rattle.std.specs.Prelude.{◌≡◌, ◌⊎◌, ℕ, ◌-◌, Bool, true, false, List, length, Option, Some, None, Result, Ok, Err, codes, option_map, slice_get, string_bytes}
+use Rattle.std.specs.Prelude.{◌≡◌, ◌⊎◌, ℕ, ◌-◌, Bool, true, List, length, Option, Some, None, Result, Ok, Err, codes, option_map, slice_get, string_bytes}
 use Rattle.tl_output.specs.declared.stop.Stop.{Stop}
 use Rattle.tl_output.specs.Stops.{StopsFor}
 use Rattle.tl_output.specs.Writing.{line_of}

@@ -1,7 +1,6 @@
 //! Whether the file that a command makes may be made.
 
-ghost use Rattle.std.specs.Prelude.{◌≡◌, None, IfOk, IfErr, IfSome, map, string_bytes};
-ghost use Rattle.tl_plan.specs.Asked.{made_of};
+ghost use Rattle.std.specs.Prelude.{◌≡◌, IfOk, IfErr, map, string_bytes};
 ghost use Rattle.tl_output.specs.Stops.{StopsFor};
 ghost use Rattle.tl_command.specs.Commands.{kind_of, inputs_of};
 ghost use Rattle.tl_command.specs.Running.{IsRoomFor, IsUnknown};

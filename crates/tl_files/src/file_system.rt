@@ -1,6 +1,6 @@
 //! What a file system does.
 
-ghost use Rattle.std.specs.Prelude.{◌≡◌, ◌≢◌, ℕ, Bool, true, false, is_some, List, [], Option, None, Some};
+ghost use Rattle.std.specs.Prelude.{◌≡◌, ℕ, Bool, true, false, is_some, List, [], Option, None, Some};
 ghost use Rattle.std.specs.Prelude.{IfOk, IfErr, IfSome, IfNone, OnOk, OnErr, map, option_map, string_bytes};
 ghost use Rattle.std.specs.List.{sum_by};
 ghost use Rattle.tl_files.specs.Files.{Under, bytes_under, standing, beside, trouble_of, IsRoom, IsFree, KeepsBut, KeepsEach};

@@ -1,5 +1,5 @@
 -- What the answers say of a map that is sound.
-use Rattle.std.proofs.Common.{◌≡◌, ◌≢◌, ◌↔◌, ◌⊎◌, inl, inr, ℕ, ◌≤◌, ◌<◌, List, Option, Some, None, refl, sym, subst, ◌∙◌, arith}
+use Rattle.std.proofs.Common.{◌≡◌, ◌≢◌, inl, inr, ℕ, ◌≤◌, ◌<◌, List, Option, Some, refl, sym, subst, ◌∙◌, arith}
 use Rattle.std.specs.Option.{IfSome}
 use Rattle.std.proofs.lemmas.Option.{IfSome_then}
 use Rattle.tl_record.specs.declared.options.Options.{Options}
@@ -21,7 +21,7 @@ use Rattle.tl_files.specs.World.{World}
 use Rattle.tl_answers.specs.Answers.{AuditAnswers, CheckAnswers}
 use Rattle.tl_answers.specs.Outcomes.{verdict_status}
 use Rattle.tl_answers.specs.Records.{IsAudited, IsChecked, IsTrueFault, IsDoneWhereSound, StopsCheck}
-use Rattle.tl_making.specs.Building.{AreSoundWith, BuildAnswers, TellsBuilt, TellsFault}
+use Rattle.tl_making.specs.Building.{AreSoundWith, BuildAnswers}
 
 -- ---- the status
 

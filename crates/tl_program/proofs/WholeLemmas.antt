@@ -1,11 +1,9 @@
 -- What the program answers, by what is asked.
-use Rattle.std.proofs.Common.{◌≡◌, inl, inr, ℕ, Bool, true, false, List, map, Option, Some, None, Result, Ok, Err, refl, sym, subst}
+use Rattle.std.proofs.Common.{◌≡◌, ℕ, Bool, true, false, List, Option, Some, None}
 use Rattle.std.specs.Prelude.{string_bytes, option_map, String}
 use Rattle.std.specs.Global.{Global}
 use Rattle.tl_record.specs.declared.options.Options.{Options}
-use Rattle.tl_record.specs.Layout.{layout_with}
 use Rattle.tl_output.specs.declared.stop.Stop.{Stop}
-use Rattle.tl_output.specs.declared.stop.Stop.TheVariants.{Record, Memory, Device, Budget}
 use Rattle.tl_plan.specs.declared.asked.Asked.{Asked}
 use Rattle.tl_plan.specs.declared.asked.Asked.TheVariants.{Show, Landmarks, Locate, Audit, Build, Check, Convert, Export, Draw}
 use Rattle.tl_plan.specs.declared.budget.Told.{Told}

@@ -1,5 +1,5 @@
 -- What the program answers to a command, whichever it is.
-use Rattle.std.specs.Prelude.{ℕ, Bool, true, false, List, Option, Some, None, option_map, string_bytes}
+use Rattle.std.specs.Prelude.{ℕ, false, List, None, option_map, string_bytes}
 use Rattle.tl_record.specs.declared.options.Options.{Options}
 use Rattle.tl_record.specs.Layout.{layout_with}
 use Rattle.tl_output.specs.declared.stop.Stop.{Stop}

@@ -1,4 +1,4 @@
-use Rattle.std.proofs.Common.{◌∷◌, [], ◌∙◌, None, Ok, Err, string_bytes, refl}
+use Rattle.std.proofs.Common.{◌∷◌, [], None, Ok, Err, string_bytes}
 use Rattle.tl_files.specs.Files.{bytes_under}
 use Rattle.tl_files.specs.World.{world}
 use Rattle.tl_files.proofs.WorldLemmas.{does_fail}

@@ -1,4 +1,4 @@
-use Rattle.std.proofs.Common.{◌∙◌, map, string_bytes}
+use Rattle.std.proofs.Common.{◌∙◌, string_bytes}
 use Rattle.tl_answers.proofs.ReadingLemmas.{inputs_under, clear_last}
 use Rattle.tl_answers.proofs.reading.open_inputs.Goals as goal
 

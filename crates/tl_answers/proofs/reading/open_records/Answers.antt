@@ -1,4 +1,4 @@
-use Rattle.std.proofs.Common.{◌∙◌, map, string_bytes}
+use Rattle.std.proofs.Common.{◌∙◌, string_bytes}
 use Rattle.tl_text.proofs.FailureLemmas.{none_counted}
 use Rattle.tl_answers.proofs.ReadingLemmas.{joined_under}
 use Rattle.tl_answers.proofs.reading.open_records.Goals as goal

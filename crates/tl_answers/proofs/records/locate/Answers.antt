@@ -1,4 +1,4 @@
-use Rattle.std.proofs.Common.{◌≡◌, inl, None, Ok, map, string_bytes, refl}
+use Rattle.std.proofs.Common.{inl, None, Ok, map, string_bytes, refl}
 use Rattle.tl_record.specs.Layout.{layout_with}
 use Rattle.tl_files.specs.World.{world}
 use Rattle.tl_files.proofs.WorldLemmas.{does_read, does_run_out}

@@ -1,9 +1,6 @@
-use Rattle.std.proofs.Common.{◌≡◌, inl, inr, ◌∙◌, true, refl, sym, subst}
-use Rattle.std.specs.Prelude.{◌++◌}
-use Rattle.tl_output.specs.Stops.{StopsFor}
+use Rattle.std.proofs.Common.{◌≡◌, inl, inr, true, refl}
 use Rattle.tl_plan.specs.Asked.{made_of}
 use Rattle.tl_files.specs.World.{world}
-use Rattle.tl_output.specs.Streams.{stream}
 use Rattle.tl_command.specs.Commands.{inputs_of, kind_of}
 use Rattle.tl_command.specs.Running.{watched}
 use Rattle.tl_command.proofs.CommandLemmas.{on_ok, refused_name}

@@ -1,4 +1,4 @@
-use Rattle.std.proofs.Common.{◌+◌, ◌∙◌, refl, map, string_bytes}
+use Rattle.std.proofs.Common.{refl, map, string_bytes}
 use Rattle.tl_files.specs.Files.{bytes_under}
 use Rattle.tl_files.specs.World.{SomeMissing}
 use Rattle.tl_output.specs.Stops.{StopsFor}

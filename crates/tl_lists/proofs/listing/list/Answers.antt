@@ -1,4 +1,4 @@
-use Rattle.std.proofs.Common.{None, map, string_bytes, subst}
+use Rattle.std.proofs.Common.{None, map, string_bytes}
 use Rattle.tl_files.proofs.WorldLemmas.{does_so, does_then, does_stop}
 use Rattle.tl_answers.specs.Records.{StopsNever}
 use Rattle.tl_answers.specs.Reading.{text_under}

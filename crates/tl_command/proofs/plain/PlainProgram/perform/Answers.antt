@@ -4,7 +4,7 @@ use Rattle.tl_answers.specs.Answers.{IsSaid, said_text}
 use Rattle.tl_output.specs.Streams.{stream}
 use Rattle.tl_command.specs.Commands.{PlainAnswers, PlainStops, IsPlain}
 use Rattle.tl_command.specs.Running.{streams, terms}
-use Rattle.tl_command.proofs.CommandLemmas.{answered, is_one}
+use Rattle.tl_command.proofs.CommandLemmas.{answered}
 use Rattle.tl_command.proofs.plain.PlainProgram.perform.Goals as goal
 
 pub returns-then-is_plain : goal.returns-then-is_plain

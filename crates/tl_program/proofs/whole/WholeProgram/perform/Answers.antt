@@ -1,12 +1,11 @@
 use Rattle.std.proofs.Common.{◌≡◌, inl, ◌∙◌, false, map, option_map, string_bytes, sym, ap, subst}
 use Rattle.tl_record.specs.Layout.{layout_with}
-use Rattle.tl_plan.specs.declared.asked.Asked.TheVariants.{Audit, Export, Draw}
+use Rattle.tl_plan.specs.declared.asked.Asked.TheVariants.{Audit}
 use Rattle.tl_plan.specs.Asked.{made_of}
 use Rattle.tl_files.specs.World.{Does, world}
 use Rattle.tl_files.proofs.WorldLemmas.{does_so}
 use Rattle.tl_answers.specs.Answers.{IsSaid, said_text}
 use Rattle.tl_answers.specs.Reading.{text_under}
-use Rattle.tl_answers.specs.Records.{StopsRecords}
 use Rattle.tl_output.specs.Streams.{stream}
 use Rattle.tl_command.specs.Commands.{PlainAnswers, PlainStops, is_plain, names_read, names_with}
 use Rattle.tl_command.specs.Running.{streams, terms}
