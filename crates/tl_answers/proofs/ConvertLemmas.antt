@@ -13,7 +13,6 @@ use Rattle.tl_cert.specs.Certificates.{TheCertificate}
 use Rattle.tl_verdict.specs.declared.fault.CertFault.{CertFault}
 use Rattle.tl_verdict.specs.Messages.{cert_fault_text}
 use Rattle.tl_verdict.specs.Stops.{unread}
-use Rattle.tl_files.specs.Log.{Log, with_closed}
 use Rattle.tl_files.specs.World.{World, MayStop, Unmade}
 use Rattle.tl_answers.specs.declared.said.Answer.{Answer}
 use Rattle.tl_answers.specs.declared.said.Said.{Said}
@@ -21,12 +20,7 @@ use Rattle.tl_answers.specs.Answers.{IsReadCertificate, IsConversionOf, IsSaid, 
 use Rattle.tl_answers.specs.declared.outcome.Outcome.TheVariants.{Converted as Conversion}
 use Rattle.tl_cert.specs.Text.{certificate_text}
 use Rattle.tl_files.specs.Files.{StandsUnder}
-use Rattle.tl_answers.specs.Reading.{Closes}
 use Rattle.tl_answers.specs.Records.{StopsNever}
-
--- a certificate was closed
-pub closes_cert : (m q : Log) (count : ℕ) → q ≡ with_closed m count → Closes m q count
-closes_cert m q count is = record { count = count; is = is; none = λ none. none; some = λ some. some }
 
 -- what comes of a text that isn't read on
 read_by : (spelt : Option (List ℕ)) (old new : ℕ) (stop : CertStop) → IfSome spelt (λ held. StopsReading held stop) → TellsCertDevice {T = TheCertificate} old new (Err stop)

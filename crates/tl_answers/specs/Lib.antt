@@ -5,4 +5,3 @@ pub mod Records
 pub mod Answers
 pub mod Telling
 pub mod Rooms
-pub mod Reading

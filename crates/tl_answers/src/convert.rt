@@ -9,14 +9,13 @@ ghost use Rattle.tl_answers.specs.Answers.{ConvertAnswers, IsConversionOf, IsRea
 ghost use Rattle.tl_answers.specs.Records.{StopsNever};
 
 use crate::outcome::{Converted, Outcome};
-use crate::reading::{close_certificate, open_certificate};
 use crate::said::{Answer, Said};
 use std::alloc::Global;
 use std::slice;
 use tl_cert::{Certificate, read_cert, write_cert};
-use tl_files::{FileKind, FileSystem, make_file};
+use tl_files::{FileKind, FileSystem, Reading, make_file};
 use tl_output::{Stop, Text};
-use tl_record::Sink;
+use tl_record::{Sink, Source};
 use tl_verdict::{CertFault, Verdict, fault_of_text};
 
 /// A certificate as a text.
@@ -50,27 +49,33 @@ pub fn convert<F: FileSystem>(
         Does w (string_bytes cert.now ∷ []) (Some (string_bytes made.now))
         (IsSaid (ConvertAnswers w (bytes_under (F.under files.old) (string_bytes cert.now)) (string_bytes made.now))) StopsNever result }
 {
-    match read_certificate(files, alloc, cert)? {
+    match files.read(alloc, &[], Some(cert), &CertificateIn)? {
         Ok(certificate) => make(files, alloc, cert, made, &certificate.to_v2()),
         Err(fault) => Ok(Answer::of(Outcome::Verdict(Verdict::CertFault(fault)))),
     }
 }
 
-// Reads the certificate of a name, or tells the line that no certificate has.
-fn read_certificate<F: FileSystem>(
-    files: &mut F,
-    alloc: Global,
-    cert: &String,
-) -> Result<Result<Certificate, CertFault>, Stop>
-    ensures { Does (world F.under F.log F.knows files.old files.new) (string_bytes cert.now ∷ []) None
-        (IsReadCertificate (bytes_under (F.under files.old) (string_bytes cert.now))) StopsNever result }
-{
-    let mut source = open_certificate(files, alloc, cert)?;
-    let read = read_cert(alloc, &mut source);
-    close_certificate(files, source);
-    match read {
-        Ok(certificate) => Ok(Ok(certificate)),
-        Err(stop) => Ok(Err(fault_of_text(stop)?)),
+// The certificate that a file is which is read by itself, or the line that no certificate has.
+#[derive(Clone, Copy)]
+struct CertificateIn;
+
+impl Reading for CertificateIn {
+    type Answer = Result<Certificate, CertFault>;
+
+    ghost answers = { λ asked known single. IsReadCertificate single };
+
+    ghost stops = { λ asked known single. StopsNever };
+
+    fn read<R: Source, S: Source>(
+        &self,
+        alloc: Global,
+        _joined: &mut R,
+        single: &mut S,
+    ) -> Result<Result<Certificate, CertFault>, Stop> {
+        match read_cert(alloc, single) {
+            Ok(certificate) => Ok(Ok(certificate)),
+            Err(stop) => Ok(Err(fault_of_text(stop)?)),
+        }
     }
 }
 

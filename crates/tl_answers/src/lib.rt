@@ -1,14 +1,12 @@
 //! What each command answers of what it reads, and how that is told: which text, on which output, and with which exit status.
 //!
-//! What is asked of records is a [`reading::Question`]: [`reading::over_records`] opens their files, has it answered, and closes them.
-//! [`records`] answers of records alone, [`deciding`] decides a map by a certificate, and [`convert`] reads one to write it in version 2.
-//! An answer is an [`Answer`](said::Answer), a text and a status, which [`telling`] tells, or why there is none; [`usage`] tells
-//! what is wrong with the words, and [`room`] whether a file may be made. What decides maps with no certificate given stands above,
-//! in `tl_making`, so that this is proved beside it; what lists all that is wrong in `tl_lists`.
+//! What is asked of records is a [`reading::Question`], which [`reading::over_records`] has answered of their files. [`records`] answers
+//! of records alone, and [`convert`] reads a certificate to write it in version 2. An answer is an [`Answer`](said::Answer), a text and a
+//! status, which [`telling`] tells, or why there is none; [`usage`] tells what is wrong with the words, and [`room`] whether a file may
+//! be made. What decides maps stands above, in `tl_making`; what lists all that is wrong in `tl_lists`.
 #![tactic(auto)]
 
 pub mod convert;
-pub mod deciding;
 pub mod outcome;
 pub mod reading;
 pub mod records;

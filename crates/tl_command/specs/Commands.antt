@@ -12,7 +12,7 @@ use Rattle.tl_files.specs.World.{World}
 use Rattle.tl_files.specs.declared.beginning.FileKind.{FileKind}
 use Rattle.tl_files.specs.declared.beginning.FileKind.TheVariants.{Certificate, Collection, Picture}
 use Rattle.tl_answers.specs.Answers.{ShowAnswers, LandmarksAnswers, LocateAnswers, AuditAnswers, CheckAnswers, ConvertAnswers}
-use Rattle.tl_answers.specs.Reading.{text_under}
+use Rattle.tl_files.specs.Reading.{text_under}
 use Rattle.tl_answers.specs.Records.{StopsRecords, StopsCheck, StopsNever}
 use Rattle.tl_making.specs.Building.{BuildAnswers}
 

@@ -7,9 +7,7 @@ ghost use Rattle.tl_command.specs.Commands.{names_read};
 ghost use Rattle.tl_command.specs.Hinting.{Hints, behind};
 
 use std::alloc::{AllocError, Global};
-use std::slice;
-use tl_answers::reading::with_certificate;
-use tl_files::{FileSystem, copy_names};
+use tl_files::{FileSystem, all_names};
 use tl_hint::say_hint;
 use tl_output::Stop;
 use tl_plan::{Asked, Command};
@@ -39,8 +37,8 @@ fn names_of(alloc: Global, command: &Command) -> Result<Vec<String>, AllocError>
     ensures { IfOk result (λ names. map string_bytes names.items ≡ names_read command.now) }
 {
     match &command.asked {
-        Asked::Check { cert, .. } => with_certificate(alloc, command.files.as_slice(), cert),
-        Asked::Convert { cert, .. } => copy_names(alloc, slice::from_ref(cert)),
-        _ => copy_names(alloc, command.files.as_slice()),
+        Asked::Check { cert, .. } => all_names(alloc, command.files.as_slice(), Some(cert)),
+        Asked::Convert { cert, .. } => all_names(alloc, &[], Some(cert)),
+        _ => all_names(alloc, command.files.as_slice(), None),
     }
 }

@@ -6,7 +6,7 @@ ghost use Rattle.tl_files.specs.Files.{IsFree};
 ghost use Rattle.tl_files.specs.World.{Does, world};
 ghost use Rattle.tl_files.specs.declared.beginning.FileKind.TheVariants.{Picture as PictureKind};
 ghost use Rattle.tl_answers.specs.Answers.{IsSaid};
-ghost use Rattle.tl_answers.specs.Reading.{text_under};
+ghost use Rattle.tl_files.specs.Reading.{text_under};
 ghost use Rattle.tl_answers.specs.Records.{StopsNever, StopsRecords};
 ghost use Rattle.tl_svg.specs.Texts.{picture_text};
 ghost use Rattle.tl_draw.specs.Drawing.{DrawAnswers, IsDrawnOf, drawn_of, picture_by};

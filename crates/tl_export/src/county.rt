@@ -8,7 +8,7 @@ ghost use Rattle.tl_files.specs.declared.beginning.FileKind.TheVariants.{Collect
 ghost use Rattle.tl_verdict.specs.Sound.{IsSound};
 ghost use Rattle.tl_sides.specs.Walks.{AreWalks};
 ghost use Rattle.tl_answers.specs.Answers.{IsSaid};
-ghost use Rattle.tl_answers.specs.Reading.{text_under};
+ghost use Rattle.tl_files.specs.Reading.{text_under};
 ghost use Rattle.tl_answers.specs.Records.{StopsNever, StopsRecords};
 ghost use Rattle.tl_export.specs.Exports.{ExportAnswers, IsExportedOf, counts_of};
 

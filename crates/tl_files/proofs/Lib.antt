@@ -5,3 +5,4 @@ pub mod ReadLemmas
 pub mod WordLemmas
 pub mod LookLemmas
 pub mod OpeningLemmas
+pub mod LendingLemmas

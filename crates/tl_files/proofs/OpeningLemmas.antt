@@ -1,14 +1,12 @@
--- Files that are opened together, and closed.
-use Rattle.std.proofs.Common.{◌≡◌, ℕ, ◌+◌, ◌<◌, ◌≤◌, List, [], ◌∷◌, ◌++◌, map, length, drop, get_or, Contains, Option, Some, None, refl, sym, ap, ◌∙◌, arith, append_assoc, append-nil}
+-- Files that are opened together.
+use Rattle.std.proofs.Common.{◌≡◌, ℕ, ◌+◌, ◌<◌, ◌≤◌, List, [], ◌∷◌, ◌++◌, map, length, drop, get_or, Contains, Option, None, refl, sym, ap, ◌∙◌, arith, append_assoc, append-nil}
 use Rattle.std.proofs.lemmas.List.Sums.{sum_by_push}
 use Rattle.std.proofs.lemmas.List.{drop_more, drop_all, map-append, get_or-map, length-map}
 use Rattle.std.specs.List.{sum_by}
-use Rattle.std.specs.Prelude.{IsSome, ◌↔◌}
 use Rattle.tl_output.specs.declared.stop.Stop.{Stop}
 use Rattle.tl_output.specs.declared.stop.Stop.TheVariants.{Record, Memory, Device, Budget}
 use Rattle.tl_output.specs.Stops.{StopsFor}
 use Rattle.tl_files.specs.Files.{Under, bytes_under}
-use Rattle.tl_files.specs.Log.{Log, with_closed}
 use Rattle.tl_files.specs.World.{SomeMissing}
 
 -- ---- what is opened of a list of names: what is told of each file that stands opened, and behind it of those to come
@@ -38,37 +36,6 @@ missing_item f under xs i x Memory lt at may = tt
 missing_item f under xs i x Device lt at may = (f x, among f xs i x lt at, may)
 missing_item f under xs i x Budget lt at may = may
 
--- ---- what is closed
-
 -- no read of one more failed
 pub one_more_clear : {A : Type 0} (f : A → ℕ) (xs grown : List A) (x : A) → grown ≡ xs ++ x ∷ [] → sum_by f xs ≡ 0 → f x ≡ 0 → sum_by f grown ≡ 0
 one_more_clear f xs grown x is clear none = let more = sum_by_push f xs x in ap (sum_by f) is ∙ omega (arith, more, clear, none)
-
--- so many reads failed of those that are closed, and these are left
-abbrev pub ClosesSome : {A : Type 0} → (A → ℕ) → (l m : Log) → (all left : List A) → Type 0
-ClosesSome f l m all left = (count : ℕ) × (m ≡ with_closed l count) × (count + sum_by f left ≡ sum_by f all)
-
-pub closes_none : {A : Type 0} (f : A → ℕ) (l : Log) (all : List A) → ClosesSome f l l all all
-closes_none f l all = (0, ap (λ n. record l { failures = n }) (omega (arith)), omega (arith))
-
-pub closes_one : {A : Type 0} (f : A → ℕ) (l m q : Log) (all left rest : List A) (x : A) → left ≡ rest ++ x ∷ [] → ClosesSome f l m all left → q ≡ with_closed m (f x) → ClosesSome f l q all rest
-closes_one f l m q all left rest x last some is =
-    let more = sum_by_push f rest x in
-    let same = ap (sum_by f) last in
-    let sum = some.2 in (
-      some.0 + f x,
-      is ∙ ap (λ log. with_closed log (f x)) some.1 ∙ ap (λ n. record l { failures = n }) (omega (arith)),
-      omega (arith, more, same, sum),
-    )
-
--- what pop gives nothing of is empty
-pub none_left : {A : Type 0} (left : List A) (n : ℕ) (popped : Option A) → n ≡ length left → IsSome popped ↔ (0 < n) → ((x : A) → popped ≡ Some x → ⊥) → left ≡ []
-none_left [] n popped long variant none = refl
-none_left (x ∷ xs) n None long variant none = absurd (cc (variant.1 (omega (arith, long))))
-none_left (x ∷ xs) n (Some y) long variant none = absurd (none y refl)
-
-pub closes_all : {A : Type 0} (f : A → ℕ) (l q : Log) (all left : List A) → left ≡ [] → ClosesSome f l q all left → q ≡ with_closed l (sum_by f all)
-closes_all f l q all left none some =
-    let last : sum_by f left ≡ 0 = ap (sum_by f) none in
-    let sum = some.2 in
-    some.1 ∙ ap (with_closed l) (omega (arith, sum, last))

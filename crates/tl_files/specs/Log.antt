@@ -3,9 +3,9 @@ use Rattle.std.specs.Prelude.{◌≡◌, ◌⊎◌, ◌<◌, ℕ, ◌+◌, ◌-�
 use Rattle.tl_output.specs.declared.stop.Stop.{Stop}
 use Rattle.tl_output.specs.declared.stop.Stop.TheVariants.{Device}
 
--- the names of the files that were opened, in their order, in one list those that were opened together; how many new files are neither
--- kept nor taken away; how many reads and writes failed of files that are done with; and the file that is read last, where it is to be
--- shown how far reading is
+-- the names of the files that were read, in the order in which they were opened, in one list those that were opened together; how many
+-- new files are neither kept nor taken away; how many reads and writes failed; and the file that is read last, where it is to be shown
+-- how far reading is
 pub record Log : Type 0 where
   pub opened : List (List (List ℕ))
   pub drafts : ℕ
@@ -17,22 +17,17 @@ abbrev pub together : List (List ℕ) → List (List (List ℕ))
 together [] = []
 together (name ∷ names) = (name ∷ names) ∷ []
 
--- files of the names were opened together
+-- files of the names were opened together, read and closed
 abbrev pub with_opened : Log → List (List ℕ) → Log
 with_opened log names = record log { opened = log.opened ++ together names }
 
--- they were, or not all can be opened, and then none is
-abbrev pub after_open : {T : Type 0} → Log → List (List ℕ) → Result T Stop → Log
-after_open log names (Ok files) = with_opened log names
-after_open log names (Err stop) = log
-
--- files were closed of which so many reads had failed
-abbrev pub with_closed : Log → ℕ → Log
-with_closed log failures = record log { failures = log.failures + failures }
+-- so many reads failed
+abbrev pub with_failed : Log → ℕ → Log
+with_failed log failures = record log { failures = log.failures + failures }
 
 -- files were opened once more, read and closed: reads of them failed where a device is told, and nowhere else
 abbrev pub LogsAgain : {T : Type 0} → Log → Log → Result T Stop → Type 0
-LogsAgain before after (Err Device) = (count : ℕ) × (after ≡ with_closed before count)
+LogsAgain before after (Err Device) = (count : ℕ) × (after ≡ with_failed before count)
 LogsAgain before after other = after ≡ before
 
 -- a new file was begun, or none was

@@ -1,19 +1,19 @@
 //! What a file system does.
 
 ghost use Rattle.std.specs.Prelude.{◌≡◌, ℕ, Bool, true, false, is_some, List, [], Option, None, Some};
-ghost use Rattle.std.specs.Prelude.{IfOk, IfErr, IfSome, IfNone, OnOk, OnErr, map, option_map, string_bytes};
-ghost use Rattle.std.specs.List.{sum_by};
-ghost use Rattle.tl_files.specs.Files.{Under, bytes_under, standing, beside, trouble_of, IsRoom, IsFree, KeepsBut, KeepsEach};
-ghost use Rattle.tl_files.specs.Log.{Log, after_open, with_closed, after_draft, with_settled};
-ghost use Rattle.tl_files.specs.World.{SomeMissing};
+ghost use Rattle.std.specs.Prelude.{IfOk, IfErr, IfSome, OnOk, OnErr, map, option_map, string_bytes};
+ghost use Rattle.tl_files.specs.Files.{Under, standing, beside, trouble_of, IsRoom, IsFree, KeepsBut, KeepsEach};
+ghost use Rattle.tl_files.specs.Log.{Log, after_draft, with_settled};
+ghost use Rattle.tl_files.specs.Reading.{DoesAgain, all_names, single_under, text_under};
+ghost use Rattle.tl_files.specs.World.{Does, world};
 ghost use Rattle.tl_files.specs.declared.beginning.FileKind.{FileKind};
 ghost use Rattle.tl_output.specs.Stops.{StopsFor};
 ghost use Rattle.tl_output.specs.Texts.{PrintsText};
 
 use crate::beginning::FileKind;
+use crate::lending::Reading;
 use std::alloc::{AllocError, Global};
 use tl_output::{Stop, Text};
-use tl_record::Source;
 
 /// Whether a file may be made of a name.
 #[derive(Clone, Copy, Debug, PartialEq, Eq)]
@@ -56,9 +56,6 @@ pub trait Draft {
 /// new file stands beside its name until it is kept: what stood under the name stays till then, and no one sees a part of
 /// the new one.
 pub trait FileSystem {
-    /// A file that is read.
-    type Reader: Source + Drop;
-
     /// A new file, which is written.
     type Draft: Draft + Drop;
 
@@ -71,29 +68,35 @@ pub trait FileSystem {
     // Whether it is known what is done, and what the bytes of new files are.
     ghost knows: { Bool };
 
-    /// Opens the files that stand under these names, each once and in their order, so that all are open before the first is read. A
-    /// device fails only where the bytes of one aren't known.
-    fn open(&mut self, alloc: Global, names: &[String]) -> Result<Vec<Self::Reader>, Stop>
-        ensures opened { IfOk result (λ files. map Self.Reader.remaining files.items
-            ≡ map (λ name. bytes_under (under self.old) (string_bytes name)) names.now) }
-        ensures fresh { IfOk result (λ files. sum_by Self.Reader.failure_count files.items ≡ 0) }
-        ensures failed { IfErr result (StopsFor (SomeMissing (under self.old) (map string_bytes names.now))) }
-        ensures stays { under self.new ≡ under self.old }
-        ensures logged { knows ≡ true → log self.new ≡ after_open (log self.old) (map string_bytes names.now) result };
+    /// Opens the files that stand under these names, each once and in their order, and that of `single` behind them, has them read when
+    /// all are open, and closes them. A device fails where the bytes of one aren't known, a read of one failed, or as the reading says.
+    fn read<Q: Reading>(
+        &mut self,
+        alloc: Global,
+        names: &[String],
+        single: Option<&String>,
+        reading: &Q,
+    ) -> Result<Q::Answer, Stop>
+        ensures { let known = text_under (under self.old) (map string_bytes names.now) in
+            let alone = single_under (under self.old) (option_map (λ name. string_bytes name.now) single.entry) in
+            Does (world under log knows self.old self.new)
+            (all_names (map string_bytes names.now) (option_map (λ name. string_bytes name.now) single.entry)) None
+            (Q.answers reading.now known alone) (Q.stops reading.now known alone) result };
 
-    /// The file is done with.
-    fn close(&mut self, file: Self::Reader)
-        ensures stays { under self.new ≡ under self.old }
-        ensures logged { knows ≡ true → log self.new ≡ with_closed (log self.old) (Self.Reader.failure_count file) };
-
-    /// Opens the file that stands under a name once more, where it can be read again from its beginning. `None` says that it
-    /// can't: it is no regular file, as a pipe is none.
-    fn open_again(&self, alloc: Global, name: &str) -> Result<Option<Self::Reader>, Stop>
-        ensures opened { IfOk result (λ again. IfSome again (λ file.
-            Self.Reader.remaining file ≡ bytes_under (under self.now) name.now)) }
-        ensures fresh { IfOk result (λ again. IfSome again (λ file. Self.Reader.failure_count file ≡ 0)) }
-        ensures passing { IfOk result (λ again. IfNone again (under self.now name.now ≡ None)) }
-        ensures failed { IfErr result (StopsFor (bytes_under (under self.now) name.now ≡ None)) };
+    /// The same once more, where each of the files can be read again from its beginning. `None` says that one can't: it is no regular
+    /// file, as a pipe is none.
+    fn read_again<Q: Reading>(
+        &mut self,
+        alloc: Global,
+        names: &[String],
+        single: Option<&String>,
+        reading: &Q,
+    ) -> Result<Option<Q::Answer>, Stop>
+        ensures { let known = text_under (under self.old) (map string_bytes names.now) in
+            let alone = single_under (under self.old) (option_map (λ name. string_bytes name.now) single.entry) in
+            DoesAgain (world under log knows self.old self.new)
+            (all_names (map string_bytes names.now) (option_map (λ name. string_bytes name.now) single.entry))
+            (Q.answers reading.now known alone) (Q.stops reading.now known alone) result };
 
     /// Why the file of a name can't be opened or read, in the system's words, and `None` where it can be. The error is that
     /// memory was refused.

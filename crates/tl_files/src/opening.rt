@@ -1,13 +1,12 @@
-//! Files that are opened together, and closed.
+//! Files that are opened together.
 
-ghost use Rattle.std.specs.Prelude.{◌≡◌, true, IfOk, IfErr, None, map, string_bytes};
+ghost use Rattle.std.specs.Prelude.{◌≡◌, IfOk, IfErr, None, map, string_bytes};
+ghost use Rattle.std.specs.Bool.{OnFalse};
 ghost use Rattle.std.specs.List.{sum_by};
 ghost use Rattle.tl_files.specs.Files.{Under, bytes_under};
-ghost use Rattle.tl_files.specs.Log.{with_closed};
 ghost use Rattle.tl_files.specs.World.{SomeMissing};
 ghost use Rattle.tl_output.specs.Stops.{StopsFor};
 
-use crate::file_system::FileSystem;
 use std::alloc::Global;
 use tl_output::Stop;
 use tl_record::Source;
@@ -24,6 +23,12 @@ pub trait Opener {
     fn open_one(&self, alloc: Global, name: &str) -> Result<Self::Reader, Stop>
         ensures opened { IfOk result (λ file. Self.Reader.remaining file ≡ bytes_under (held self.now) name.now) }
         ensures fresh { IfOk result (λ file. Self.Reader.failure_count file ≡ 0) }
+        ensures failed { IfErr result (StopsFor (bytes_under (held self.now) name.now ≡ None)) };
+
+    /// Whether the file that stands under a name can be read again from its beginning: where it is no regular file it can't, as a pipe
+    /// can't.
+    fn lasts(&self, name: &str) -> Result<bool, Stop>
+        ensures passing { IfOk result (λ lasts. OnFalse lasts (held self.now name.now ≡ None)) }
         ensures failed { IfErr result (StopsFor (bytes_under (held self.now) name.now ≡ None)) };
 }
 
@@ -43,16 +48,4 @@ pub fn open_each<O: Opener>(
         files.push(opener.open_one(alloc, name.as_str())?)?;
     }
     Ok(files)
-}
-
-/// Closes files.
-pub fn close_all<F: FileSystem>(files: &mut F, readers: Vec<F::Reader>)
-    ensures stays { F.under files.new ≡ F.under files.old }
-    ensures logged { F.knows ≡ true → F.log files.new
-        ≡ with_closed (F.log files.old) (sum_by F.Reader.failure_count readers.items) }
-{
-    let mut left = readers;
-    while let Some(reader) = left.pop() {
-        files.close(reader);
-    }
 }

@@ -8,9 +8,10 @@ ghost use Rattle.std.specs.Prelude.{◌≡◌, IfOk};
 
 use crate::beginning::FileKind;
 use crate::file_system::{FileSystem, Room};
+use crate::lending::{Reading, read_each, read_each_again};
 use crate::looking::room_of;
 use crate::new_file::NewFile;
-use crate::opening::{Opener, open_each};
+use crate::opening::Opener;
 use crate::place::{Names, SystemPlace};
 use crate::progress::Progress;
 use crate::reading::{ShownReader, read_through};
@@ -88,11 +89,13 @@ impl<'a, R: Files<File = File> + Clock + Eprint> Opener for SystemFiles<'a, R> {
     fn open_one(&self, alloc: Global, name: &str) -> Result<Meter<ShownReader<'a, File, R>>, Stop> {
         or_stop(self.opened(alloc, name))
     }
+
+    fn lasts(&self, name: &str) -> Result<bool, Stop> {
+        Ok(or_stop(fs::metadata(self.rt, name))?.is_file())
+    }
 }
 
 impl<'a, R: Files<File = File> + Clock + Eprint> FileSystem for SystemFiles<'a, R> {
-    type Reader = Meter<ShownReader<'a, File, R>>;
-
     type Draft = NewFile<SystemPlace<'a, R>, File>;
 
     ghost use Rattle.std.specs.Prelude.{None, false};
@@ -107,25 +110,24 @@ impl<'a, R: Files<File = File> + Clock + Eprint> FileSystem for SystemFiles<'a, 
 
     ghost alike = { λ draft. not_known (file_of draft) };
 
-    fn open(
+    fn read<Q: Reading>(
         &mut self,
         alloc: Global,
         names: &[String],
-    ) -> Result<Vec<Meter<ShownReader<'a, File, R>>>, Stop> {
-        open_each(self, alloc, names)
+        single: Option<&String>,
+        reading: &Q,
+    ) -> Result<Q::Answer, Stop> {
+        read_each(self, alloc, names, single, reading)
     }
 
-    fn close(&mut self, _file: Meter<ShownReader<'a, File, R>>) {}
-
-    fn open_again(
-        &self,
+    fn read_again<Q: Reading>(
+        &mut self,
         alloc: Global,
-        name: &str,
-    ) -> Result<Option<Meter<ShownReader<'a, File, R>>>, Stop> {
-        if !or_stop(fs::metadata(self.rt, name))?.is_file() {
-            return Ok(None);
-        }
-        Ok(Some(self.open_one(alloc, name)?))
+        names: &[String],
+        single: Option<&String>,
+        reading: &Q,
+    ) -> Result<Option<Q::Answer>, Stop> {
+        read_each_again(self, alloc, names, single, reading)
     }
 
     fn trouble(&self, alloc: Global, name: &str) -> Result<Option<String>, AllocError> {

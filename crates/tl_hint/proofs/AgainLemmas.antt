@@ -1,25 +1,40 @@
 -- Files that are read again, by what stands under their names and what is logged.
-use Rattle.std.proofs.Common.{◌≡◌, ℕ, ◌+◌, ◌<◌, ◌≤◌, ◌^◌, Bool, true, false, List, [], ◌∷◌, Option, None, Some, IfSome, Result, Ok, Err, map, get_or, length, Contains, refl, sym, ap, subst, inl, inr, ◌∙◌, arith}
+use Rattle.std.proofs.Common.{◌≡◌, ◌⊎◌, ℕ, ◌+◌, ◌<◌, Bool, true, false, List, [], ◌∷◌, Option, None, Some, IfSome, IfNone, Result, Ok, Err, IfErr, Contains, refl, sym, ap, subst, inl, inr, ◌∙◌, arith}
 use Rattle.std.specs.Result.{IsErrAnd}
 use Rattle.tl_record.specs.Searching.{CountsSkip}
 use Rattle.tl_record.specs.declared.refusal.RefusalStop.{RefusalStop}
 use Rattle.tl_record.specs.declared.refusal.RefusalStop.TheVariants.{Device as ReadFailed, Endless}
 use Rattle.tl_where.specs.Finding.{Answers}
 use Rattle.tl_files.specs.Files.{Under, bytes_under}
-use Rattle.tl_files.specs.Log.{Log, Fails, LogsAgain, with_closed}
-use Rattle.tl_files.specs.World.{World, SomeMissing}
+use Rattle.tl_files.specs.Log.{Log, Fails, LogsAgain}
+use Rattle.tl_files.specs.Reading.{DoesAgain, SomePassing, TellsReads}
+use Rattle.tl_files.specs.World.{World, Failed, SomeMissing}
 use Rattle.tl_output.specs.declared.stop.Stop.{Stop}
 use Rattle.tl_output.specs.declared.stop.Stop.TheVariants.{Record, Memory, Device, Budget}
 use Rattle.tl_output.specs.Stops.{StopsFor}
 use Rattle.tl_output.proofs.StopLemmas.{stops_for}
-use Rattle.tl_hint.specs.Again.{FailsAgain}
-use Rattle.tl_hint.proofs.HintLemmas.{among, only}
+use Rattle.tl_hint.specs.Again.{FailsAgain, HasNoEnd, SomeEndless}
+use Rattle.tl_hint.proofs.HintLemmas.{only}
+
+-- ---- what is read of one file
+
+-- what holds of a text that is known
+pub of_known : {T : Type 0} (holds : List ℕ → T → Type 0) (known : Option (List ℕ)) (value : T) → Answers known holds (Ok value) → IfSome known (λ text. holds text value)
+of_known holds None value given = tt
+of_known holds (Some text) value given = given
+
+-- it is given up where a text has no end
+has_no_end : {T : Type 0} (holds : List ℕ → T → Type 0) (known : Option (List ℕ)) → Answers known holds (Err Endless) → HasNoEnd known
+has_no_end holds None given = tt
+has_no_end holds (Some text) given = given
+
+-- its lines can't be read to their end
+pub unread : {T : Type 0} (holds : List ℕ → T → Type 0) (known : Option (List ℕ)) (joined old new : ℕ) (stop : RefusalStop) → Answers known holds (Err stop) → CountsSkip {T = T} old new (Err stop)
+    → joined ≡ 0 → old ≡ 0 → (0 < joined + new) ⊎ HasNoEnd known
+unread holds known joined old new ReadFailed given counts none fresh = inl (omega (arith, none, fresh, counts))
+unread holds known joined old new Endless given counts none fresh = inr (has_no_end holds known given)
 
 -- ---- the log
-
--- a file was closed of which no read failed
-pub none_closed : (l m q : Log) (count : ℕ) → m ≡ l → q ≡ with_closed m count → count ≡ 0 → q ≡ l
-none_closed l m q count same is none = is ∙ ap (λ log. with_closed log count) same ∙ ap (λ n. record l { failures = n }) (omega (arith, none))
 
 -- nothing was logged
 pub logs_none : {T : Type 0} (l m : Log) (r : Result T Stop) → m ≡ l → LogsAgain l m r
@@ -36,40 +51,47 @@ passed T U l q Memory logs = logs
 passed T U l q Device logs = logs
 passed T U l q Budget logs = logs
 
-pub logs_passed : (T : Type 0) {U : Type 0} (l q : Log) (r : Result U Stop) (stop : Stop) → IsErrAnd r (λ told. told ≡ stop) → LogsAgain {T = T} l q (Err stop) → LogsAgain l q r
-logs_passed T l q (Ok done) stop is logs = absurd is
-logs_passed T {U} l q (Err told) stop is logs = passed T U l q told (subst (λ (s : Stop). LogsAgain {T = T} l q (Err s)) (sym is) logs)
-
--- a read failed of a file that was closed
-pub fails_closed : (k : Bool) (l m q : Log) (count : ℕ) → (k ≡ true → m ≡ l) → (k ≡ true → q ≡ with_closed m count) → 0 < count → Fails k l q
-fails_closed false l m q count same is some = inl refl
-fails_closed true l m q count same is some =
-    let before = ap (λ (log : Log). log.failures) (same refl) in
-    let behind = ap (λ (log : Log). log.failures) (is refl) in
-    inr (omega (arith, before, behind, some))
+pub logs_passed : (T : Type 0) {U : Type 0} (l m q : Log) (r : Result U Stop) (stop : Stop) → IsErrAnd r (λ told. told ≡ stop) → m ≡ l → LogsAgain {T = T} m q (Err stop) → LogsAgain l q r
+logs_passed T l m q (Ok done) stop is same logs = absurd is
+logs_passed T {U} l m q (Err told) stop is same logs =
+    passed T U l q told (subst (λ (from : Log). LogsAgain {T = T} from q (Err told)) same (subst (λ (s : Stop). LogsAgain {T = T} m q (Err s)) (sym is) logs))
 
 -- ---- why files can't be read again
 
--- one of the files may not be opened
-pub missing_again : (w : World) (now : Under) (names : List (List ℕ)) (why : Stop) → now ≡ w.before → StopsFor (SomeMissing now names) why → StopsFor (FailsAgain w names) why
-missing_again w now names why stays = stops_for _ _ why (λ missing. inl (inl (subst (λ (under : Under). SomeMissing under names) stays missing)))
+-- why nothing is answered
+pub stops_again : {T : Type 0} (w : World) (names : List (List ℕ)) (answers : T → Type 0) (other : Type 0) (stop : Stop) → DoesAgain w names answers (StopsFor other) (Err stop) → StopsFor (Failed w names ⊎ other) stop
+stops_again w names answers other (Record line cause) does = does.told.stopped
+stops_again w names answers other Memory does = tt
+stops_again w names answers other Device does = does.told.device refl
+stops_again w names answers other Budget does = does.told.stopped
 
--- it is given up where a text has no end
-has_no_end : {T : Type 0} (holds : List ℕ → T → Type 0) (known : Option (List ℕ)) → Answers known holds (Err Endless) → IfSome known (λ text. 2 ^ 64 ≤ length text + 1)
-has_no_end holds None given = tt
-has_no_end holds (Some text) given = given
+-- so it is of one file
+fails_one : (w : World) (name : List ℕ) → Failed w (name ∷ []) ⊎ HasNoEnd (bytes_under w.before name) → FailsAgain w (name ∷ [])
+fails_one w name (inl failed) = inl failed
+fails_one w name (inr endless) = inr (name, (0, omega arith, refl), endless)
 
-module _ {A : Type 0} (h : A → List ℕ) (names : List A) (i : ℕ) (name : A) (told : List ℕ) (within : i < length names) (is : name ≡ get_or names i name) (said : told ≡ h name) where
-  -- its lines can't be read to their end
-  pub unread : {T : Type 0} (w : World) (m : Log) (old count : ℕ) (holds : List ℕ → T → Type 0) (known : Option (List ℕ)) (stop : RefusalStop)
-      → known ≡ bytes_under w.before told → Answers known holds (Err stop) → CountsSkip {T = T} old count (Err stop) → old ≡ 0 → (w.knows ≡ true → m ≡ w.log) → (w.knows ≡ true → w.logged ≡ with_closed m count)
-      → FailsAgain w (map h names)
-  unread w m old count holds known ReadFailed is_text given counts fresh same closed = inl (inr (fails_closed w.knows w.log m w.logged count same closed (omega (arith, counts, fresh))))
-  unread w m old count holds known Endless is_text given counts fresh same closed =
-      inr (h name, among h names i name within is, subst (λ (text : Option (List ℕ)). IfSome text (λ t. 2 ^ 64 ≤ length t + 1)) (is_text ∙ ap (bytes_under w.before) said) (has_no_end holds known given))
+pub stops_one : {T : Type 0} (w : World) (name : List ℕ) (answers : T → Type 0) (stop : Stop) → DoesAgain w (name ∷ []) answers (StopsFor (HasNoEnd (bytes_under w.before name))) (Err stop)
+    → StopsFor (FailsAgain w (name ∷ [])) stop
+stops_one w name answers stop does = stops_for _ _ stop (fails_one w name) (stops_again w (name ∷ []) answers _ stop does)
 
 -- what fails of one of the names fails of them
 pub fails_among : (w : World) (names : List (List ℕ)) (name : List ℕ) → Contains names name → FailsAgain w (name ∷ []) → FailsAgain w names
 fails_among w names name here (inl (inl missing)) = inl (inl (missing.0, subst (Contains names) (only name missing.0 missing.1) here, missing.2))
 fails_among w names name here (inl (inr fails)) = inl (inr fails)
 fails_among w names name here (inr endless) = inr (endless.0, subst (Contains names) (only name endless.0 endless.1) here, endless.2)
+
+-- it failed behind what was read well
+fails_from : (k : Bool) (l m q : Log) → (k ≡ true → m ≡ l) → Fails k m q → Fails k l q
+fails_from k l m q same (inl unknown) = inl unknown
+fails_from false l m q same (inr more) = inl refl
+fails_from true l m q same (inr more) = inr (subst (λ (log : Log). log.failures < q.failures) (same refl) more)
+
+pub fails_behind : (u v after : Under) (l m q : Log) (k : Bool) (names : List (List ℕ)) → v ≡ u → (k ≡ true → m ≡ l)
+    → FailsAgain (record { before = v; after = after; log = m; logged = q; knows = k }) names → FailsAgain (record { before = u; after = after; log = l; logged = q; knows = k }) names
+fails_behind u v after l m q k names stays same (inl (inl missing)) = inl (inl (subst (λ (under : Under). SomeMissing under names) stays missing))
+fails_behind u v after l m q k names stays same (inl (inr fails)) = inl (inr (fails_from k l m q same fails))
+fails_behind u v after l m q k names stays same (inr endless) = inr (subst (λ (under : Under). SomeEndless under names) stays endless)
+
+-- the file of a name can be read but once
+pub passing_one : (under : Under) (name : List ℕ) → SomePassing under (name ∷ []) → under name ≡ None
+passing_one under name passing = ap under (only name passing.0 passing.1) ∙ passing.2

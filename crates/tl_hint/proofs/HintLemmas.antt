@@ -6,7 +6,6 @@ use Rattle.std.specs.Io.KnownBytes.{Appends}
 use Rattle.tl_record.specs.declared.layout.Layout.{Layout}
 use Rattle.tl_record.specs.declared.stop.Cause.{Cause}
 use Rattle.tl_where.specs.LinePlaces.{line_count, place_of}
-use Rattle.tl_where.specs.Finding.{Answers, IsCount}
 use Rattle.tl_files.specs.Files.{Under, bytes_under, trouble_of}
 use Rattle.tl_output.specs.declared.stop.Stop.{Stop}
 use Rattle.tl_output.specs.declared.stop.Stop.TheVariants.{Record, Memory, Device, Budget}
@@ -77,6 +76,17 @@ module _ {A : Type 0} (h : A → List ℕ) (under : Under) where
       let unknown : under (h name) ≡ None = ap under (sym said) ∙ none in
       let wrong = rw unknown at text in absurd (let no = wrong in cc)
 
+-- of files whose bytes are known none can be read but once
+pub none_passing : (under : Under) (names texts : List (List ℕ)) (name : List ℕ) (i : ℕ) → i < length names → get_or names i name ≡ name → under name ≡ None → HaveTexts under names texts → ⊥
+none_passing under [] texts name i within is none have = absurd (omega arith)
+none_passing under (first ∷ names) [] name i within is none have = let wrong = have in absurd (cc)
+none_passing under (first ∷ names) (text ∷ texts) name zero within is none have =
+    let head : bytes_under under first ≡ Some text = let all = have in cc in
+    let unknown : under first ≡ None = ap under is ∙ none in
+    let wrong = rw unknown at head in absurd (let no = wrong in cc)
+none_passing under (first ∷ names) (text ∷ texts) name (suc i) within is none have =
+    let rest : HaveTexts under names texts = let all = have in cc in none_passing under names texts name i (omega arith) is none rest
+
 named : {A : Type 0} (h : A → List ℕ) (names : List A) (i : ℕ) (name : A) → i < length names → name ≡ get_or names i name → get_or (map h names) i [] ≡ h name
 named h [] i name within is = absurd (omega arith)
 named h (first ∷ names) zero name within is = ap h (sym is)
@@ -99,7 +109,7 @@ only name other there = only_at name other there.0 there.1 there.2
 
 -- one text more was counted
 pub counts_more : (texts : List (List ℕ)) (i : ℕ) (counts grown : List ℕ) (count : ℕ) (known : Option (List ℕ)) → i < length texts → known ≡ Some (get_or texts i [])
-    → Answers known IsCount (Ok count) → grown ≡ counts ++ count ∷ [] → counts ++ map line_count (drop i texts) ≡ map line_count texts
+    → IfSome known (λ text. count ≡ line_count text) → grown ≡ counts ++ count ∷ [] → counts ++ map line_count (drop i texts) ≡ map line_count texts
     → grown ++ map line_count (drop (i + 1) texts) ≡ map line_count texts
 counts_more texts i counts grown count known within is counted pushed before =
     let same : count ≡ line_count (get_or texts i []) = rw is at counted in

@@ -8,5 +8,5 @@ mod again;
 mod shown;
 mod tell;
 
-pub use again::{count_all, open_again};
+pub use again::count_all;
 pub use tell::say_hint;

@@ -1,6 +1,6 @@
 //! What is said behind a stop.
 
-ghost use Rattle.std.specs.Prelude.{◌≡◌, ℕ, true, List, [], ◌∷◌, Some, OnOk, OnErr, IfOk, IfErr, map, string_bytes};
+ghost use Rattle.std.specs.Prelude.{◌≡◌, ℕ, true, List, [], ◌∷◌, Some, OnOk, OnErr, IfOk, IfErr, IfSome, map, string_bytes};
 ghost use Rattle.tl_record.specs.Layout.{layout_with};
 ghost use Rattle.tl_output.specs.Stops.{StopsFor};
 ghost use Rattle.tl_output.specs.Writing.{line_of};
@@ -8,7 +8,7 @@ ghost use Rattle.tl_files.specs.Files.{bytes_under};
 ghost use Rattle.tl_files.specs.Log.{LogsAgain};
 ghost use Rattle.tl_files.specs.World.{world};
 ghost use Rattle.tl_where.specs.LinePlaces.{place_pair};
-ghost use Rattle.tl_hint.specs.Again.{FailsAgain};
+ghost use Rattle.tl_hint.specs.Again.{FailsAgain, HasNoEnd};
 ghost use Rattle.tl_hint.specs.Telling.{HaveTexts, TellsHint, TellsRefusal, TellsTrouble};
 ghost use Rattle.tl_output.specs.Streams.{Tries, stream};
 ghost use Rattle.tl_hint.specs.Hints.{hint_at, hint_in, trouble_text};
@@ -16,9 +16,9 @@ ghost use Rattle.tl_hint.specs.Hints.{hint_at, hint_in, trouble_text};
 use crate::again::count_all;
 use crate::shown::push_place;
 use std::alloc::{AllocError, Global};
-use tl_files::FileSystem;
+use tl_files::{FileSystem, Reading};
 use tl_output::{Stop, write_all};
-use tl_record::{Cause, LineBuffer, Options, Sink};
+use tl_record::{Cause, LineBuffer, Options, Sink, Source};
 use tl_where::{Found, TextLine, find_line, place_of};
 
 /// Says behind a stop of a command, which read the files of these names, what helps: behind a refused line in which file it
@@ -158,21 +158,59 @@ fn line_at<F: FileSystem>(
     ensures stays { F.under files.new ≡ F.under files.old }
     ensures logged { F.knows ≡ true → LogsAgain (F.log files.old) (F.log files.new) result }
 {
-    let mut text = Vec::new(alloc);
-    let Some(mut file) = files.open_again(alloc, name.as_str())? else {
-        return Ok(text);
+    let line = RefusedLine {
+        name,
+        options,
+        number,
+        cause,
     };
-    let mut buffer = LineBuffer::new();
-    let found = find_line(&mut buffer, &mut file, number);
-    files.close(file);
-    match found {
-        Ok(Found::Line { len, .. }) => {
-            let line = &buffer.bytes()[..len];
-            push_place(&mut text, name.as_str(), number, line, options, cause)?;
-            text.extend_from_slice(b"\n")?;
-            Ok(text)
+    match files.read_again(alloc, &[], Some(name), &line)? {
+        Some(text) => Ok(text),
+        None => Ok(Vec::new(alloc)),
+    }
+}
+
+// The line of a refused line of the file of a name, which is read by itself.
+#[derive(Clone, Copy)]
+struct RefusedLine<'a> {
+    name: &'a String,
+    options: Options,
+    number: u64,
+    cause: Cause,
+}
+
+impl Reading for RefusedLine<'_> {
+    type Answer = Vec<u8>;
+
+    ghost answers = { λ asked known single text. IfSome single (λ held.
+        text.items ≡ hint_in (layout_with asked.options) (string_bytes asked.name.now) held asked.cause asked.number) };
+
+    ghost stops = { λ asked known single. StopsFor (HasNoEnd single) };
+
+    fn read<R: Source, S: Source>(
+        &self,
+        alloc: Global,
+        _joined: &mut R,
+        single: &mut S,
+    ) -> Result<Vec<u8>, Stop> {
+        let mut text = Vec::new(alloc);
+        let mut buffer = LineBuffer::new();
+        match find_line(&mut buffer, single, self.number) {
+            Ok(Found::Line { len, .. }) => {
+                let line = &buffer.bytes()[..len];
+                push_place(
+                    &mut text,
+                    self.name.as_str(),
+                    self.number,
+                    line,
+                    self.options,
+                    self.cause,
+                )?;
+                text.extend_from_slice(b"\n")?;
+                Ok(text)
+            }
+            Ok(Found::Missing) => Ok(text),
+            Err(_) => Err(Stop::Device),
         }
-        Ok(Found::Missing) => Ok(text),
-        Err(_) => Err(Stop::Device),
     }
 }

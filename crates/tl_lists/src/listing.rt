@@ -6,7 +6,7 @@ ghost use Rattle.tl_record.specs.Layout.{layout_with};
 ghost use Rattle.tl_all_faults.specs.Findings.{AreFindingsOf};
 ghost use Rattle.tl_files.specs.World.{Does, MayMake, world};
 ghost use Rattle.tl_files.specs.declared.beginning.FileKind.TheVariants.{Collection};
-ghost use Rattle.tl_answers.specs.Reading.{text_under};
+ghost use Rattle.tl_files.specs.Reading.{text_under};
 ghost use Rattle.tl_answers.specs.Records.{StopsNever};
 ghost use Rattle.tl_lists.specs.Listed.{ListAnswers, IsSoundList, IsFaultList, StopsList, StopsAgain, listed_text, reads_again, wanted_of};
 ghost use Rattle.tl_lists.specs.Keeping.{first_stop, faults_answer, most_of, refused_list};

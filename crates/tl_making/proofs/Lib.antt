@@ -2,3 +2,4 @@
 pub mod AuditLemmas
 pub mod BuildLemmas
 pub mod LawLemmas
+pub mod CheckLemmas

@@ -4,7 +4,7 @@ ghost use Rattle.std.specs.Prelude.{None, map, string_bytes};
 ghost use Rattle.tl_record.specs.Layout.{layout_with};
 ghost use Rattle.tl_files.specs.World.{Does, world};
 ghost use Rattle.tl_answers.specs.Answers.{AuditAnswers, IsSaid};
-ghost use Rattle.tl_answers.specs.Reading.{text_under};
+ghost use Rattle.tl_files.specs.Reading.{text_under};
 ghost use Rattle.tl_answers.specs.Records.{IsAudited, StopsRecords};
 
 use std::alloc::Global;

@@ -8,7 +8,7 @@ ghost use Rattle.tl_files.specs.declared.beginning.FileKind.TheVariants.{Certifi
 ghost use Rattle.tl_verdict.specs.Sound.{IsSoundFor};
 ghost use Rattle.tl_verdict.specs.Valid.{IsValid};
 ghost use Rattle.tl_answers.specs.Answers.{IsSaid};
-ghost use Rattle.tl_answers.specs.Reading.{text_under};
+ghost use Rattle.tl_files.specs.Reading.{text_under};
 ghost use Rattle.tl_answers.specs.Records.{StopsNever, StopsRecords};
 ghost use Rattle.tl_making.specs.Building.{BuildAnswers, IsBuildOf};
 

@@ -1,9 +1,10 @@
-//! What is decided of records with no certificate given, and the certificate that is made of them.
+//! What is decided of maps, and the certificate that is made of one.
 //!
-//! [`auditing`] decides whether their map is sound, and [`building`] makes a certificate of one that is. [`laws`] says of these and of a
-//! check that they decide, and that what was built passes.
+//! [`deciding`] decides whether a map is sound by a certificate, [`auditing`] with none given, and [`building`] makes one of a map that
+//! is. [`laws`] says of these that they decide, and that what was built passes.
 #![tactic(auto)]
 
 pub mod auditing;
 pub mod building;
+pub mod deciding;
 pub mod laws;

@@ -11,8 +11,8 @@ use std::collections::VecDeque;
 use std::io;
 use std::io::{ErrorKind, Read, Write};
 use tl_files::{
-    FileKind, FileSystem, Lookup, Opener, Room, Seen, Spot, copy_names, name_beside, open_each,
-    room_of,
+    FileKind, FileSystem, Lookup, Opener, Reading, Room, Seen, Spot, all_names, name_beside,
+    read_each, read_each_again, room_of,
 };
 use tl_output::{Stop, Text};
 use tl_record::{Sink, Source};
@@ -30,7 +30,7 @@ pub struct Stored {
 pub struct FilesInMemory {
     alloc: Global,
     files: Vec<Stored>,
-    // The names of the files that were opened, in one list those that were opened together.
+    // The names of the files that were read, in one list those that were opened together.
     opened: Vec<Vec<String>>,
     // How many new files are neither kept nor taken away.
     drafts: u64,
@@ -40,7 +40,7 @@ pub struct FilesInMemory {
 
 impl FilesInMemory {
     ghost use Rattle.tl_files.specs.Files.{bytes_under};
-    ghost use Rattle.tl_files.specs.Log.{nothing_done};
+    ghost use Rattle.tl_files.specs.Log.{nothing_done, with_opened};
 
     /// No file, and nothing was done.
     pub fn new(alloc: Global) -> FilesInMemory
@@ -70,6 +70,19 @@ impl FilesInMemory {
             ≡ ⟦<FilesInMemory as FileSystem>⟧.log self.old }
     {
         self.files.push(Stored { name, bytes })?;
+        Ok(())
+    }
+
+    // Logs the names of files that are opened together.
+    fn log_names(&mut self, names: Vec<String>) -> Result<(), AllocError>
+        ensures files { self.new.files ≡ self.old.files }
+        ensures logged { OnOk result (⟦<FilesInMemory as FileSystem>⟧.log self.new
+            ≡ with_opened (⟦<FilesInMemory as FileSystem>⟧.log self.old) (map string_bytes names.items)) }
+        ensures failed { OnErr result (⟦<FilesInMemory as FileSystem>⟧.log self.new ≡ ⟦<FilesInMemory as FileSystem>⟧.log self.old) }
+    {
+        if !names.is_empty() {
+            self.opened.push(names)?;
+        }
         Ok(())
     }
 
@@ -194,11 +207,13 @@ impl Opener for FilesInMemory {
     fn open_one(&self, alloc: Global, name: &str) -> Result<Held, Stop> {
         held_of(self.bytes(name), alloc)
     }
+
+    fn lasts(&self, _name: &str) -> Result<bool, Stop> {
+        Ok(true)
+    }
 }
 
 impl FileSystem for FilesInMemory {
-    type Reader = Held;
-
     type Draft = Draft;
 
     ghost use Rattle.std.specs.Prelude.{Some, true, refl, map, option_map, string_bytes};
@@ -217,18 +232,25 @@ impl FileSystem for FilesInMemory {
 
     ghost alike = { λ draft. refl };
 
-    fn open(&mut self, alloc: Global, names: &[String]) -> Result<Vec<Held>, Stop> {
-        let files = open_each(self, alloc, names)?;
-        if !names.is_empty() {
-            self.opened.push(copy_names(alloc, names)?)?;
-        }
-        Ok(files)
+    fn read<Q: Reading>(
+        &mut self,
+        alloc: Global,
+        names: &[String],
+        single: Option<&String>,
+        reading: &Q,
+    ) -> Result<Q::Answer, Stop> {
+        self.log_names(all_names(alloc, names, single)?)?;
+        read_each(self, alloc, names, single, reading)
     }
 
-    fn close(&mut self, _file: Held) {}
-
-    fn open_again(&self, alloc: Global, name: &str) -> Result<Option<Held>, Stop> {
-        Ok(Some(self.open_one(alloc, name)?))
+    fn read_again<Q: Reading>(
+        &mut self,
+        alloc: Global,
+        names: &[String],
+        single: Option<&String>,
+        reading: &Q,
+    ) -> Result<Option<Q::Answer>, Stop> {
+        read_each_again(self, alloc, names, single, reading)
     }
 
     fn trouble(&self, alloc: Global, name: &str) -> Result<Option<String>, AllocError> {

@@ -1,18 +1,19 @@
--- Lines that are held are those of the text, and what is logged of the files that they are read from.
-use Rattle.std.proofs.Common.{◌≡◌, ◌∙◌, ℕ, zero, suc, ◌<◌, Bool, true, List, [], ◌∷◌, ◌++◌, Option, None, Some, IfSome, Err, length, take, slice_get, refl, ap, subst, inl, inr, arith}
-use Rattle.std.specs.Prelude.{⊤}
-use Rattle.std.specs.List.{sum_by}
-use Rattle.tl_text.specs.Joining.{failures_of}
-use Rattle.tl_text.proofs.FailureLemmas.{none_failed, none_counted, some_failed}
-use Rattle.tl_files.specs.Log.{Log, LogsAgain, with_closed}
-use Rattle.tl_files.specs.World.{World}
+-- Lines that are held are those of the text, which is that of the files that are read again.
+use Rattle.std.proofs.Common.{◌≡◌, ◌∙◌, ◌⊎◌, ℕ, zero, suc, Bool, List, [], ◌∷◌, ◌++◌, Option, None, Some, IfSome, Result, Ok, Err, IfOk, IfErr, length, take, slice_get, refl, ap, subst, inl, inr}
+use Rattle.std.specs.Prelude.{IsSomeAnd}
+use Rattle.tl_text.specs.Joining.{joined}
+use Rattle.tl_text.proofs.JoiningLemmas.{joined_bytes-known}
+use Rattle.tl_files.specs.Files.{bytes_under}
+use Rattle.tl_files.specs.Reading.{DoesAgain, text_under}
+use Rattle.tl_files.specs.World.{World, Failed}
 use Rattle.tl_output.specs.declared.stop.Stop.{Stop}
-use Rattle.tl_output.specs.declared.stop.Stop.TheVariants.{Record as RecordStop, Memory, Device, Budget}
-use Rattle.tl_output.specs.Stops.{StopsFor, TellsDevice}
+use Rattle.tl_output.specs.Stops.{StopsFor}
+use Rattle.tl_output.proofs.StopLemmas.{stops_for}
 use Rattle.tl_hint.specs.Again.{FailsAgain}
-use Rattle.tl_hint.proofs.AgainLemmas.{none_closed, fails_closed}
+use Rattle.tl_hint.specs.Telling.{HaveTexts}
+use Rattle.tl_hint.proofs.HintLemmas.{none_passing}
+use Rattle.tl_hint.proofs.AgainLemmas.{stops_again}
 use Rattle.tl_record.specs.declared.record.Record.{Record}
-use Rattle.tl_record.specs.Failures.{one_more}
 use Rattle.tl_county.specs.TheMap.{MapChain}
 use Rattle.tl_verdict.specs.declared.fault.MapFault.{MapFault}
 use Rattle.tl_faces.specs.declared.fault.FaceFault.TheVariants.{Facing, Outward}
@@ -76,35 +77,22 @@ module _ (names : List (List ℕ)) (counts : List ℕ) (chains : List MapChain) 
   same_text told faults points_left holds =
       ap (λ (l : List ℕ). l ++ end_text told (length faults) points_left) (same_faults (chosen told faults) (same_chosen told faults holds))
 
-pub of_known : (known : Option (List ℕ)) (text : List ℕ) (P : List ℕ → Type 0) → known ≡ Some text → IfSome known P → P text
-of_known None text P is holds = absurd (let wrong = is in cc)
-of_known (Some other) text P is holds = let same : other ≡ text = let all = is in cc in subst P same holds
+-- ---- files that are read as one text once more
 
--- ---- files that are read as one text, and closed
+module _ {T : Type 0} (w : World) (names : List (List ℕ)) (P : List ℕ → T → Type 0) where
+  -- what is found in them, where their texts are known
+  pub found_in : (stops : Stop → Type 0) (r : Result (Option T) Stop) → DoesAgain w names (λ lines. IfSome (text_under w.before names) (λ text. P text lines)) stops r
+      → IfOk r (λ found. (texts : List (List ℕ)) → HaveTexts w.before names texts → IsSomeAnd found (P (joined texts)))
+  found_in stops (Ok (Some lines)) does = λ texts have.
+      subst (λ (known : Option (List ℕ)). IfSome known (λ text. P text lines)) (joined_bytes-known (bytes_under w.before) names texts have) does.told.answered
+  found_in stops (Ok None) does = λ texts have. absurd (let passing = does.passing in none_passing w.before names texts passing.0 passing.1.0 passing.1.1 passing.1.2 passing.2 have)
+  found_in stops (Err stop) does = tt
 
-module _ {A : Type 0} (f : A → ℕ) (opened closed : List A) (old new : ℕ) (fresh : sum_by f opened ≡ 0) (first : old ≡ failures_of f opened) (last : failures_of f closed ≡ new) where
-  none_before : old ≡ 0
-  none_before = first ∙ none_counted f opened fresh
-
-  -- where no read failed, nothing is logged
-  pub well_read : (l q : Log) → new ≡ old → q ≡ with_closed l (sum_by f closed) → q ≡ l
-  well_read l q same is = none_closed l l q (sum_by f closed) refl is (none_failed f closed (last ∙ same ∙ none_before))
-
-  -- where one failed, that is counted
-  badly_read : new ≡ one_more old → 0 < sum_by f closed
-  badly_read more = let none = none_before in some_failed f closed (omega (arith, more, none, last))
-
-  -- reads failed where a device is told, and nowhere else
-  pub logs_stop : (T : Type 0) (l q : Log) (stop : Stop) → TellsDevice {T = T} old new (Err stop) → q ≡ with_closed l (sum_by f closed) → LogsAgain {T = T} l q (Err stop)
-  logs_stop T l q (RecordStop line cause) tells is = well_read l q tells is
-  logs_stop T l q Memory tells is = well_read l q tells is
-  logs_stop T l q Device tells is = (sum_by f closed, is)
-  logs_stop T l q Budget tells is = well_read l q tells is
-
-  -- so a device that is told has failed
-  pub stops_read : (T : Type 0) (w : World) (names : List (List ℕ)) (stop : Stop) → StopsFor ⊤ stop → TellsDevice {T = T} old new (Err stop) → (w.knows ≡ true → w.logged ≡ with_closed w.log (sum_by f closed))
-      → StopsFor (FailsAgain w names) stop
-  stops_read T w names (RecordStop line cause) may tells is = may
-  stops_read T w names Memory may tells is = may
-  stops_read T w names Device may tells is = inl (inr (fails_closed w.knows w.log w.log w.logged (sum_by f closed) (λ known. refl) is (badly_read tells)))
-  stops_read T w names Budget may tells is = may
+  -- why nothing is
+  pub stops_in : (r : Result (Option T) Stop) → DoesAgain w names (λ lines. IfSome (text_under w.before names) (λ text. P text lines)) (StopsFor ⊥) r → IfErr r (StopsFor (FailsAgain w names))
+  stops_in (Ok found) does = tt
+  stops_in (Err stop) does = stops_for _ _ stop failed (stops_again w names _ ⊥ stop does)
+    where
+      failed : Failed w names ⊎ ⊥ → FailsAgain w names
+      failed (inl fails) = inl fails
+      failed (inr none) = absurd none

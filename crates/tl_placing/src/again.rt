@@ -1,6 +1,6 @@
 //! The records that faults speak of, from files that are read again.
 
-ghost use Rattle.std.specs.Prelude.{◌≡◌, ℕ, true, List, [], IfOk, IfErr, IsSomeAnd, map, option_copied, string_bytes};
+ghost use Rattle.std.specs.Prelude.{◌≡◌, ℕ, true, List, [], IfOk, IfErr, IfSome, IsSomeAnd, map, option_copied, string_bytes};
 ghost use Rattle.tl_record.specs.Layout.{layout_with};
 ghost use Rattle.tl_record.specs.Records.{records_of};
 ghost use Rattle.tl_text.specs.Joining.{joined};
@@ -18,12 +18,11 @@ ghost use Rattle.tl_placing.specs.Again.{AreSpoken};
 use std::alloc::{AllocError, Global};
 use std::hash::RandomState;
 use tl_county::Map;
-use tl_files::{FileSystem, close_all};
-use tl_hint::{count_all, open_again};
+use tl_files::{FileSystem, Reading};
+use tl_hint::count_all;
 use tl_output::Stop;
-use tl_record::Options;
+use tl_record::{Options, Source};
 use tl_record_lines::{RecordLines, record_lines};
-use tl_text::JoinedSources;
 use tl_verdict::MapFault;
 
 /// What faults speak of, in files.
@@ -96,11 +95,45 @@ fn lines_again<F: FileSystem>(
     ensures stays { F.under files.new ≡ F.under files.old }
     ensures logged { F.knows ≡ true → LogsAgain (F.log files.old) (F.log files.new) result }
 {
-    let Some(readers) = open_again(files, alloc, names)? else {
-        return Ok(None);
+    let asked = LinesOf {
+        hasher,
+        options,
+        drawn,
+        faults,
     };
-    let mut text = JoinedSources::new(readers);
-    let lines = record_lines(alloc, hasher, &mut text, options, drawn, faults);
-    close_all(files, text.into_readers());
-    Ok(Some(lines?))
+    files.read_again(alloc, names, None, &asked)
+}
+
+// The lines of the records that the faults speak of, of a text of records.
+#[derive(Clone, Copy)]
+struct LinesOf<'a> {
+    hasher: RandomState,
+    options: Options,
+    drawn: Option<&'a Map>,
+    faults: &'a [MapFault],
+}
+
+impl Reading for LinesOf<'_> {
+    type Answer = RecordLines;
+
+    ghost answers = { λ asked known single lines. IfSome known (λ text. HoldsAll (chains_of (option_copied asked.drawn)) asked.faults.now
+        (records_of (layout_with asked.options) text).entries lines) };
+
+    ghost stops = { λ asked known single. StopsFor ⊥ };
+
+    fn read<R: Source, S: Source>(
+        &self,
+        alloc: Global,
+        joined: &mut R,
+        _single: &mut S,
+    ) -> Result<RecordLines, Stop> {
+        record_lines(
+            alloc,
+            self.hasher,
+            joined,
+            self.options,
+            self.drawn,
+            self.faults,
+        )
+    }
 }

@@ -9,7 +9,7 @@ use Rattle.tl_plan.specs.declared.asked.Asked.TheVariants.{Show, Landmarks, Loca
 use Rattle.tl_plan.specs.declared.budget.Told.{Told}
 use Rattle.tl_plan.specs.declared.budget.Told.TheVariants.{One, All}
 use Rattle.tl_files.specs.World.{World}
-use Rattle.tl_answers.specs.Reading.{text_under}
+use Rattle.tl_files.specs.Reading.{text_under}
 use Rattle.tl_command.specs.Commands.{PlainAnswers, PlainStops, is_plain}
 use Rattle.tl_lists.specs.Listed.{ListAnswers, StopsList}
 use Rattle.tl_program.specs.Answers.{AllAnswers, AllStops}

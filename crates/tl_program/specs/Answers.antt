@@ -7,7 +7,7 @@ use Rattle.tl_plan.specs.declared.asked.Asked.{Asked}
 use Rattle.tl_plan.specs.declared.asked.Asked.TheVariants.{Audit, Export, Draw}
 use Rattle.tl_plan.specs.declared.budget.Told.TheVariants.{One}
 use Rattle.tl_files.specs.World.{World}
-use Rattle.tl_answers.specs.Reading.{text_under}
+use Rattle.tl_files.specs.Reading.{text_under}
 use Rattle.tl_command.specs.Commands.{PlainAnswers, PlainStops}
 use Rattle.tl_draw.specs.Drawing.{DrawAnswers}
 use Rattle.tl_export.specs.Exports.{ExportAnswers}

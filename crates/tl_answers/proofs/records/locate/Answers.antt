@@ -3,7 +3,7 @@ use Rattle.tl_record.specs.Layout.{layout_with}
 use Rattle.tl_files.specs.World.{world}
 use Rattle.tl_files.proofs.WorldLemmas.{does_read, does_run_out}
 use Rattle.tl_answers.specs.Answers.{IsReadMap, IsSaid, LocateAnswers}
-use Rattle.tl_answers.specs.Reading.{text_under}
+use Rattle.tl_files.specs.Reading.{text_under}
 use Rattle.tl_answers.specs.Records.{StopsRecords}
 use Rattle.tl_answers.proofs.records.locate.Goals as goal
 

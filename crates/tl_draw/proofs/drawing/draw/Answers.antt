@@ -2,7 +2,7 @@ use Rattle.std.proofs.Common.{Some, map, string_bytes}
 use Rattle.tl_record.specs.Layout.{layout_with}
 use Rattle.tl_files.specs.World.{world}
 use Rattle.tl_files.proofs.WorldLemmas.{does_then}
-use Rattle.tl_answers.specs.Reading.{text_under}
+use Rattle.tl_files.specs.Reading.{text_under}
 use Rattle.tl_answers.specs.Answers.{IsSaid}
 use Rattle.tl_answers.specs.Records.{StopsNever, StopsRecords}
 use Rattle.tl_draw.specs.Drawing.{DrawAnswers, IsDrawnOf, Wanted}

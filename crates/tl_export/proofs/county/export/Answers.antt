@@ -5,7 +5,7 @@ use Rattle.tl_files.specs.World.{world}
 use Rattle.tl_files.specs.declared.beginning.FileKind.TheVariants.{Collection}
 use Rattle.tl_files.proofs.WorldLemmas.{does_stop}
 use Rattle.tl_answers.specs.Answers.{IsReadMap, IsSaid}
-use Rattle.tl_answers.specs.Reading.{text_under}
+use Rattle.tl_files.specs.Reading.{text_under}
 use Rattle.tl_answers.specs.Records.{StopsRecords}
 use Rattle.tl_export.specs.Exports.{ExportAnswers}
 use Rattle.tl_export.proofs.ExportLemmas.{export_of_fault, export_of_read}

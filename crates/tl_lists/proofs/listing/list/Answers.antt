@@ -1,7 +1,7 @@
 use Rattle.std.proofs.Common.{None, map, string_bytes}
 use Rattle.tl_files.proofs.WorldLemmas.{does_so, does_then, does_stop}
 use Rattle.tl_answers.specs.Records.{StopsNever}
-use Rattle.tl_answers.specs.Reading.{text_under}
+use Rattle.tl_files.specs.Reading.{text_under}
 use Rattle.tl_files.specs.World.{world}
 use Rattle.tl_lists.specs.Listed.{StopsList, wanted_of}
 use Rattle.tl_lists.proofs.ListLemmas.{answers_from, stops_from}

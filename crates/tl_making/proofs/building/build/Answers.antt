@@ -5,7 +5,7 @@ use Rattle.tl_files.specs.World.{world}
 use Rattle.tl_files.specs.declared.beginning.FileKind.TheVariants.{Certificate}
 use Rattle.tl_files.proofs.WorldLemmas.{does_stop}
 use Rattle.tl_answers.specs.Answers.{IsReadMap, IsSaid}
-use Rattle.tl_answers.specs.Reading.{text_under}
+use Rattle.tl_files.specs.Reading.{text_under}
 use Rattle.tl_answers.specs.Records.{StopsRecords}
 use Rattle.tl_making.specs.Building.{BuildAnswers}
 use Rattle.tl_making.proofs.BuildLemmas.{build_of_fault, build_of_read}

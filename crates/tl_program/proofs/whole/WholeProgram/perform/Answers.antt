@@ -5,7 +5,7 @@ use Rattle.tl_plan.specs.Asked.{made_of}
 use Rattle.tl_files.specs.World.{Does, world}
 use Rattle.tl_files.proofs.WorldLemmas.{does_so}
 use Rattle.tl_answers.specs.Answers.{IsSaid, said_text}
-use Rattle.tl_answers.specs.Reading.{text_under}
+use Rattle.tl_files.specs.Reading.{text_under}
 use Rattle.tl_output.specs.Streams.{stream}
 use Rattle.tl_command.specs.Commands.{PlainAnswers, PlainStops, is_plain, names_read, names_with}
 use Rattle.tl_command.specs.Running.{streams, terms}
