@@ -19,10 +19,9 @@ import tempfile
 from concurrent.futures import ThreadPoolExecutor
 from pathlib import Path
 
-from grids import grid, report_of
+from folders import PROGRAM
 
-TOP = Path(__file__).resolve().parent.parent
-PROGRAM = TOP / "crates" / "tigertopo" / "out" / "tigertopo"
+from grids import grid, report_of
 
 SQUARE = (
     b"TIGERCERT 1\nC 1 4 1 1\nT 1\nL 10 10 30 30 4\nS 0\nS 1\nS 2\nS 3\nN 1\nR 2\nD 0\nD 1\n"

@@ -10,9 +10,10 @@ import sys
 import tempfile
 from pathlib import Path
 
-from rows import TOP, play, rows_of
+from folders import CORE
 
-PROGRAM = TOP / "crates" / "tigertopo_core" / "out" / "tigertopo_core"
+from rows import ROWS, play, rows_of
+
 LACKING = b"error: the program that has this isn't built: run `make`\n"
 MORE = ("--all", "--where", "--geojson")
 HELP = ("--help", "-h")
@@ -38,7 +39,7 @@ def lacks(program, row, words):
 
 def cases():
     """Each row with its words, and what plays it: of words that the program lacks only those that are a use of a command."""
-    for path in sorted(Path(__file__).resolve().parent.glob("*.rows")):
+    for path in sorted(ROWS.glob("*.rows")):
         if path.stem == "bench":
             continue
         for row in rows_of(path):
@@ -54,7 +55,7 @@ def cases():
                     yield lacks, row, words
 
 
-def play_all(program=PROGRAM):
+def play_all(program=CORE):
     """How many cases pass, and how many fail."""
     passed = failed = 0
     for played, row, words in cases():
@@ -66,6 +67,6 @@ def play_all(program=PROGRAM):
 
 
 if __name__ == "__main__":
-    passed, failed = play_all(Path(sys.argv[1]).resolve() if sys.argv[1:] else PROGRAM)
+    passed, failed = play_all(Path(sys.argv[1]).resolve() if sys.argv[1:] else CORE)
     print(f"{passed} passed, {failed} failed")
     sys.exit(failed > 0)

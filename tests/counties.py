@@ -14,8 +14,8 @@ import sys
 import tempfile
 from pathlib import Path
 
-TOP = Path(__file__).resolve().parent.parent
-PROGRAM = TOP / "crates" / "tigertopo" / "out" / "tigertopo"
+from folders import PROGRAM, TOP
+
 PAGE = TOP / "docs" / "many-counties.md"
 
 

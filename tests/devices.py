@@ -21,11 +21,12 @@ import sys
 import tempfile
 from pathlib import Path
 
+from folders import EXAMPLES, PROGRAM
+
 import hints
 import judge
 import placed
-from memory import EXAMPLES, answer_over_a_file, library_of, standing
-from rows import PROGRAM
+from memory import answer_over_a_file, library_of, standing
 from small_maps import MADE, write_all
 
 # What is asked beside what is asked of the small maps.

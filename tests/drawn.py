@@ -17,10 +17,10 @@ import zlib
 from pathlib import Path
 from xml.etree import ElementTree
 
-TOP = Path(__file__).resolve().parent.parent
-PROGRAM = TOP / "crates" / "tigertopo" / "out" / "tigertopo"
-COUNTY = TOP / "examples" / "county"
-TOWN = TOP / "examples" / "faults" / "town"
+from folders import EXAMPLES, PROGRAM
+
+COUNTY = EXAMPLES / "county"
+TOWN = EXAMPLES / "faults" / "town"
 BEGINNING = b'<svg xmlns="http://www.w3.org/2000/svg" class="tigertopo"'
 SVG = "{http://www.w3.org/2000/svg}"
 BROWSERS = ("chromium", "chromium-browser", "google-chrome")
@@ -112,7 +112,7 @@ def escaped(program, folder):
 
 def refused(program, folder):
     """Where there is no map nothing is made, and no stranger's file is written over."""
-    made, faults = folder / "none.svg", TOP / "examples" / "faults"
+    made, faults = folder / "none.svg", EXAMPLES / "faults"
     for words in ([], ["--faults"]):
         status, out, err = run(program, "draw", *words, "--out", made, faults / "M1")
         want("a fault of the records", (status, out[:13], err, made.exists()), (1, b"map fault M1 ", b"", False))

@@ -21,6 +21,8 @@ import tempfile
 from fractions import Fraction
 from pathlib import Path
 
+from folders import PROGRAM
+
 import draw
 import faces
 import judge
@@ -349,7 +351,7 @@ def play_drawn(table, cases):
 def play_all(cases=CASES):
     """How many maps are as they have to be, and how many aren't."""
     with tempfile.TemporaryDirectory() as folder:
-        table = judged.Table(judged.PROGRAM, Path(folder))
+        table = judged.Table(PROGRAM, Path(folder))
         counts = [play_worked(table), play_drawn(table, cases)]
     return sum(well for well, _ in counts), sum(ill for _, ill in counts)
 

@@ -17,15 +17,15 @@ import sys
 import tempfile
 from pathlib import Path
 
+from folders import PROGRAM
+
 import full_lists
 import hints
 import placed
+from certificate import tree_of
 from grids import KEY, POINT, SIDE, grid, report_of
 from layout import line_of
-from rows import PROGRAM, TOP, play, rows_of
-
-sys.path.append(str(TOP / "bench"))
-from certificate import tree_of
+from rows import ROWS, play, rows_of
 
 CHAIN_LIMIT = 1_048_576
 POLYGON_LIMIT = 1_048_576
@@ -342,7 +342,7 @@ def play_places(plays):
 
 def play_trees(plays):
     """Answers to certificates whose trees are as deep as may be, and deeper by one."""
-    rows = [row for row in rows_of(TOP / "tests" / "check.rows") if row.title in TREES]
+    rows = [row for row in rows_of(ROWS / "check.rows") if row.title in TREES]
     plays.count(len(rows) == len(TREES), "there are no such rows")
     for row in rows:
         for words in row.runs:

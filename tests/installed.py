@@ -13,9 +13,8 @@ import sys
 import tempfile
 from pathlib import Path
 
-from rows import PROGRAM, TOP
+from folders import PROGRAM, TOP
 
-sys.path.append(str(TOP / "install"))
 import pages
 
 # What reads each file, where it is on the machine: it has to say nothing on standard error.

@@ -26,14 +26,14 @@ import time
 import traceback
 from pathlib import Path
 
-import certificates
+from folders import PROGRAM, TOP
+
 import draw
 import hints
 import judge
 import placed
 import rows
 
-PROGRAM = rows.PROGRAM
 CASES = 20_000
 # How many cases a process plays before it says how they went.
 SHARE = 50
@@ -46,7 +46,7 @@ def judge_rows():
     """How many rows the judge agrees with, and with how many it doesn't."""
     well = ill = 0
     for name in ROWS:
-        for row in rows.rows_of(Path(__file__).resolve().parent / f"{name}.rows"):
+        for row in rows.rows_of(rows.ROWS / f"{name}.rows"):
             for words in row.runs:
                 agrees = row_agrees(row, words)
                 well, ill = well + (agrees is True), ill + (agrees is False)
@@ -269,7 +269,7 @@ def play_cases(program, seed, cases):
 def seed_of_commit():
     """A seed that each commit has for itself, so that what fails in one run of the gate fails in the next."""
     words = ["git", "rev-parse", "--short=8", "HEAD"]
-    found = subprocess.run(words, cwd=Path(__file__).parent, capture_output=True, text=True, check=False).stdout.strip()
+    found = subprocess.run(words, cwd=TOP, capture_output=True, text=True, check=False).stdout.strip()
     return int(found[:8], 16) if found else int(time.time())
 
 

@@ -21,9 +21,10 @@ import tempfile
 from dataclasses import dataclass
 from pathlib import Path
 
+from folders import EXAMPLES, PROGRAM
+
 import hints
-from memory import EXAMPLES, library_of
-from rows import PROGRAM
+from memory import library_of
 
 COUNTY = EXAMPLES / "county"
 TOWN = EXAMPLES / "faults" / "town"

@@ -15,11 +15,12 @@ import sys
 import tempfile
 from pathlib import Path
 
+from folders import EXAMPLES, PROGRAM
+
 import hints
-from rows import PROGRAM, TOP, rows_of
+from rows import ROWS, rows_of
 from small_maps import MADE, write_all
 
-EXAMPLES = TOP / "examples"
 # What stands under the name of what is made before each run.
 STANDS = b"TIGERCERT 2\na file that stands\n"
 # And of what isn't a certificate: of GeoJSON, and of a picture.
@@ -181,7 +182,7 @@ def is_well(answer, left, usual, whole, stood):
 def write_rows(folder):
     """Writes the files of the rows into the folder, and gives the words of all runs over them."""
     for rows, title, _ in OF_ROWS:
-        files = next(row.files for row in rows_of(TOP / "tests" / rows) if row.title == title)
+        files = next(row.files for row in rows_of(ROWS / rows) if row.title == title)
         for name, text in files.items():
             Path(folder, name).write_bytes(text)
     return [words for _, _, words in OF_ROWS]

@@ -18,8 +18,8 @@ from collections import Counter
 from fractions import Fraction
 from pathlib import Path
 
-TOP = Path(__file__).resolve().parent.parent
-PROGRAM = TOP / "crates" / "tigertopo" / "out" / "tigertopo"
+from folders import EXAMPLES, PROGRAM
+
 NEEDED = ("ogrinfo", "ogr2ogr")
 
 # The files of a county, the line that is wanted, and how many features of each kind of geometry. Of a map that isn't sound there
@@ -94,7 +94,7 @@ def read_by_gdal(path, kinds, precision=6):
 
 def wrong_faults(program, folder, switches, file, status, kinds, points):
     """What is wrong with the file of these faults, as GDAL reads it."""
-    made, read = Path(folder) / "faults.geojson", TOP / "examples" / file
+    made, read = Path(folder) / "faults.geojson", EXAMPLES / file
     done = run(program, "audit", *switches, "--geojson", made, read)
     if (done.returncode, done.stderr) != (status, ""):
         return f"status {done.returncode}: {done.stdout}{done.stderr}"
@@ -116,7 +116,7 @@ def wrong_faults(program, folder, switches, file, status, kinds, points):
 def wrong_export(program, folder, files, line, kinds):
     """What is wrong with the export of these files."""
     made = Path(folder) / "made.geojson"
-    done = run(program, "export", "--geojson", made, *(TOP / "examples" / name for name in files))
+    done = run(program, "export", "--geojson", made, *(EXAMPLES / name for name in files))
     if (done.returncode, done.stdout, done.stderr) != (0, line, ""):
         return f"status {done.returncode}: {done.stdout}{done.stderr}"
     return wrong_file(made, kinds)
@@ -126,7 +126,7 @@ def wrong_refusal(program, folder):
     """What is wrong where a stranger's file stands under the name."""
     made = Path(folder) / "made.geojson"
     made.write_text('{"type":"FeatureCollection","features":[]}\n')
-    done = run(program, "export", "--geojson", made, TOP / "examples" / "county")
+    done = run(program, "export", "--geojson", made, EXAMPLES / "county")
     if (done.returncode, done.stdout, done.stderr) != (64, "", "OUT stands and is no GeoJSON of tigertopo\n"):
         return f"status {done.returncode}: {done.stdout}{done.stderr}"
     return None if "tigertopo" not in made.read_text() else "it was written over"

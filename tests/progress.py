@@ -14,9 +14,9 @@ import threading
 import time
 from pathlib import Path
 
-TOP = Path(__file__).resolve().parent.parent
-PROGRAM = TOP / "crates" / "tigertopo" / "out" / "tigertopo"
-COUNTY = TOP / "examples" / "county"
+from folders import EXAMPLES, PROGRAM
+
+COUNTY = EXAMPLES / "county"
 SOUND = b"chains=5 segments=12 nodes=4 polygons=3 landmarks=1 rings=5\n"
 
 

@@ -43,14 +43,14 @@ import sys
 import tempfile
 from pathlib import Path
 
+from folders import BENCH, PROGRAM
+
 import hints
 from grids import grid, report_of
 from layout import bytes_of, line_of
 
-TOP = Path(__file__).resolve().parent.parent
-PROGRAM = TOP / "crates" / "tigertopo" / "out" / "tigertopo"
-# The program that measures parts of the work, and the line by which it tells what a step took.
-BENCH = TOP / "crates" / "bench" / "out" / "bench"
+ROWS = Path(__file__).resolve().parent
+# The line by which `bench` tells what a step took.
 STEP = re.compile(rb"^[a-z ]+: \d+ us\n", re.MULTILINE)
 
 
@@ -322,7 +322,7 @@ def files_of(folder, but):
 def play_all(program=PROGRAM):
     """How many rows pass, and how many fail."""
     passed = failed = 0
-    for path in sorted(Path(__file__).resolve().parent.glob("*.rows")):
+    for path in sorted(ROWS.glob("*.rows")):
         played = BENCH if path.stem == "bench" else program
         for row in rows_of(path):
             for words in row.runs:

@@ -3,7 +3,7 @@ with a dead end, an island with a landmark on it, and two chains that are one li
 
 from pathlib import Path
 
-from rows import TOP, rows_of
+from rows import ROWS, rows_of
 
 # The name of what is made.
 MADE = "made"
@@ -17,7 +17,7 @@ MAPS = [
 
 def write_all(folder):
     """Writes the files of the maps into the folder, and gives the words of all runs over them."""
-    rows = {row.title: row.files for row in rows_of(TOP / "tests" / "check.rows")}
+    rows = {row.title: row.files for row in rows_of(ROWS / "check.rows")}
     runs = []
     for title, records, certificate in MAPS:
         for name in records:

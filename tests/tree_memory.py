@@ -10,15 +10,15 @@ needs.
 
 import sys
 import tempfile
-from pathlib import Path
+
+from folders import BENCH
 
 from memory import REFUSE, answer_of, library_of
 
-PROGRAM = Path(__file__).resolve().parent.parent / "crates" / "bench" / "out" / "bench"
 WORDS = ["tree", "300"]
 
 
-def play_all(program=PROGRAM):
+def play_all(program=BENCH):
     """How many refused allocations were answered well, and how many weren't."""
     with tempfile.TemporaryDirectory() as folder:
         library = library_of(folder, REFUSE)
