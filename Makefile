@@ -1,7 +1,7 @@
 # make                     proves and builds the program
 # make check               the merge gate: every proof, must-fail edit, test and stored run, from nothing
 # make wrong-bodies        tries the edits that the gate leaves out, those of crates that serve the proofs above them
-# make rows                plays the rows of tests/ over the program, and over `bench`
+# make rows                plays the rows of tests/rows over the program, and over `bench`
 # make certificates        builds and converts certificates, and compares with a plain reader
 # make judge               plays drawn counties over the program, and judges each answer by a second opinion
 # make full-size           asks for each answer once with a million chains
@@ -42,31 +42,31 @@ examples: build
 
 rows: build
 	python3 proving/prove.py bench
-	python3 tests/rows.py
+	python3 tests/rows/rows.py
 
 certificates: build
-	python3 tests/certificates.py
+	python3 tests/formats/certificates.py
 
 judge: build
-	python3 tests/judged.py
-	python3 tests/faced.py
+	python3 tests/judge/judged.py
+	python3 tests/judge/faced.py
 
 full-size: build
-	python3 tests/full_size.py
+	python3 tests/size/full_size.py
 
 limits: build
-	nice python3 tests/full_size.py --measure
+	nice python3 tests/size/full_size.py --measure
 
 memory: build
-	python3 tests/memory.py
+	python3 tests/injected/memory.py
 	python3 proving/prove.py bench
-	python3 tests/tree_memory.py
+	python3 tests/injected/tree_memory.py
 
 devices: build
-	python3 tests/devices.py
+	python3 tests/injected/devices.py
 
 counties: build
-	python3 tests/counties.py
+	python3 tests/installed/counties.py
 
 bench: build
 	python3 proving/prove.py bench
@@ -86,12 +86,12 @@ speed: build
 	python3 bench/faulty.py
 
 pictures: build
-	python3 tests/pictures.py
-	python3 tests/drawn.py
+	python3 tests/formats/pictures.py
+	python3 tests/formats/drawn.py
 
 pages: build
-	python3 tests/installed.py
-	python3 tests/progress.py
+	python3 tests/installed/installed.py
+	python3 tests/installed/progress.py
 
 SHARE = $(DESTDIR)$(PREFIX)/share
 

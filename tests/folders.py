@@ -1,11 +1,28 @@
 """Where the repository is, its examples and the built programs; and the folders whose modules the tests use are put on Python's
-path here."""
+path here. So a script of one of them begins its imports of modules of ours with
+
+    sys.path.append(str(Path(__file__).resolve().parents[1]))
+    from folders import ..
+"""
 
 import sys
 from pathlib import Path
 
 TOP = Path(__file__).resolve().parent.parent
 EXAMPLES = TOP / "examples"
+FOLDERS = [
+    "tests/rows",  # rows that run the program, and how records are written for them
+    "tests/judge",  # second opinions, and maps that are drawn for them
+    "tests/injected",  # allocations, reads and writes that fail, and files that others make or hold
+    "tests/formats",  # what is written for other programs: certificates, GeoJSON and pictures
+    "tests/installed",  # the manual page and the completions, what is shown meanwhile, and many counties
+    "tests/size",  # answers at full size
+    # Of the two modules `run` the tests' is that of the examples.
+    "examples",
+    "install",
+    "bench",
+]
+sys.path += [str(TOP / name) for name in FOLDERS]
 
 
 def built(name):
@@ -14,6 +31,3 @@ def built(name):
 
 
 PROGRAM, CORE, BENCH = map(built, ("tigertopo", "tigertopo_core", "bench"))
-
-# Examples before bench: the tests' `run` is that of the examples.
-sys.path += [str(TOP / "tests"), *(str(TOP / name) for name in ("examples", "install", "bench"))]

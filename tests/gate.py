@@ -8,10 +8,10 @@ import subprocess
 import sys
 import time
 from concurrent.futures import ThreadPoolExecutor
-from pathlib import Path
 
-TOP = Path(__file__).resolve().parent.parent
-sys.path += [str(TOP / "tests"), str(TOP / "examples"), str(TOP / "proving"), str(TOP / "bench")]
+from folders import TOP
+
+sys.path.append(str(TOP / "proving"))
 
 # More memory than any task of `rt ci` has been seen to take, in bytes.
 LANE = 5_000_000_000

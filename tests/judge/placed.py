@@ -2,7 +2,7 @@
 what `audit --geojson` makes of all of them.
 
 Written from docs/faults.md ("Where a fault lies") and the columns of docs/records.md alone. A fault is taken as its own line
-tells it; whether that is true, and which lines come in which order, tests/judge.py says. The lines of files are gone through
+tells it; whether that is true, and which lines come in which order, judge.py says. The lines of files are gone through
 once more here, each file by itself; none of them is refused.
 """
 

@@ -1,12 +1,12 @@
 #!/usr/bin/env python3
-"""Plays small counties that tests/draw.py draws over the built program, and has tests/judge.py judge each answer.
+"""Plays small counties that draw.py draws over the built program, and has judge.py judge each answer.
 
 usage: judged.py [--seed SEED] [--cases N] [--only NUMBER] [--program PROGRAM]
 
-First the judge is judged: it has to agree with each row of tests/*.rows of which it can speak. Then each case is
+First the judge is judged: it has to agree with each row of tests/rows/*.rows of which it can speak. Then each case is
 asked for by `audit`, and by `audit --all`, whose whole output has to be the judge's list; with `--where`, whose lines of
-records tests/placed.py says, and with `--geojson`, whose file's features it says. It is asked for by others
-too: `build`, whose certificate has to be valid by the judge, `check` by that certificate, by one that tests/draw.py
+records placed.py says, and with `--geojson`, whose file's features it says. It is asked for by others
+too: `build`, whose certificate has to be valid by the judge, `check` by that certificate, by one that draw.py
 proposes and by both changed, with a budget of tests at times, `locate`, `show` and `landmarks`. No expected value
 comes from the program. A town that is drawn to be sound has to be so by the judge too.
 
@@ -26,6 +26,7 @@ import time
 import traceback
 from pathlib import Path
 
+sys.path.append(str(Path(__file__).resolve().parents[1]))
 from folders import PROGRAM, TOP
 
 import draw

@@ -10,7 +10,7 @@ usage: judge.py audit [--all [--most N]] [--where] [--geojson OUT] [--zero-cells
 Written from docs/records.md, docs/sound.md, docs/faults.md and docs/certificate.md alone. It states each definition
 as it stands there, in whole numbers and fractions, with no regard to speed: it goes over all pairs of segments and
 all darts, and knows nothing of how the program searches. Where the program names one fault, the judge has the set of
-all that are true; so tests/judged.py can ask of each answer whether it is one that may be given. What `audit --all`
+all that are true; so judged.py can ask of each answer whether it is one that may be given. What `audit --all`
 lists is that set in its order, but for zero-cell ids at odds, of which it lists as few pairs as tell them all.
 """
 
@@ -22,6 +22,9 @@ from functools import cached_property
 from itertools import combinations
 from pathlib import Path
 from typing import NamedTuple
+
+sys.path.append(str(Path(__file__).resolve().parents[1]))
+import folders  # noqa: F401
 
 import certificates
 import placed
@@ -799,7 +802,7 @@ class Certificate:
 
 
 def certificate_of(text):
-    """The certificate of a text that is one's: which texts are is told by the plain reader of tests/certificates.py."""
+    """The certificate of a text that is one's: which texts are is told by the plain reader of tests/formats/certificates.py."""
     lines = [line.split(b" ") for line in text.split(b"\n")]
     version, *counts = (int(lines[0][1]), *map(int, lines[1][1:]))
     rest = iter(lines[2:])

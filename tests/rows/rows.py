@@ -1,5 +1,5 @@
 #!/usr/bin/env python3
-"""Plays the rows of tests/*.rows over the built program, and those of tests/bench.rows over `bench`: files, words, and the
+"""Plays the rows of the files *.rows over the built program, and those of bench.rows over `bench`: files, words, and the
 answer that is wanted.
 
 usage: rows.py [PROGRAM]
@@ -7,18 +7,18 @@ usage: rows.py [PROGRAM]
 A row begins with a line `== TITLE`. Then come its files:
 
     like TITLE      the files of an earlier row
-    file NAME       its lines follow indented; tests/layout.py says how a line is written; behind `for A..B:` a line is
+    file NAME       its lines follow indented; layout.py says how a line is written; behind `for A..B:` a line is
                     written for each number from A to B, which stands for `{}`
     text NAME       its lines follow indented as they stand, several of them with ` / ` between two, or so for each number
     swap NAME A -> B    the file with the lines B in place of the lines A, which stand in it once, each written as in `text`
     cut NAME N      the file's first N bytes alone, or with N below 0 all but so many
 
-    grid NAME K     a map of K by K squares, as tests/grids.py makes it
+    grid NAME K     a map of K by K squares, as grids.py makes it
 
 and then `run WORD ..`, words as a shell splits them, where `\\xNN` is a byte, run in a folder that holds the files alone;
 `status N`; and `out` and `err`, whose texts follow indented, and are empty where they are left out; `or` begins another
-output that is as good. What is said behind a refused line and behind `stopped Device` no row has: tests/hints.py tells it. Several `run` lines in one row share its files and its answer. Each stream is compared byte for
-byte. A run has to leave the files as they are and to make no other, but for those of a line `makes NAME ..`, and of a line
+output that is as good. What is said behind a refused line and behind `stopped Device` no row has: tests/judge/hints.py
+tells it. Several `run` lines in one row share its files and its answer. Each stream is compared byte for byte. A run has to leave the files as they are and to make no other, but for those of a line `makes NAME ..`, and of a line
 `holds NAME`, behind which the lines that the file has to hold follow indented. A line
 `then WORD ..` has words that are run behind each run, in the same folder; what follows it is their answer.
 
@@ -27,7 +27,7 @@ A line `decided WORD ..` has what stands behind `audit`, whose answer is the row
 pairs of segments, and has to answer what `audit` does. Where the map isn't sound, no file is made.
 
 A row with a line `grids K ..` is played for a map of so many squares, or of A to B as `A..B`, and wants the answer of `audit`
-to it that tests/grids.py counts.
+to it that grids.py counts.
 
 A row with a line `refuses` has a line for each of many small files: the one line of the file, `->`, and why `show` refuses
 it. A row with a line `beginnings NAME` has a line for each of many beginnings of that file: how many bytes, or from how
@@ -43,6 +43,7 @@ import sys
 import tempfile
 from pathlib import Path
 
+sys.path.append(str(Path(__file__).resolve().parents[1]))
 from folders import BENCH, PROGRAM
 
 import hints

@@ -18,6 +18,7 @@ from collections import Counter
 from fractions import Fraction
 from pathlib import Path
 
+sys.path.append(str(Path(__file__).resolve().parents[1]))
 from folders import EXAMPLES, PROGRAM
 
 NEEDED = ("ogrinfo", "ogr2ogr")

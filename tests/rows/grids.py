@@ -3,7 +3,7 @@
 from layout import line_of
 
 SIDE = 10
-# The lines of such a map, with a place for each number and each key. tests/layout.py would take a minute for a million.
+# The lines of such a map, with a place for each number and each key. layout.py would take a minute for a million.
 CHAIN = b"10000%10d" + b" " * 175 + b"%+010d%+09d%+010d%+09d\n"
 SIDES = b"I0000%10d" + b" " * 25 + b"%15b%15b\n"
 KEY = b"A0001%10d"

@@ -6,13 +6,17 @@ usage: draw.py SEED     prints the county of that seed, and what was done to it
 A town is a lattice of blocks, some of which are one polygon, with streets left out, joined to longer chains and bent,
 with dead ends, islands and rings in rings, turned and stretched as a whole. It is drawn so that its map is sound. Then
 any of the changes below may be made to it: to the town, to its lines, or to a certificate of it. What is true of the
-case behind that is not known here: tests/judge.py tells it.
+case behind that is not known here: judge.py tells it.
 """
 
 import random
 import sys
 from dataclasses import dataclass, field, replace
 from functools import cmp_to_key
+from pathlib import Path
+
+sys.path.append(str(Path(__file__).resolve().parents[1]))
+import folders  # noqa: F401
 
 from layout import COLUMNS
 

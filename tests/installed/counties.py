@@ -14,6 +14,7 @@ import sys
 import tempfile
 from pathlib import Path
 
+sys.path.append(str(Path(__file__).resolve().parents[1]))
 from folders import PROGRAM, TOP
 
 PAGE = TOP / "docs" / "many-counties.md"

@@ -17,6 +17,7 @@ import sys
 import tempfile
 from pathlib import Path
 
+sys.path.append(str(Path(__file__).resolve().parents[1]))
 from folders import PROGRAM
 
 import full_lists
@@ -37,7 +38,7 @@ LINE_LIMIT = 67_108_864
 STROKES = 300_000
 SKIPS = [0, 1, 2, 3, 4, 5, 6, 7, 9, 12, 16, 24, 32, 64, 128, 256]
 PICTURE_LIMIT = 6_000_000
-# Rows of tests/check.rows: a tree of depth 64, and one of depth 65.
+# Rows of tests/rows/check.rows: a tree of depth 64, and one of depth 65.
 TREES = ["a tree as deep as may be", "a tree that is too deep"]
 
 

@@ -1,5 +1,5 @@
 #!/usr/bin/env python3
-"""Plays the rows of tests/ over `tigertopo_core`, the program without lists, exports and pictures: what they ask for is answered
+"""Plays the rows over `tigertopo_core`, the program without lists, exports and pictures: what they ask for is answered
 as the whole program answers it, and of what it lacks it says so.
 
 usage: core.py [PROGRAM]
@@ -10,6 +10,7 @@ import sys
 import tempfile
 from pathlib import Path
 
+sys.path.append(str(Path(__file__).resolve().parents[1]))
 from folders import CORE
 
 from rows import ROWS, play, rows_of

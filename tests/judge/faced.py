@@ -1,5 +1,5 @@
 #!/usr/bin/env python3
-"""Plays worked maps, whose answers were found by hand, and drawn ones over tests/faces.py, which says whether their faces agree,
+"""Plays worked maps, whose answers were found by hand, and drawn ones over faces.py, which says whether their faces agree,
 and over the program with `--faces`.
 
 usage: faced.py [--cases N]
@@ -21,6 +21,7 @@ import tempfile
 from fractions import Fraction
 from pathlib import Path
 
+sys.path.append(str(Path(__file__).resolve().parents[1]))
 from folders import PROGRAM
 
 import draw

@@ -10,7 +10,9 @@ needs.
 
 import sys
 import tempfile
+from pathlib import Path
 
+sys.path.append(str(Path(__file__).resolve().parents[1]))
 from folders import BENCH
 
 from memory import REFUSE, answer_of, library_of

@@ -1,5 +1,5 @@
-"""Three small maps with their certificates, as tests/check.rows has them, and what each command is asked of them: a square
-with a dead end, an island with a landmark on it, and two chains that are one line."""
+"""Three small maps with their certificates, as tests/rows/check.rows has them, and what each command is asked of them: a
+square with a dead end, an island with a landmark on it, and two chains that are one line."""
 
 from pathlib import Path
 

@@ -17,6 +17,7 @@ import zlib
 from pathlib import Path
 from xml.etree import ElementTree
 
+sys.path.append(str(Path(__file__).resolve().parents[1]))
 from folders import EXAMPLES, PROGRAM
 
 COUNTY = EXAMPLES / "county"

@@ -1,5 +1,5 @@
 """Lists of faults at full size: more than a million lines that are refused, and more than a million faults of a kind, through each
-switch of `audit`, and in a picture. tests/full_size.py plays them.
+switch of `audit`, and in a picture. full_size.py plays them.
 
 What is wanted is reckoned here, by the rules of docs/faults.md; where a page leaves open which of several pairs is told, the number of
 lines is asked for alone.
