@@ -17,7 +17,8 @@
 #                          of every fault
 # make ways                counts the sweeps of each command, where valgrind is there: one of a map, that says all that is asked
 # make speed               prints the tables of docs/speed.md, which are the rows of 100,000 chains among these
-# make pictures            reads what `export` and `draw` make by GDAL and by a browser, where they are there
+# make geojson             reads what `export` and `audit --geojson` make by GDAL
+# make pictures            reads what `draw` makes, and shows it by a browser where one is there
 # make pages               looks at the manual page and the completions, which are made of the program's help, and at what
 #                          `--progress` shows
 # make install PREFIX=..   installs the program as PREFIX/bin/tigertopo, its manual page and its completions
@@ -26,7 +27,7 @@
 PREFIX = /usr/local
 PROGRAM = crates/tigertopo/out/tigertopo
 
-.PHONY: build check wrong-bodies rows certificates judge full-size limits memory devices examples counties bench ways speed pictures pages install uninstall
+.PHONY: build check wrong-bodies rows certificates judge full-size limits memory devices examples counties bench ways speed geojson pictures pages install uninstall
 
 build:
 	python3 proving/prove.py
@@ -85,9 +86,11 @@ speed: build
 	python3 bench/beside.py --counties 100000 $(if $(BESIDE),--beside $(BESIDE))
 	python3 bench/faulty.py
 
+geojson: build
+	python3 tests/formats/geojson.py
+
 pictures: build
 	python3 tests/formats/pictures.py
-	python3 tests/formats/drawn.py
 
 pages: build
 	python3 tests/installed/installed.py

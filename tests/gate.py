@@ -44,9 +44,9 @@ def main():
     import core
     import counties
     import devices
-    import drawn
     import faced
     import full_size
+    import geojson
     import installed
     import judged
     import made_files
@@ -79,15 +79,15 @@ def main():
         ("many counties", counties.play_all),
         ("faces of maps", faced.play_all),
         ("files made over others", made_files.play_all),
-        ("pictures", drawn.play_all),
+        ("pictures", pictures.play_all),
         ("manual page, completions and programs of the libraries", installed.play_all),
         ("progress", progress.play_all),
         ("rows", rows.play_all),
         ("rows over the core", core.play_all),
     ]
     # Debian's gdal-bin isn't everywhere.
-    if not pictures.missing():
-        parts.append(("files of GeoJSON", pictures.play_all))
+    if not geojson.missing():
+        parts.append(("files of GeoJSON", geojson.play_all))
     # So is valgrind.
     if not ways.missing():
         parts.append(("sweeps of each command", ways.play_all))

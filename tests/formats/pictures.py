@@ -1,159 +1,198 @@
 #!/usr/bin/env python3
-"""Exports the counties below and their faults as GeoJSON, and reads the files with GDAL's `ogrinfo` and `ogr2ogr`, as those do
-who use them.
+"""Draws pictures by the built program, and reads them as a browser does.
 
 usage: pictures.py [PROGRAM]
 
-Needs Debian's `gdal-bin`. Of each export the printed line is compared, and what GDAL finds in the file: how many features of each
-kind of geometry; that each ring ends where it began; and that the areas of rings, reckoned from their positions, add up to the
-area that is written beside them. Of faults, how many there are, where each lies, and in which lines their records stand.
+Each picture is parsed as XML, and its strokes, dots, circles and titles are counted. Where Chromium is there, pictures are
+shown by it, and what it shows may not be blank.
 """
 
-import json
+import re
 import shutil
+import struct
 import subprocess
 import sys
 import tempfile
-from collections import Counter
-from fractions import Fraction
+import zlib
 from pathlib import Path
+from xml.etree import ElementTree
 
 sys.path.append(str(Path(__file__).resolve().parents[1]))
 from folders import EXAMPLES, PROGRAM
 
-NEEDED = ("ogrinfo", "ogr2ogr")
-
-# The files of a county, the line that is wanted, and how many features of each kind of geometry. Of a map that isn't sound there
-# are no boundaries.
-EXPORTS = [
-    (["county"], "exported chains=5 polygons=3 rings=5\n", {"LineString": 5, "Point": 3, "MultiLineString": 3}),
-    (["island"], "exported chains=2 polygons=2 rings=4\n", {"LineString": 2, "Point": 2, "MultiLineString": 2}),
-    (["square.RT1", "square.RT2", "square.RTI", "square.RTP"], "exported chains=1 polygons=1 rings=2\n", {"LineString": 1, "Point": 1, "MultiLineString": 1}),
-    (["faults/town"], "exported chains=13 polygons=5\n", {"LineString": 13, "Point": 5}),
-]
-
-# Faults: the switches, the file, the status, how many features of each kind of geometry, and where the points are, in millionths of
-# a degree, by the records of the file.
-FAULTS = [
-    (["--all"], "faults/town", 1, {"Point": 12, "LineString": 9},
-     [(20, 50), (40, 50), (60, 50), (70, 50), (80, 50), (30, 60), (120, 10), (205, 20), (220, 20), (220, 20), (16, 16), (16, 16)]),
-    (["--all", "--most", "1"], "faults/G5", 1, {"Point": 2}, [(16, 16), (16, 16)]),
-    ([], "faults/G2", 1, {"Point": 1, "LineString": 2}, [(10, 10)]),
-    (["--all", "--where", "--zero-cells"], "faults/G6", 1, {"Point": 1, "LineString": 1}, [(10, 10)]),
-    (["--all"], "faults/M3", 1, {None: 2}, []),
-    (["--all"], "county", 0, {}, []),
-]
+COUNTY = EXAMPLES / "county"
+TOWN = EXAMPLES / "faults" / "town"
+BEGINNING = b'<svg xmlns="http://www.w3.org/2000/svg" class="tigertopo"'
+SVG = "{http://www.w3.org/2000/svg}"
+BROWSERS = ("chromium", "chromium-browser", "google-chrome")
+HEADLESS = ("--headless", "--no-sandbox", "--disable-gpu")
 
 
-def missing():
-    """The commands that are needed and aren't there."""
-    return [command for command in NEEDED if not shutil.which(command)]
+class Wrong(Exception):
+    """What isn't as it should be."""
 
 
-def run(*words):
-    return subprocess.run([str(word) for word in words], capture_output=True, text=True, timeout=60)
+def want(title, found, wanted):
+    if found != wanted:
+        raise Wrong(f"{title}: {found!r} in place of {wanted!r}")
 
 
-def doubled(ring):
-    """Twice the area of a ring, in square millionths of a degree."""
-    points = [tuple(round(Fraction(str(it)) * 1_000_000) for it in position) for position in ring]
-    return sum(x * next_y - y * next_x for (x, y), (next_x, next_y) in zip(points, points[1:]))
+def run(program, *words):
+    done = subprocess.run([program, *map(str, words)], capture_output=True, check=False)
+    return done.returncode, done.stdout, done.stderr
 
 
-def wrong_boundary(feature):
-    """What is wrong with the boundary of a polygon."""
-    rings = feature["geometry"]["coordinates"]
-    if any(ring[0] != ring[-1] for ring in rings):
-        return "a ring is open"
-    if sum(map(doubled, rings)) != 2 * Fraction(feature["properties"]["area"]):
-        return "the rings have another area"
-    return None
+class Picture:
+    """A picture that was made, taken apart."""
+
+    def __init__(self, made):
+        text = made.read_bytes()
+        want("how a picture begins", text[: len(BEGINNING)], BEGINNING)
+        root = ElementTree.fromstring(text)
+        self.size = int(root.get("width")), int(root.get("height"))
+        self.paths = {path.get("class"): path.get("d") for path in root.iter(SVG + "path")}
+        self.circles = [(int(it.get("cx")), int(it.get("cy"))) for it in root.iter(SVG + "circle")]
+        self.titles = [it.text for it in root.iter(SVG + "title")]
+
+    def count(self, path, command):
+        return self.paths[path].count(command)
+
+    def dots(self, path):
+        """The places of the dots of a path."""
+        return [(int(x), int(y)) for x, y in re.findall(r"M(-?\d+) (-?\d+)h0", self.paths[path])]
 
 
-def wrong_file(path, kinds):
-    """What is wrong with a file of which GDAL is to find so many features of each kind."""
-    return read_by_gdal(path, kinds)[1]
+def draw(program, folder, answer, *words):
+    made = folder / "map.svg"
+    want(f"draw {words}", run(program, "draw", "--out", made, *words), (0, answer, b""))
+    return Picture(made)
 
 
-def read_by_gdal(path, kinds, precision=6):
-    """The features that GDAL finds, and what is wrong where it is to find so many of each kind."""
-    told = run("ogrinfo", "-ro", "-al", "-so", path)
-    if told.returncode or told.stderr or f"Feature Count: {sum(kinds.values())}\n" not in told.stdout:
-        return [], f"ogrinfo: {told.stdout}{told.stderr}"
-    read = run("ogr2ogr", "-f", "GeoJSONSeq", "-lco", f"COORDINATE_PRECISION={precision}", "/vsistdout/", path)
-    if read.returncode or read.stderr:
-        return [], f"ogr2ogr: {read.stderr}"
-    features = [json.loads(line) for line in read.stdout.splitlines()]
-    found = Counter(feature["geometry"] and feature["geometry"]["type"] for feature in features)
-    if found != kinds:
-        return features, f"features: {dict(found)}"
-    for feature in features:
-        if feature["geometry"] and feature["geometry"]["type"] == "MultiLineString" and wrong_boundary(feature):
-            return features, f"{feature['properties']}: {wrong_boundary(feature)}"
-    return features, None
+def whole(program, folder):
+    """A county that is fitted: its longer side is 980 pixels, and north is up."""
+    picture = draw(program, folder, b"drawn chains=5\n", COUNTY)
+    want("its size", picture.size, (1000, 673))
+    want("its strokes", picture.count("chains", "l"), 12)
+    want("the ends of chains", len(picture.dots("nodes")), 10)
+    want("nodes", sorted(set(picture.dots("nodes"))), [(1633, 4900), (4900, 0), (4900, 6533), (8166, 3266)])
+    want("polygons' points", picture.dots("points"), [(2450, 3266), (5716, 1633), (7350, 3266)])
+    want("circles", picture.circles, [])
 
 
-def wrong_faults(program, folder, switches, file, status, kinds, points):
-    """What is wrong with the file of these faults, as GDAL reads it."""
-    made, read = Path(folder) / "faults.geojson", EXAMPLES / file
-    done = run(program, "audit", *switches, "--geojson", made, read)
-    if (done.returncode, done.stderr) != (status, ""):
-        return f"status {done.returncode}: {done.stdout}{done.stderr}"
-    features, wrong = read_by_gdal(made, kinds, 12)
-    if wrong:
-        return wrong
-    faults = [it for it in features if it["properties"].get("code")]
-    lie = [it["geometry"]["coordinates"] for it in faults if it["geometry"]]
-    if [tuple(round(Fraction(str(part)) * 1_000_000) for part in it) for it in lie] != points:
-        return f"points: {lie}"
-    # A record of each fault stands in a line of the file that has its type.
-    lines = read.read_text().splitlines()
-    records = [it for fault in faults for it in fault["properties"]["records"]]
-    if any(it["file"] != str(read) or lines[it["line"] - 1][:1] != it["type"] for it in records) or bool(records) != bool(faults):
-        return f"records: {records}"
-    return None
+def part(program, folder):
+    """A place: what lies outside isn't drawn, and what meets the border is."""
+    picture = draw(program, folder, b"drawn chains=1\n", "--at", "@55,30", "--width", "10", COUNTY)
+    want("its size", picture.size, (1000, 1000))
+    want("its strokes", picture.count("chains", "l"), 4)
+    want("nodes", set(picture.dots("nodes")), {(9800, 4900)})
+    want("polygons' points", picture.dots("points"), [(4900, 4900)])
+    picture = draw(program, folder, b"drawn chains=0\n", "--at", "@-40,-40", "--width", "10", COUNTY)
+    want("its strokes", picture.count("chains", "l"), 0)
 
 
-def wrong_export(program, folder, files, line, kinds):
-    """What is wrong with the export of these files."""
-    made = Path(folder) / "made.geojson"
-    done = run(program, "export", "--geojson", made, *(EXAMPLES / name for name in files))
-    if (done.returncode, done.stdout, done.stderr) != (0, line, ""):
-        return f"status {done.returncode}: {done.stdout}{done.stderr}"
-    return wrong_file(made, kinds)
+def faulty(program, folder):
+    """Each fault is a circle whose title is what `audit --all` prints of it."""
+    _, listed, _ = run(program, "audit", "--all", TOWN)
+    told = [line.removeprefix("map fault ") for line in listed.decode().splitlines() if line.startswith("map fault ")]
+    status, out, err = run(program, "draw", "--faults", "--out", folder / "map.svg", TOWN)
+    want("the faults of a town", (status, out.split(b" ")[-1], err), (0, b"faults=%d\n" % len(told), b""))
+    picture = Picture(folder / "map.svg")
+    want("titles", picture.titles, told)
+    want("circles", len(picture.circles), len(told))
+    draw(program, folder, b"drawn chains=5 faults=0\n", "--faults", COUNTY)
 
 
-def wrong_refusal(program, folder):
-    """What is wrong where a stranger's file stands under the name."""
-    made = Path(folder) / "made.geojson"
-    made.write_text('{"type":"FeatureCollection","features":[]}\n')
-    done = run(program, "export", "--geojson", made, EXAMPLES / "county")
-    if (done.returncode, done.stdout, done.stderr) != (64, "", "OUT stands and is no GeoJSON of tigertopo\n"):
-        return f"status {done.returncode}: {done.stdout}{done.stderr}"
-    return None if "tigertopo" not in made.read_text() else "it was written over"
+def escaped(program, folder):
+    """A key with bytes that would begin markup stands in a title as it is printed."""
+    keyed = folder / "keyed"
+    text = COUNTY.read_bytes().replace(b"A0001", b"<&;>1")
+    keyed.write_bytes(text.replace(b"+000000045+00000040", b"+000000025+00000040"))
+    picture = draw(program, folder, b"drawn chains=5 faults=2\n", "--faults", keyed)
+    want("titles", picture.titles, ["G4 PointOutside polygon <&;>1/2", "G5 PointInOther polygon <&;>1/2 other <&;>1/1"])
+
+
+def refused(program, folder):
+    """Where there is no map nothing is made, and no stranger's file is written over."""
+    made, faults = folder / "none.svg", EXAMPLES / "faults"
+    for words in ([], ["--faults"]):
+        status, out, err = run(program, "draw", *words, "--out", made, faults / "M1")
+        want("a fault of the records", (status, out[:13], err, made.exists()), (1, b"map fault M1 ", b"", False))
+        status, out, err = run(program, "draw", *words, "--out", made, faults / "L2")
+        want("a refused line", (status, out, err[:13], made.exists()), (3, b"", b"refused line ", False))
+    status, out, err = run(program, "draw", "--out", made, folder / "nothing")
+    want("a file that isn't there", (status, out, err[:15], made.exists()), (4, b"", b"stopped Device\n", False))
+    made.write_bytes(b"a letter\n")
+    answer = run(program, "draw", "--out", made, COUNTY)
+    want("a stranger's file", (answer, made.read_bytes()), ((64, b"", b"OUT stands and is no picture of tigertopo\n"), b"a letter\n"))
+    records = folder / "records"
+    records.write_bytes(COUNTY.read_bytes())
+    answer = run(program, "draw", "--out", records, records)
+    want("a file that is read", (answer, records.read_bytes()), ((64, b"", b"OUT is one of the files that are read\n"), COUNTY.read_bytes()))
+
+
+def pixels(image):
+    """The bytes of a PNG's rows, as they stand behind its filters."""
+    data, place, rows = image.read_bytes(), 8, b""
+    while place < len(data):
+        (length,) = struct.unpack(">I", data[place : place + 4])
+        if data[place + 4 : place + 8] == b"IDAT":
+            rows += data[place + 8 : place + 8 + length]
+        place += length + 12
+    return zlib.decompress(rows)
+
+
+def shown(browser, program, folder):
+    """What a browser shows isn't blank."""
+    sizes = []
+    for words in (["--at", "@-40,-40", "--width", "10", COUNTY], [COUNTY], ["--faults", TOWN]):
+        made, image = folder / "map.svg", folder / "shown.png"
+        run(program, "draw", "--out", made, *words)
+        subprocess.run(
+            [browser, *HEADLESS, "--window-size=1000,1000", f"--screenshot={image}", made.as_uri()],
+            capture_output=True,
+            check=True,
+            timeout=120,
+        )
+        sizes.append(sum(1 for byte in pixels(image) if byte))
+    want("a blank picture beside others", sizes[0] < sizes[1] and sizes[0] < sizes[2], True)
+
+
+def can_show(command, folder):
+    """Whether a browser makes an image here: one that is there may still lack what it runs on."""
+    image = Path(folder, "blank.png")
+    try:
+        done = subprocess.run([command, *HEADLESS, f"--screenshot={image}", "about:blank"], capture_output=True, check=False, timeout=60)
+    except subprocess.TimeoutExpired:
+        return False
+    return done.returncode == 0 and image.exists()
+
+
+def browser():
+    """The command of a browser, where there is one that makes images."""
+    with tempfile.TemporaryDirectory() as folder:
+        return next((command for command in filter(None, map(shutil.which, BROWSERS)) if can_show(command, folder)), None)
 
 
 def play_all(program=PROGRAM):
-    """How many exports are read as they are wanted, and how many aren't."""
-    wrong = []
-    for files, line, kinds in EXPORTS:
+    """How many pictures are as they have to be, and how many aren't. Where there is no browser none is shown by it."""
+    parts = [whole, part, faulty, escaped, refused]
+    shows = browser()
+    if shows:
+        parts.append(lambda program, folder: shown(shows, program, folder))
+    else:
+        print("no browser, so no picture is shown")
+    failed = 0
+    for each in parts:
         with tempfile.TemporaryDirectory() as folder:
-            wrong.append((" ".join(files), wrong_export(program, folder, files, line, kinds)))
-    for switches, file, *wanted in FAULTS:
-        with tempfile.TemporaryDirectory() as folder:
-            wrong.append((f"{' '.join(switches)} {file}", wrong_faults(program, folder, switches, file, *wanted)))
-    with tempfile.TemporaryDirectory() as folder:
-        wrong.append(("a stranger's file", wrong_refusal(program, folder)))
-    for title, what in wrong:
-        if what:
-            print(f"{title}: {what}")
-    failed = sum(what is not None for _, what in wrong)
-    return len(wrong) - failed, failed
+            try:
+                each(program, Path(folder))
+            except (Wrong, subprocess.SubprocessError) as wrong:
+                failed += 1
+                print(wrong)
+    return len(parts) - failed, failed
 
 
 if __name__ == "__main__":
-    if missing():
-        sys.exit(f"pictures.py needs {' and '.join(missing())}: install gdal-bin")
-    passed, failed = play_all(*map(Path, sys.argv[1:2]))
+    passed, failed = play_all(*(Path(word).resolve() for word in sys.argv[1:2]))
     print(f"{passed} passed, {failed} failed")
-    sys.exit(failed > 0 or passed == 0)
+    sys.exit(failed > 0)
