@@ -36,7 +36,7 @@ check:
 	.ci/run
 
 wrong-bodies:
-	python3 tests/wrong_bodies.py
+	python3 proving/wrong_bodies.py
 
 examples: build
 	python3 examples/run.py

@@ -98,7 +98,7 @@ def main():
     print(f"in processor minutes, {(time.monotonic() - begun) / 60:.1f} minutes in all:\n{table(watch.seconds())}")
     if to:
         proofs = sorted((name, spent) for (name, kind), spent in watch.seconds().items() if kind == "proof")
-        head = "# What each crate's proof takes of the processors, in seconds, as tests/times.py wrote it.\n"
+        head = "# What each crate's proof takes of the processors, in seconds, as proving/times.py wrote it.\n"
         Path(to).write_text(head + "".join(f"{name} {spent:.0f}\n" for name, spent in proofs))
     return status
 

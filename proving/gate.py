@@ -8,10 +8,13 @@ import subprocess
 import sys
 import time
 from concurrent.futures import ThreadPoolExecutor
+from pathlib import Path
 
+sys.path.append(str(Path(__file__).resolve().parents[1] / "tests"))
 from folders import TOP
 
-sys.path.append(str(TOP / "proving"))
+import times
+from prove import kit
 
 # More memory than any task of `rt ci` has been seen to take, in bytes.
 LANE = 5_000_000_000
@@ -20,8 +23,6 @@ LANE = 5_000_000_000
 def lanes():
     """How many of its tasks `rt ci` is to run side by side. By itself it plans with twice the memory that any of them has
     been seen to take, and leaves processors idle."""
-    from prove import kit
-
     rt = kit()
     return max(1, min(rt.processors(), rt.free() // LANE))
 
@@ -55,7 +56,6 @@ def main():
     import progress
     import rows
     import run as examples
-    import times
     import ways
 
     def timed(part):
