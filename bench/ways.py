@@ -5,12 +5,11 @@ is wanted of each, and none of the others. The gate asks for it.
 
 usage: ways.py [--chains N] [PROGRAM]
 
-Where valgrind isn't there it says so and counts nothing.
+Where valgrind isn't there all of it is skipped.
 """
 
 import importlib.util
 import re
-import shutil
 import subprocess
 import sys
 import tempfile
@@ -18,6 +17,8 @@ from concurrent.futures import ThreadPoolExecutor
 from pathlib import Path
 
 BENCH = Path(__file__).resolve().parent
+sys.path.append(str(BENCH.parent / "tests"))
+import skipped
 
 
 def bench_run():
@@ -44,8 +45,9 @@ COMMANDS = [["audit"], ["audit", "--faces"], ["audit", "--all"], ["audit", "--al
 DECIDES = [["audit"], ["audit", "--faces"], ["build"]]
 
 
-def missing():
-    return shutil.which("valgrind") is None
+def can_play():
+    """Whether valgrind is there. Else all of this is skipped."""
+    return skipped.has("sweeps of each command", "valgrind")
 
 
 def maps():
@@ -136,12 +138,9 @@ def main():
     words = sys.argv[1:]
     chains = int(words[1]) if words[:1] == ["--chains"] else CHAINS
     rest = words[2:] if words[:1] == ["--chains"] else words
-    if missing():
-        print("valgrind isn't there: nothing is counted")
-        return 0
-    passed, failed = play_all(*rest[:1], chains=chains)
-    print(f"{passed} passed, {failed} failed")
-    return failed > 0 or passed == 0
+    passed, failed = play_all(*rest[:1], chains=chains) if can_play() else (0, 0)
+    print(skipped.counts(passed, failed))
+    return failed > 0 or not (passed or skipped.PARTS)
 
 
 if __name__ == "__main__":

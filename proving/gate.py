@@ -13,7 +13,24 @@ from pathlib import Path
 sys.path.append(str(Path(__file__).resolve().parents[1] / "tests"))
 from folders import TOP
 
+import certificates
+import core
+import counties
+import devices
+import faced
+import full_size
+import geojson
+import installed
+import judged
+import made_files
+import memory
+import pictures
+import progress
+import rows
+import run as examples
+import skipped
 import times
+import ways
 from prove import kit
 
 # More memory than any task of `rt ci` has been seen to take, in bytes.
@@ -40,35 +57,10 @@ def prove():
     return passed, failed or (proofs.returncode != 0)
 
 
-def main():
-    import certificates
-    import core
-    import counties
-    import devices
-    import faced
-    import full_size
-    import geojson
-    import installed
-    import judged
-    import made_files
-    import memory
-    import pictures
-    import progress
-    import rows
-    import run as examples
-    import ways
-
-    def timed(part):
-        name, play = part
-        begun = time.monotonic()
-        well, ill = play()
-        sys.stdout.write(f"{name}: {well} of {well + ill}, {time.monotonic() - begun:.0f} s\n")
-        sys.stdout.flush()
-        return well, ill + (well + ill == 0)
-
-    proofs = ("proofs, edits and tests", prove)
-    # The longest first.
-    parts = [
+def parts():
+    """What the built program is asked for, the longest first, each with what plays it and gives how many cases passed and how many
+    failed."""
+    found = [
         ("maps judged", judged.play_all),
         ("certificates", certificates.play_all),
         ("answers at full size", full_size.play_all),
@@ -85,24 +77,38 @@ def main():
         ("rows", rows.play_all),
         ("rows over the core", core.play_all),
     ]
-    # Debian's gdal-bin isn't everywhere.
-    if not geojson.missing():
-        parts.append(("files of GeoJSON", geojson.play_all))
-    # So is valgrind.
-    if not ways.missing():
-        parts.append(("sweeps of each command", ways.play_all))
+    if geojson.can_play():
+        found.append(("files of GeoJSON", geojson.play_all))
+    if ways.can_play():
+        found.append(("sweeps of each command", ways.play_all))
+    return found
+
+
+def timed(part):
+    """Plays a part, says how long it took, and gives its two numbers. A part with no case is one that fails."""
+    name, play = part
+    begun = time.monotonic()
+    well, ill = play()
+    sys.stdout.write(f"{name}: {well} of {well + ill}, {time.monotonic() - begun:.0f} s\n")
+    sys.stdout.flush()
+    return well, ill + (well + ill == 0)
+
+
+def main():
     begun = time.monotonic()
     with times.Watch() as watch:
-        counts = [timed(proofs)]
+        counts = [timed(("proofs, edits and tests", prove))]
     print(f"the proofs, in processor minutes:\n{times.table(watch.seconds())}", flush=True)
     # Where a proof failed, the program is not the one that was proved.
     if not counts[0][1]:
         with ThreadPoolExecutor(len(os.sched_getaffinity(0))) as pool:
-            counts += pool.map(timed, parts)
+            counts += pool.map(timed, parts())
     used = resource.getrusage(resource.RUSAGE_CHILDREN)
     print(f"{(time.monotonic() - begun) / 60:.0f} minutes, {(used.ru_utime + used.ru_stime) / 60:.0f} processor minutes")
+    if skipped.PARTS:
+        print(f"skipped {len(skipped.PARTS)} parts: {', '.join(skipped.PARTS)}")
     passed, failed = (sum(column) for column in zip(*counts))
-    print(f"{passed} passed, {failed} failed")
+    print(skipped.counts(passed, failed))
     return failed > 0
 
 

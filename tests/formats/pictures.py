@@ -20,6 +20,8 @@ from xml.etree import ElementTree
 sys.path.append(str(Path(__file__).resolve().parents[1]))
 from folders import EXAMPLES, PROGRAM
 
+import skipped
+
 COUNTY = EXAMPLES / "county"
 TOWN = EXAMPLES / "faults" / "town"
 BEGINNING = b'<svg xmlns="http://www.w3.org/2000/svg" class="tigertopo"'
@@ -174,13 +176,13 @@ def browser():
 
 
 def play_all(program=PROGRAM):
-    """How many pictures are as they have to be, and how many aren't. Where there is no browser none is shown by it."""
+    """How many pictures are as they have to be, and how many aren't."""
     parts = [whole, part, faulty, escaped, refused]
     shows = browser()
     if shows:
         parts.append(lambda program, folder: shown(shows, program, folder))
     else:
-        print("no browser, so no picture is shown")
+        skipped.skip("pictures in a browser", " or ".join(BROWSERS))
     failed = 0
     for each in parts:
         with tempfile.TemporaryDirectory() as folder:
@@ -194,5 +196,5 @@ def play_all(program=PROGRAM):
 
 if __name__ == "__main__":
     passed, failed = play_all(*(Path(word).resolve() for word in sys.argv[1:2]))
-    print(f"{passed} passed, {failed} failed")
+    print(skipped.counts(passed, failed))
     sys.exit(failed > 0)

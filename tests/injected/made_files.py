@@ -25,6 +25,7 @@ sys.path.append(str(Path(__file__).resolve().parents[1]))
 from folders import EXAMPLES, PROGRAM
 
 import hints
+import skipped
 from memory import library_of
 
 COUNTY = EXAMPLES / "county"
@@ -198,6 +199,8 @@ class Play:
     def read_only(self):
         """OUT, what stands beside it, or their folder may not be written. Whoever runs as root may write all."""
         may_all = os.geteuid() == 0
+        if may_all:
+            skipped.skip("files made in a folder that is read alone", "user but root")
         for name, words in self.commands():
             old = KINDS[name].old
             self.made.write_bytes(old)
@@ -344,5 +347,5 @@ def play_all(program=PROGRAM):
 
 if __name__ == "__main__":
     passed, failed = play_all(*sys.argv[1:2])
-    print(f"{passed} passed, {failed} failed")
+    print(skipped.counts(passed, failed))
     sys.exit(failed > 0 or passed == 0)

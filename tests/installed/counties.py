@@ -3,12 +3,11 @@
 
 usage: counties.py [PROGRAM]
 
-Each way is tried whose command is there: `parallel`, and `sbatch` where a cluster answers `sinfo`.
+A way whose command isn't there is skipped: `parallel`, or `sbatch`, for which a cluster has to answer `sinfo`.
 """
 
 import os
 import re
-import shutil
 import subprocess
 import sys
 import tempfile
@@ -16,6 +15,8 @@ from pathlib import Path
 
 sys.path.append(str(Path(__file__).resolve().parents[1]))
 from folders import PROGRAM, TOP
+
+import skipped
 
 PAGE = TOP / "docs" / "many-counties.md"
 
@@ -31,11 +32,16 @@ def run(command, folder):
     return subprocess.run(["sh", "-c", command], cwd=folder, env=environment, capture_output=True, text=True)
 
 
-def is_there(command):
-    """Whether the tool that a way begins with can be used here."""
-    if "sbatch" in command:
-        return bool(shutil.which("sinfo")) and subprocess.run(["sinfo"], capture_output=True, timeout=60).returncode == 0
-    return "parallel" not in command or bool(shutil.which("parallel"))
+def can_go(way):
+    """Whether the tools that a way needs can be used here. Else it is skipped."""
+    if "sbatch" not in way:
+        return "parallel" not in way or skipped.has("many counties by parallel", "parallel")
+    if not skipped.has("many counties by sbatch", "sbatch", "sinfo"):
+        return False
+    answers = subprocess.run(["sinfo"], capture_output=True, timeout=60).returncode == 0
+    if not answers:
+        skipped.skip("many counties by sbatch", "cluster that answers sinfo")
+    return answers
 
 
 def play_all(program=PROGRAM):
@@ -45,7 +51,7 @@ def play_all(program=PROGRAM):
     commands, (wanted, counted, _) = blocks_of(text)
     make, spoil, script, *ways, table, count = commands
     passed = failed = 0
-    for way in filter(is_there, ways):
+    for way in filter(can_go, ways):
         with tempfile.TemporaryDirectory() as folder:
             (Path(folder) / "tigertopo").symlink_to(program)
             (Path(folder) / "bench").symlink_to(TOP / "bench")
@@ -62,5 +68,5 @@ def play_all(program=PROGRAM):
 
 if __name__ == "__main__":
     passed, failed = play_all(*map(Path, sys.argv[1:2]))
-    print(f"{passed} passed, {failed} failed")
+    print(skipped.counts(passed, failed))
     sys.exit(failed > 0 or passed == 0)

@@ -1,13 +1,12 @@
 #!/usr/bin/env python3
 """Looks at the manual page and at the completions that install/pages.py makes of the program's help: each command and each
-option stands in each of them, and those programs that read them and are there take them with no complaint. And the programs of
+option stands in each of them, and the programs that read them take them with no complaint. And the programs of
 docs/library.md are those of crates/, which are proved and run.
 
 usage: installed.py [PROGRAM]
 """
 
 import re
-import shutil
 import subprocess
 import sys
 import tempfile
@@ -17,8 +16,9 @@ sys.path.append(str(Path(__file__).resolve().parents[1]))
 from folders import PROGRAM, TOP
 
 import pages
+import skipped
 
-# What reads each file, where it is on the machine: it has to say nothing on standard error.
+# What reads each file: it has to say nothing on standard error.
 READERS = {
     "tigertopo.1": [["man", "--warnings", "-l"], ["mandoc", "-T", "lint", "-W", "error"]],
     "tigertopo.bash": [["bash", "-n"]],
@@ -30,7 +30,7 @@ READERS = {
 def complaints(name, file):
     """What the readers of a file complain of."""
     for reader in READERS[name]:
-        if shutil.which(reader[0]):
+        if skipped.has(f"{name} read by {reader[0]}", reader[0]):
             done = subprocess.run([*reader, str(file)], capture_output=True, text=True, env={"PATH": "/usr/bin:/bin", "LC_ALL": "C.UTF-8", "MANPAGER": "cat"})
             if done.returncode or done.stderr:
                 yield f"{name}: {' '.join(reader)}: {done.stderr.strip() or done.returncode}"
@@ -71,5 +71,5 @@ def play_all(program=PROGRAM):
 
 if __name__ == "__main__":
     passed, failed = play_all(*sys.argv[1:2])
-    print(f"{passed} passed, {failed} failed")
+    print(skipped.counts(passed, failed))
     sys.exit(failed > 0)
