@@ -13,9 +13,6 @@ import sys
 from fractions import Fraction
 from pathlib import Path
 
-sys.path.append(str(Path(__file__).resolve().parents[1]))
-import folders  # noqa: F401
-
 import judge
 
 
