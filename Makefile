@@ -8,7 +8,7 @@
 # make limits              does so, and says how long each answer took and in how much memory
 # make memory              refuses each allocation of the program, and of `bench tree`, in its turn
 # make devices             fails each read and each write of the program in its turn
-# make examples            runs the commands of README.md, examples/README.md and docs/faults.md, and compares what they print
+# make examples            runs the commands of README.md, docs/commands.md, examples/README.md and docs/faults.md, and compares what they print
 # make counties            runs the commands of docs/many-counties.md on a few counties
 # make bench               measures the program on record files of 1,000 to 1,000,000 chains, checks of counties, maps
 #                          decided and certificates built with none given, maps of long segments, what sweeps say of all
