@@ -7,9 +7,8 @@ ghost use Rattle.tl_output.specs.Stops.{stop_text};
 ghost use Rattle.tl_answers.specs.Outcomes.{stop_status};
 ghost use Rattle.tl_output.specs.Streams.{Tries, stream};
 
-use tl_output::{Stop, write_all};
+use tl_output::{Stop, refusal_line, write_all};
 use tl_record::{Cause, Sink};
-use tl_text::refusal_line;
 
 /// The status of a command that is done, and of help.
 pub const DONE: u8 = 0;

@@ -13,9 +13,8 @@ use crate::faults::fault_line;
 use crate::line::{LINE_ROOM, push_number};
 use crate::listing::Listing;
 use arrayvec::ArrayString;
-use tl_output::{Printer, Stop};
+use tl_output::{Printer, Stop, refusal_line};
 use tl_record::{Refusal, Sink};
-use tl_text::refusal_line;
 use tl_verdict::{MapFault, Report};
 
 /// Prints the line of a sound county, or a line for each fault or refusal and how many there are; where a number is given, only

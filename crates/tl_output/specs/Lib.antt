@@ -6,3 +6,4 @@ pub mod Lines
 pub mod Stops
 pub mod Streams
 pub mod Texts
+pub mod Refusals

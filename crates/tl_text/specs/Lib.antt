@@ -2,4 +2,3 @@
 pub mod Joining
 pub mod Printing
 pub mod Places
-pub mod Refusals

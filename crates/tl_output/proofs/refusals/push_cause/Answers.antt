@@ -1,6 +1,6 @@
 use Rattle.std.proofs.Common.{append_assoc, codes, ◌∙◌}
 use Rattle.tl_record.specs.Messages.{field_text}
-use Rattle.tl_text.proofs.refusals.push_cause.Goals as goal
+use Rattle.tl_output.proofs.refusals.push_cause.Goals as goal
 
 pub returns-in-OutOfRange-clause-bytes : goal.returns-in-OutOfRange-clause-bytes
 returns-in-OutOfRange-clause-bytes c =

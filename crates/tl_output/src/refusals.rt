@@ -4,7 +4,7 @@ ghost use Rattle.std.specs.Prelude.{◌≡◌, ◌++◌, ◌≤◌, length};
 ghost use Rattle.arrayvec.specs.ArrayString.{array_string_len};
 ghost use Rattle.tl_record.specs.Messages.{cause_text, field_text, field_word, refusal_text};
 ghost use Rattle.tl_output.specs.Writing.{line_of};
-ghost use Rattle.tl_text.specs.Refusals.{pair_text};
+ghost use Rattle.tl_output.specs.Refusals.{pair_text};
 
 use arrayvec::ArrayString;
 use itoa::Buffer;
