@@ -34,9 +34,9 @@ run = bench_run()
 # What is counted, each by functions that are called where it happens and nowhere else.
 SWEEPS, UNKNOWN, SLOW = "sweeps", "sweeps that say nothing", "slabs listed one by one"
 COUNTED = {
-    SWEEPS: ["tl_sweep::answer::sweep"],
-    UNKNOWN: ["tl_build::judge::judge", "tl_all_faults::of_map::list_by_search"],
-    SLOW: ["tl_facing::gaps::push_above"],
+    SWEEPS: ["tl_check_sweep::answer::sweep"],
+    UNKNOWN: ["tl_build::judge::judge", "tl_list::of_map::list_by_search"],
+    SLOW: ["tl_check_face_search::gaps::push_above"],
 }
 WANTED = {SWEEPS: 1, UNKNOWN: 0, SLOW: 0}
 CHAINS = 300

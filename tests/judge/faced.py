@@ -5,7 +5,7 @@ and over the program with `--faces`.
 usage: faced.py [--cases N]
 
 Where faces agree, each place that is on no chain has to lie in the one polygon that is named there, or in none where that is the
-outside: so it is proved (`tl_faces`), and so it is reckoned here by the counts of a second opinion. `audit --faces` has to answer
+outside: so it is proved (`tl_check_faces`), and so it is reckoned here by the counts of a second opinion. `audit --faces` has to answer
 what `audit` does, unless the map is sound and its faces disagree: then a fault that is true by its definition, which is looked at
 here line by line. `check --faces` by a certificate that `build` made has to agree, and `build --faces` makes that certificate where
 faces agree, and none where they don't. `audit --all --faces` has to answer what `audit --all` does, unless the map is sound and its

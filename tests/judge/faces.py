@@ -3,7 +3,7 @@
 
 usage: faces.py [--released] FILES..
 
-Written from the definitions in `tl_faces/specs` alone, as judge.py is from those of sound maps. The plane is cut at the
+Written from the definitions in `tl_check_faces/specs` alone, as judge.py is from those of sound maps. The plane is cut at the
 longitude of each vertex. Between two neighbouring longitudes the segments stand in one order from south to north, and between
 two neighbours is a gap. Two gaps on both sides of a longitude are of one face where a way leads across it that meets no chain.
 Faces agree where all sides toward the gaps of each face name one polygon, and all those toward the face without end the outside.

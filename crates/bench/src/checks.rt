@@ -10,10 +10,10 @@ use std::hash::RandomState;
 use tl_build::{Built, build};
 use tl_cert::Certificate;
 use tl_check::{Verdict, check_map};
-use tl_county::Map;
+use tl_check_planar::{Meeting, Segments, first_meet};
+use tl_check_sweep::{Gaps, Swept};
 use tl_map::read_map;
-use tl_planar::{Meeting, Segments, first_meet};
-use tl_sweep::{Gaps, Swept};
+use tl_map_county::Map;
 use tl_tree::FlatTree;
 
 /// Reads the map of the records.
@@ -107,7 +107,7 @@ fn check_read(rt: &HostRuntime, map: &Map, name: Option<&str>) -> Result<Answer,
 /// Sweeps over a map.
 fn sweep_map(rt: &HostRuntime, map: &Map) -> Result<Answer, Failure> {
     let begun = now(rt);
-    let swept = tl_sweep::sweep(rt.alloc(), map, Gaps::First);
+    let swept = tl_check_sweep::sweep(rt.alloc(), map, Gaps::First);
     say_taken(rt, "swept", begun);
     match swept {
         Ok(report) => Ok(Answer::Swept(word_of(report.swept))),

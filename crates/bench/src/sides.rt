@@ -1,13 +1,13 @@
 //! The rounds and the walks of a certificate, taken as a check takes them.
 
 ghost use Rattle.std.specs.Prelude.{IfOk};
-ghost use Rattle.tl_sides.specs.Keeping.Rounded.{KeepNext};
+ghost use Rattle.tl_check_sides.specs.Keeping.Rounded.{KeepNext};
 
 use crate::failure::Failure;
 use std::alloc::Global;
 use tl_cert::Certificate;
-use tl_county::Map;
-use tl_sides::{Next, Rounds, Walks};
+use tl_check_sides::{Next, Rounds, Walks};
+use tl_map_county::Map;
 
 /// The next dart of each dart, by the rounds, where they are those of the map.
 fn next_of(alloc: Global, map: &Map, rounds: &[Vec<u32>]) -> Result<Next, Failure>

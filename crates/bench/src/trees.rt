@@ -1,15 +1,15 @@
 //! Trees over the segments of a county's streets, packed and searched.
 
 ghost use Rattle.std.specs.Prelude.{◌<◌, ◌^◌, length};
-ghost use Rattle.tl_index.specs.Preorder.{IsPreorder};
+ghost use Rattle.tl_tree_index.specs.Preorder.{IsPreorder};
 
 use crate::answer::Answer;
 use crate::county::county;
 use crate::failure::Failure;
 use crate::steps::{now, say_taken};
 use crate::streets::Streets;
-use tl_pack::pack;
 use tl_tree::{BoxIndex, BoxTree, FlatTree, Items, Search, TreeNode};
+use tl_tree_pack::pack;
 
 /// Makes the rectangles of the segments and sorts them by their west sides.
 fn sort_rectangles(rt: &HostRuntime, streets: &Streets) -> Result<(), Failure> {

@@ -9,11 +9,11 @@ use crate::parts::{is_misplaced, meet_at};
 use crate::verdicts::{is_decided, is_decided_in_memory};
 use std::alloc::Global;
 use tl_check::{CertFault, Report, Verdict};
-use tl_county::Map;
+use tl_check_inside::Misplaced;
+use tl_check_sides::RoundFault;
 use tl_geom::Rational;
-use tl_inside::Misplaced;
+use tl_map_county::Map;
 use tl_record::PolyKey;
-use tl_sides::RoundFault;
 
 /// What is asked of a map, and the answer that is wanted.
 #[derive(Clone, Copy)]

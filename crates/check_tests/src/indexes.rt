@@ -1,17 +1,17 @@
 //! Where points of the island lie, by each index.
 
 ghost use Rattle.std.specs.Prelude.{◌<◌, ◌^◌, length};
-ghost use Rattle.tl_county.specs.Segments.{segments_before};
-ghost use Rattle.tl_planar.specs.Rectangles.{segment_rect};
-ghost use Rattle.tl_index.specs.Preorder.{IsPreorder};
+ghost use Rattle.tl_map_county.specs.Segments.{segments_before};
+ghost use Rattle.tl_check_planar.specs.Rectangles.{segment_rect};
+ghost use Rattle.tl_tree_index.specs.Preorder.{IsPreorder};
 
 use std::alloc::Global;
-use tl_county::Map;
+use tl_check_inside::{Place, locate};
+use tl_check_planar::Segments;
 use tl_geom::Point;
-use tl_inside::{Place, locate};
-use tl_pack::pack;
-use tl_planar::Segments;
+use tl_map_county::Map;
 use tl_tree::{BoxIndex, BoxTree, FlatTree, PlainList, TreeNode};
+use tl_tree_pack::pack;
 
 /// Points, and the chain that each lies on, or in which polygon and on which landmark.
 const PLACES: [(i32, i32, Option<u32>, &[u32], &[u32]); 9] = [

@@ -2,8 +2,8 @@
 
 use crate::keys::fixed_keys;
 use std::alloc::Global;
-use tl_county::Map;
 use tl_map::read_map;
+use tl_map_county::Map;
 use tl_record::Meter;
 
 /// The map of records.

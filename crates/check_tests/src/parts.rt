@@ -1,11 +1,11 @@
 //! What is found of chains that meet and of misplaced points, by a plain list.
 
 use std::alloc::Global;
-use tl_county::Map;
+use tl_check_inside::{Misplaced, find_misplaced};
+use tl_check_planar::{Meeting, Segments, first_meet};
 use tl_geom::Rational;
-use tl_inside::{Misplaced, find_misplaced};
-use tl_misplaced::all_misplaced;
-use tl_planar::{Meeting, Segments, first_meet};
+use tl_list_points::all_misplaced;
+use tl_map_county::Map;
 use tl_tree::{Items, PlainList};
 
 /// Whether the two segments of a map conflict at a point, and meet there, which is found in one test.

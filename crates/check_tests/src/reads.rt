@@ -7,7 +7,7 @@ use std::io;
 use std::io::{ErrorKind, Read};
 use tl_build::{Audit, audit};
 use tl_check::{Stop, Verdict, check, check_cert};
-use tl_county::Map;
+use tl_map_county::Map;
 use tl_record::{FailAt, Meter};
 
 /// A reader of a text that gives one byte a read.

@@ -3,7 +3,7 @@
 use std::alloc::Global;
 use tl_cert::read_cert;
 use tl_check::{Verdict, check_cert, check_map};
-use tl_county::Map;
+use tl_map_county::Map;
 use tl_record::Meter;
 
 /// Whether this is decided of a map by the certificate of a text, once it is read.

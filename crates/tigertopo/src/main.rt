@@ -4,10 +4,10 @@
 use std::hash::RandomState;
 use std::io::IsTerminal;
 use std::process::ExitCode;
-use tl_command::start::answer;
-use tl_command::words::words_of;
-use tl_files::SystemFiles;
-use tl_program::Whole;
+use tigertopo_command::start::answer;
+use tigertopo_command::words::words_of;
+use tigertopo_files::SystemFiles;
+use tigertopo_program::Whole;
 use tl_record::MeterOut;
 
 fn main(rt: HostRuntime) -> ExitCode {

@@ -2,13 +2,13 @@
 use Rattle.std.proofs.Common.{◌≡◌, ℕ, zero, suc, ◌+◌, ◌*◌, ◌^◌, ◌<◌, ◌≤◌, ◌==◌, Bool, true, false, if◌then◌else◌, List, [], ◌∷◌, length, refl, arith}
 use Rattle.std.proofs.lemmas.Nat.{mul-le}
 use Rattle.tl_geom.specs.declared.rect.Rect.{Rect}
-use Rattle.tl_county.specs.TheMap.{TheMap}
-use Rattle.tl_index.specs.Pairs.{indices, row_sum, pair_sum, meeting, overlaps}
-use Rattle.tl_index.specs.Searches.{meeting_pairs}
-use Rattle.tl_planar.specs.Searching.{AreBeyond}
-use Rattle.tl_output.specs.declared.stop.Stop.{Stop}
-use Rattle.tl_output.specs.declared.stop.Stop.TheVariants.{Record, Memory, Device, Budget}
-use Rattle.tl_verdict.specs.Verdicts.{MayStop}
+use Rattle.tl_map_county.specs.TheMap.{TheMap}
+use Rattle.tl_tree_index.specs.Pairs.{indices, row_sum, pair_sum, meeting, overlaps}
+use Rattle.tl_tree_index.specs.Searches.{meeting_pairs}
+use Rattle.tl_check_planar.specs.Searching.{AreBeyond}
+use Rattle.tl_cert_output.specs.declared.stop.Stop.{Stop}
+use Rattle.tl_cert_output.specs.declared.stop.Stop.TheVariants.{Record, Memory, Device, Budget}
+use Rattle.tl_check_verdict.specs.Verdicts.{MayStop}
 use Rattle.tl_build.specs.Auditing.{IsMemoryStop}
 
 one_at_most : (a b : Bool) → (if a then 0 else (if b then 1 else 0)) ≤ 1

@@ -1,29 +1,29 @@
 -- What the clauses of answers to maps read off what these say.
 use Rattle.std.proofs.Common.{◌≡◌, ◌↔◌, ℕ, List, Option, Some, None, Result, Ok, Err, refl, subst, Bool, IsTrue, false, option_map}
 use Rattle.std.specs.Prelude.{IfOk, IfErr, MatchOption}
-use Rattle.tl_county.specs.TheMap.{TheMap}
-use Rattle.tl_planar.specs.Planar.{IsPlanar}
-use Rattle.tl_sides.specs.Sides.{SidesAgree}
-use Rattle.tl_sides.specs.Walks.{AreWalks}
-use Rattle.tl_inside.specs.Placed.{ArePlaced}
-use Rattle.tl_cells.specs.Cells.{CellsAgree}
+use Rattle.tl_map_county.specs.TheMap.{TheMap}
+use Rattle.tl_check_planar.specs.Planar.{IsPlanar}
+use Rattle.tl_check_sides.specs.Sides.{SidesAgree}
+use Rattle.tl_check_sides.specs.Walks.{AreWalks}
+use Rattle.tl_check_inside.specs.Placed.{ArePlaced}
+use Rattle.tl_check_cells.specs.Cells.{CellsAgree}
 use Rattle.tl_cert.specs.Certificates.{TheCertificate}
-use Rattle.tl_index.specs.declared.index.Memory.{Memory}
-use Rattle.tl_verdict.specs.declared.fault.MapFault.{MapFault}
-use Rattle.tl_verdict.specs.Sound.{IsSound, IsSoundFor}
-use Rattle.tl_verdict.specs.Truth.{IsTrueOfMap}
-use Rattle.tl_verdict.specs.Verdicts.{IsReport}
-use Rattle.tl_crossings.specs.Headings.{AreProper}
-use Rattle.tl_faces.specs.declared.fault.FaceFault.{FaceFault}
-use Rattle.tl_faces.specs.Facing.{FacesAgree}
-use Rattle.tl_faces.specs.Faults.{IsTrueFaceFault}
-use Rattle.tl_verdict.specs.declared.fault.MapFault.TheVariants.{Face}
-use Rattle.tl_verdict.proofs.Denials.{not_sound}
-use Rattle.tl_verdict.proofs.Asked.{keeps, disagrees}
-use Rattle.tl_propose.proofs.Soundness.{sound_by}
+use Rattle.tl_tree_index.specs.declared.index.Memory.{Memory}
+use Rattle.tl_check_verdict.specs.declared.fault.MapFault.{MapFault}
+use Rattle.tl_check_verdict.specs.Sound.{IsSound, IsSoundFor}
+use Rattle.tl_check_verdict.specs.Truth.{IsTrueOfMap}
+use Rattle.tl_check_verdict.specs.Verdicts.{IsReport}
+use Rattle.tl_check_crossings.specs.Headings.{AreProper}
+use Rattle.tl_check_faces.specs.declared.fault.FaceFault.{FaceFault}
+use Rattle.tl_check_faces.specs.Facing.{FacesAgree}
+use Rattle.tl_check_faces.specs.Faults.{IsTrueFaceFault}
+use Rattle.tl_check_verdict.specs.declared.fault.MapFault.TheVariants.{Face}
+use Rattle.tl_check_verdict.proofs.Denials.{not_sound}
+use Rattle.tl_check_verdict.proofs.Asked.{keeps, disagrees}
+use Rattle.tl_build_propose.proofs.Soundness.{sound_by}
 use Rattle.tl_record.specs.Records.{Records as AllRecords}
-use Rattle.tl_verdict.specs.Records.{HaveMap}
-use Rattle.tl_verdict.proofs.OneMap.{weaker}
+use Rattle.tl_check_verdict.specs.Records.{HaveMap}
+use Rattle.tl_check_verdict.proofs.OneMap.{weaker}
 use Rattle.tl_build.specs.declared.answer.Audit.{Audit}
 use Rattle.tl_build.specs.declared.answer.Audit.TheVariants as audit
 use Rattle.tl_build.specs.declared.answer.Built.{Built}

@@ -4,13 +4,13 @@ use Rattle.std.specs.Option.{IfSome}
 use Rattle.std.specs.Result.{IfOk}
 use Rattle.std.proofs.lemmas.Option.{IfSome_then}
 use Rattle.tl_record.specs.Records.{Records as AllRecords}
-use Rattle.tl_drawn.specs.declared.fault.MapStop.{MapStop}
-use Rattle.tl_drawn.specs.declared.fault.MapStop.TheVariants as map
-use Rattle.tl_county.specs.TheMap.{TheMap}
-use Rattle.tl_drawn.specs.Reading.{IsReadFrom, StopsReading}
-use Rattle.tl_verdict.specs.Sound.{IsSoundFor}
-use Rattle.tl_verdict.specs.Records.{HaveMap}
-use Rattle.tl_verdict.proofs.OneMap.{same_map}
+use Rattle.tl_map_rules.specs.declared.fault.MapStop.{MapStop}
+use Rattle.tl_map_rules.specs.declared.fault.MapStop.TheVariants as map
+use Rattle.tl_map_county.specs.TheMap.{TheMap}
+use Rattle.tl_map_rules.specs.Reading.{IsReadFrom, StopsReading}
+use Rattle.tl_check_verdict.specs.Sound.{IsSoundFor}
+use Rattle.tl_check_verdict.specs.Records.{HaveMap}
+use Rattle.tl_check_verdict.proofs.OneMap.{same_map}
 use Rattle.tl_build.specs.Auditing.{Auditing, SaysSound}
 use Rattle.tl_build.specs.Keeping.Judging.{refusal_of}
 

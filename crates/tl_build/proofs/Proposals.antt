@@ -1,18 +1,18 @@
 -- A certificate that is proposed for a map has no fault that the checker could answer.
 use Rattle.std.proofs.Common.{arith}
-use Rattle.tl_county.specs.TheMap.{TheMap}
-use Rattle.tl_planar.specs.Planar.{IsPlanar}
-use Rattle.tl_planar.specs.Rectangles.{segment_rect}
-use Rattle.tl_index.specs.Trees.{tree_of}
+use Rattle.tl_map_county.specs.TheMap.{TheMap}
+use Rattle.tl_check_planar.specs.Planar.{IsPlanar}
+use Rattle.tl_check_planar.specs.Rectangles.{segment_rect}
+use Rattle.tl_tree_index.specs.Trees.{tree_of}
 use Rattle.tl_tree.proofs.Checks.{fault-unfit}
-use Rattle.tl_crossings.specs.Headings.{AreProper}
+use Rattle.tl_check_crossings.specs.Headings.{AreProper}
 use Rattle.tl_cert.specs.Certificates.{TheCertificate}
-use Rattle.tl_verdict.specs.declared.fault.CertFault.{CertFault}
-use Rattle.tl_verdict.specs.declared.fault.CertFault.TheVariants.{Text, Counts, Tree, TooDeep, Round, Walk}
-use Rattle.tl_verdict.specs.Truth.{IsTrueOfCert, IsOfDarts}
-use Rattle.tl_verdict.specs.Valid.{IsValid, segments_of}
-use Rattle.tl_verdict.proofs.Denials.{not_valid}
-use Rattle.tl_propose.specs.Keeping.Proposed.{IsProposal}
+use Rattle.tl_check_verdict.specs.declared.fault.CertFault.{CertFault}
+use Rattle.tl_check_verdict.specs.declared.fault.CertFault.TheVariants.{Text, Counts, Tree, TooDeep, Round, Walk}
+use Rattle.tl_check_verdict.specs.Truth.{IsTrueOfCert, IsOfDarts}
+use Rattle.tl_check_verdict.specs.Valid.{IsValid, segments_of}
+use Rattle.tl_check_verdict.proofs.Denials.{not_valid}
+use Rattle.tl_build_propose.specs.Keeping.Proposed.{IsProposal}
 
 -- where the chains are planar it is valid
 pub is_valid : (m : TheMap) (c : TheCertificate) → IsProposal m c → AreProper m.chains → IsPlanar m.chains → IsValid m c

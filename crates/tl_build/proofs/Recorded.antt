@@ -3,22 +3,22 @@ use Rattle.std.proofs.Common.{◌≡◌, ◌↔◌, ℕ, List, Option, Result, O
 use Rattle.std.specs.Option.{IfSome}
 use Rattle.std.proofs.lemmas.Option.{IfSome_then}
 use Rattle.tl_record.specs.Records.{Records as AllRecords}
-use Rattle.tl_drawn.specs.declared.fault.MapStop.{MapStop}
-use Rattle.tl_drawn.specs.declared.fault.MapStop.TheVariants as map
-use Rattle.tl_county.specs.TheMap.{TheMap}
-use Rattle.tl_county.specs.declared.map.Map.{Map}
-use Rattle.tl_drawn.specs.Reading.{IsReadFrom, StopsReading, TellsDevice as TellsReading}
-use Rattle.tl_verdict.specs.declared.verdict.Report.{Report}
-use Rattle.tl_verdict.specs.declared.verdict.Verdict.TheVariants as verdict
-use Rattle.tl_verdict.specs.Sound.{IsSoundFor}
-use Rattle.tl_verdict.specs.Verdicts.{IsReport}
-use Rattle.tl_verdict.specs.Records.{HaveMap, IsTrueOfRecords}
+use Rattle.tl_map_rules.specs.declared.fault.MapStop.{MapStop}
+use Rattle.tl_map_rules.specs.declared.fault.MapStop.TheVariants as map
+use Rattle.tl_map_county.specs.TheMap.{TheMap}
+use Rattle.tl_map_county.specs.declared.map.Map.{Map}
+use Rattle.tl_map_rules.specs.Reading.{IsReadFrom, StopsReading, TellsDevice as TellsReading}
+use Rattle.tl_check_verdict.specs.declared.verdict.Report.{Report}
+use Rattle.tl_check_verdict.specs.declared.verdict.Verdict.TheVariants as verdict
+use Rattle.tl_check_verdict.specs.Sound.{IsSoundFor}
+use Rattle.tl_check_verdict.specs.Verdicts.{IsReport}
+use Rattle.tl_check_verdict.specs.Records.{HaveMap, IsTrueOfRecords}
 use Rattle.tl_check.proofs.Recorded.{map_fault}
 use Rattle.tl_build.specs.declared.answer.Audit.TheVariants as audit
-use Rattle.tl_output.specs.declared.stop.Stop.{Stop}
-use Rattle.tl_output.specs.declared.stop.Stop.TheVariants as stop
+use Rattle.tl_cert_output.specs.declared.stop.Stop.{Stop}
+use Rattle.tl_cert_output.specs.declared.stop.Stop.TheVariants as stop
 use Rattle.tl_build.specs.Auditing.{Auditing, IfSound, IfFaulty, SaysSound, IsMemoryStop, IsNotBudget, MayStopAudit}
-use Rattle.tl_output.specs.Stops.{TellsDevice}
+use Rattle.tl_cert_output.specs.Stops.{TellsDevice}
 use Rattle.tl_build.specs.Keeping.Judging.{refusal_of}
 use Rattle.tl_build.specs.Keeping.Deciding.{AuditsFor, AuditsRead}
 use Rattle.tl_build.proofs.Decided as decided

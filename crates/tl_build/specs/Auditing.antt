@@ -1,10 +1,10 @@
 -- What an audit of records says, by its kinds.
 use Rattle.std.specs.Prelude.{◌≡◌, Some, Result, Ok, ⊤}
 use Rattle.tl_record.specs.Records.{Records}
-use Rattle.tl_verdict.specs.declared.fault.MapFault.{MapFault}
-use Rattle.tl_verdict.specs.declared.verdict.Report.{Report}
-use Rattle.tl_output.specs.declared.stop.Stop.{Stop}
-use Rattle.tl_output.specs.declared.stop.Stop.TheVariants.{Record, Memory, Device, Budget}
+use Rattle.tl_check_verdict.specs.declared.fault.MapFault.{MapFault}
+use Rattle.tl_check_verdict.specs.declared.verdict.Report.{Report}
+use Rattle.tl_cert_output.specs.declared.stop.Stop.{Stop}
+use Rattle.tl_cert_output.specs.declared.stop.Stop.TheVariants.{Record, Memory, Device, Budget}
 use Rattle.tl_build.specs.declared.answer.Audit.{Audit}
 use Rattle.tl_build.specs.declared.answer.Audit.TheVariants.{Sound, Fault}
 

@@ -1,10 +1,10 @@
 -- What is said of a certificate that was built, and of a fault that was found in its place.
 use Rattle.std.specs.Prelude.{Result, Ok, ⊤}
 use Rattle.tl_cert.specs.Certificates.{TheCertificate}
-use Rattle.tl_verdict.specs.declared.fault.MapFault.{MapFault}
+use Rattle.tl_check_verdict.specs.declared.fault.MapFault.{MapFault}
 use Rattle.tl_build.specs.declared.answer.Built.{Built}
 use Rattle.tl_build.specs.declared.answer.Built.TheVariants.{Cert, Fault}
-use Rattle.tl_output.specs.declared.stop.Stop.{Stop}
+use Rattle.tl_cert_output.specs.declared.stop.Stop.{Stop}
 
 abbrev pub Building : Type 0
 Building = Result Built Stop

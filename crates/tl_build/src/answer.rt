@@ -2,7 +2,7 @@
 
 use std::fmt;
 use tl_cert::Certificate;
-use tl_verdict::{MapFault, Report};
+use tl_check_verdict::{MapFault, Report};
 
 /// What is built of a map.
 #[derive(Drop)]

@@ -1,20 +1,20 @@
 //! Faces of maps that are found to be sound.
 
 ghost use Rattle.std.specs.Prelude.{◌≡◌, IfErr, IfOk, MatchOption, All, IfSome, [], option_map};
-ghost use Rattle.tl_slabs.specs.Heights.{widest};
-ghost use Rattle.tl_faces.specs.Facing.{FacesAgree};
-ghost use Rattle.tl_faces.specs.Odd.{IsLowestOddGap};
-ghost use Rattle.tl_verdict.specs.declared.fault.MapFault.TheVariants.{Face};
-ghost use Rattle.tl_verdict.specs.Sound.{IsSound, IsSoundFor};
-ghost use Rattle.tl_verdict.specs.Truth.{IsTrueOfMap};
+ghost use Rattle.tl_check_heights.specs.Heights.{widest};
+ghost use Rattle.tl_check_faces.specs.Facing.{FacesAgree};
+ghost use Rattle.tl_check_faces.specs.Odd.{IsLowestOddGap};
+ghost use Rattle.tl_check_verdict.specs.declared.fault.MapFault.TheVariants.{Face};
+ghost use Rattle.tl_check_verdict.specs.Sound.{IsSound, IsSoundFor};
+ghost use Rattle.tl_check_verdict.specs.Truth.{IsTrueOfMap};
 ghost use Rattle.tl_build.specs.Auditing.{IsMemoryStop};
 
 use std::alloc::Global;
-use tl_county::Map;
-use tl_faces::{FaceFault, OddGap};
-use tl_facing::face_fault_of;
-use tl_output::Stop;
-use tl_verdict::MapFault;
+use tl_cert_output::Stop;
+use tl_check_face_search::face_fault_of;
+use tl_check_faces::{FaceFault, OddGap};
+use tl_check_verdict::MapFault;
+use tl_map_county::Map;
 
 /// Where faces are asked for, those of a sound map that disagree, if some do, by what a sweep has told of gaps.
 pub fn find_face_fault(

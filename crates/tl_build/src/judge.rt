@@ -1,14 +1,14 @@
 //! The decision of a map by a search, with no certificate given.
 
-ghost use Rattle.tl_propose.specs.Keeping.Proposed.{IsProposal};
+ghost use Rattle.tl_build_propose.specs.Keeping.Proposed.{IsProposal};
 ghost use Rattle.tl_build.specs.Keeping.Judging.{Judges};
 
 use std::alloc::Global;
 use tl_cert::Certificate;
+use tl_cert_output::Stop;
 use tl_check::check_map;
-use tl_county::Map;
-use tl_output::Stop;
-use tl_verdict::{MapFault, Report, Verdict};
+use tl_check_verdict::{MapFault, Report, Verdict};
+use tl_map_county::Map;
 
 /// Decides whether a map is sound, by the certificate that is proposed for it: its report, or a fault of it.
 pub fn judge(alloc: Global, map: &Map, cert: &Certificate) -> Result<Result<Report, MapFault>, Stop>

@@ -1,11 +1,11 @@
 //! The builder: whether a map is sound with no certificate given, and a certificate of a map that is.
 //!
-//! [`audit`] decides records, and [`build`] makes a certificate. Both sweep over the map first (`tl_sweep`). Where its chains
+//! [`audit`] decides records, and [`build`] makes a certificate. Both sweep over the map first (`tl_check_sweep`). Where its chains
 //! are found to be planar, the walks that follow from the darts sorted about their nodes tell whether sides agree, and its
 //! rings where the points of polygons lie. Where the sweep says nothing, a certificate is proposed, and the checker of
-//! `tl_check` has the last word: it searches by the tree that `tl_pack` makes over the segments. Each certificate that is
+//! `tl_check` has the last word: it searches by the tree that `tl_tree_pack` makes over the segments. Each certificate that is
 //! made has that tree, and those darts and walks. Who wants the walks of a sound map alone takes [`find_walks`]. Where faces
-//! are asked for ([`audit_with`], [`build_with`]), the same sweep tells whether those of a sound map agree (`tl_facing`).
+//! are asked for ([`audit_with`], [`build_with`]), the same sweep tells whether those of a sound map agree (`tl_check_face_search`).
 #![tactic(auto)]
 
 mod answer;

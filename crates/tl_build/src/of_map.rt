@@ -1,18 +1,18 @@
 //! A certificate of a map, made with none given.
 
 ghost use Rattle.std.specs.Prelude.{◌≡◌, ◌≤◌, ◌↔◌, IfOk, IfErr, false, All, IfSome, []};
-ghost use Rattle.tl_index.specs.Trees.{depth, tree_of};
-ghost use Rattle.tl_pack.specs.Packed.{IsEvenlySplit};
-ghost use Rattle.tl_planar.specs.Planar.{IsPlanar};
-ghost use Rattle.tl_planar.specs.declared.meet.Meet.{Meet};
-ghost use Rattle.tl_planar.specs.Searching.{IsTrueMeet};
-ghost use Rattle.tl_inside.specs.Placed.{ArePlaced};
-ghost use Rattle.tl_slabs.specs.Heights.{widest};
-ghost use Rattle.tl_faces.specs.Facing.{FacesAgree};
-ghost use Rattle.tl_faces.specs.Odd.{IsLowestOddGap};
-ghost use Rattle.tl_verdict.specs.Sound.{IsSound, IsSoundFor};
-ghost use Rattle.tl_verdict.specs.Valid.{IsValid};
-ghost use Rattle.tl_verdict.specs.Truth.{IsTrueOfMap};
+ghost use Rattle.tl_tree_index.specs.Trees.{depth, tree_of};
+ghost use Rattle.tl_tree_pack.specs.Packed.{IsEvenlySplit};
+ghost use Rattle.tl_check_planar.specs.Planar.{IsPlanar};
+ghost use Rattle.tl_check_planar.specs.declared.meet.Meet.{Meet};
+ghost use Rattle.tl_check_planar.specs.Searching.{IsTrueMeet};
+ghost use Rattle.tl_check_inside.specs.Placed.{ArePlaced};
+ghost use Rattle.tl_check_heights.specs.Heights.{widest};
+ghost use Rattle.tl_check_faces.specs.Facing.{FacesAgree};
+ghost use Rattle.tl_check_faces.specs.Odd.{IsLowestOddGap};
+ghost use Rattle.tl_check_verdict.specs.Sound.{IsSound, IsSoundFor};
+ghost use Rattle.tl_check_verdict.specs.Valid.{IsValid};
+ghost use Rattle.tl_check_verdict.specs.Truth.{IsTrueOfMap};
 ghost use Rattle.tl_build.specs.Building.{IfCert, OnCert, IfFault, HasCert};
 ghost use Rattle.tl_build.specs.Auditing.{IsMemoryStop};
 ghost use Rattle.tl_build.specs.Keeping.Deciding.{Builds, BuildsFor, IsBuilt};
@@ -22,13 +22,13 @@ use crate::faces::find_face_fault;
 use crate::judge::judge;
 use crate::planar::build_planar;
 use std::alloc::Global;
+use tl_build_propose::propose;
 use tl_cert::Certificate;
-use tl_county::Map;
-use tl_faces::OddGap;
-use tl_output::Stop;
-use tl_propose::propose;
-use tl_sweep::{Gaps, SweepReport, Swept, sweep};
-use tl_verdict::MapFault;
+use tl_cert_output::Stop;
+use tl_check_faces::OddGap;
+use tl_check_sweep::{Gaps, SweepReport, Swept, sweep};
+use tl_check_verdict::MapFault;
+use tl_map_county::Map;
 
 /// Makes a certificate of version 2 of a map that is sound, or names a fault of one that isn't. Which of several faults is
 /// named, and which valid certificate is made, is open.

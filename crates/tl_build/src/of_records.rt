@@ -4,18 +4,18 @@ ghost use Rattle.std.specs.Prelude.{◌≡◌, ◌↔◌, IfOk, IfErr, false, Al
 ghost use Rattle.std.specs.Option.{IfSome};
 ghost use Rattle.tl_record.specs.Layout.{tiger_2006, layout_with};
 ghost use Rattle.tl_record.specs.Records.{records_of};
-ghost use Rattle.tl_planar.specs.Planar.{IsPlanar};
-ghost use Rattle.tl_planar.specs.declared.meet.Meet.{Meet};
-ghost use Rattle.tl_planar.specs.Searching.{IsTrueMeet};
-ghost use Rattle.tl_inside.specs.Placed.{ArePlaced};
-ghost use Rattle.tl_slabs.specs.Heights.{widest};
-ghost use Rattle.tl_faces.specs.Facing.{FacesAgree};
-ghost use Rattle.tl_faces.specs.Odd.{IsLowestOddGap};
-ghost use Rattle.tl_verdict.specs.Sound.{IsSound, IsSoundFor};
-ghost use Rattle.tl_verdict.specs.Verdicts.{IsReport};
-ghost use Rattle.tl_verdict.specs.Records.{HaveMap, IsTrueOfRecords};
+ghost use Rattle.tl_check_planar.specs.Planar.{IsPlanar};
+ghost use Rattle.tl_check_planar.specs.declared.meet.Meet.{Meet};
+ghost use Rattle.tl_check_planar.specs.Searching.{IsTrueMeet};
+ghost use Rattle.tl_check_inside.specs.Placed.{ArePlaced};
+ghost use Rattle.tl_check_heights.specs.Heights.{widest};
+ghost use Rattle.tl_check_faces.specs.Facing.{FacesAgree};
+ghost use Rattle.tl_check_faces.specs.Odd.{IsLowestOddGap};
+ghost use Rattle.tl_check_verdict.specs.Sound.{IsSound, IsSoundFor};
+ghost use Rattle.tl_check_verdict.specs.Verdicts.{IsReport};
+ghost use Rattle.tl_check_verdict.specs.Records.{HaveMap, IsTrueOfRecords};
 ghost use Rattle.tl_build.specs.Auditing.{IfSound, OnSound, IfFaulty, SaysSound, IsNotBudget, MayStopAudit};
-ghost use Rattle.tl_output.specs.Stops.{TellsDevice};
+ghost use Rattle.tl_cert_output.specs.Stops.{TellsDevice};
 ghost use Rattle.tl_build.specs.Keeping.Deciding.{AuditsFor, AuditsRead};
 
 use crate::answer::Audit;
@@ -23,13 +23,13 @@ use crate::faces::find_face_fault;
 use crate::of_swept::decide_swept;
 use std::alloc::Global;
 use std::hash::RandomState;
-use tl_county::Map;
-use tl_faces::OddGap;
+use tl_cert_output::Stop;
+use tl_check_faces::OddGap;
+use tl_check_sweep::{Gaps, SweepReport, Swept, sweep};
+use tl_check_verdict::{Report, fault_of_records};
 use tl_map::{MapStop, read_map_with};
-use tl_output::Stop;
+use tl_map_county::Map;
 use tl_record::{Options, PLAIN, Source};
-use tl_sweep::{Gaps, SweepReport, Swept, sweep};
-use tl_verdict::{Report, fault_of_records};
 
 /// Decides whether the map of a county is sound, from the text of its record files alone. Which of several faults is named
 /// is open.

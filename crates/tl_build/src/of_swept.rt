@@ -1,23 +1,23 @@
 //! The decision of a map of which a sweep has said something.
 
 ghost use Rattle.std.specs.Prelude.{◌≡◌};
-ghost use Rattle.tl_planar.specs.Planar.{IsPlanar};
-ghost use Rattle.tl_planar.specs.declared.meet.Meet.{Meet};
-ghost use Rattle.tl_planar.specs.Searching.{IsTrueMeet};
-ghost use Rattle.tl_inside.specs.Placed.{ArePlaced};
+ghost use Rattle.tl_check_planar.specs.Planar.{IsPlanar};
+ghost use Rattle.tl_check_planar.specs.declared.meet.Meet.{Meet};
+ghost use Rattle.tl_check_planar.specs.Searching.{IsTrueMeet};
+ghost use Rattle.tl_check_inside.specs.Placed.{ArePlaced};
 ghost use Rattle.tl_build.specs.Keeping.Deciding.{Audits};
 
 use crate::answer::Audit;
 use crate::judge::judge;
 use crate::planar::audit_planar;
 use std::alloc::Global;
-use tl_county::Map;
-use tl_output::Stop;
-use tl_propose::propose;
-use tl_sweep::Swept;
-use tl_verdict::MapFault;
+use tl_build_propose::propose;
+use tl_cert_output::Stop;
+use tl_check_sweep::Swept;
+use tl_check_verdict::MapFault;
+use tl_map_county::Map;
 
-/// Decides whether a map is sound of which a sweep has said this (`tl_sweep`): by the walks about its nodes where its chains are
+/// Decides whether a map is sound of which a sweep has said this (`tl_check_sweep`): by the walks about its nodes where its chains are
 /// planar, and by a search where the sweep said nothing. Which of several faults is named is open.
 pub fn decide_swept(alloc: Global, map: &Map, swept: Swept) -> Result<Audit, Stop>
     requires placed { swept ≡ Swept.Placed → IsPlanar map.now.chains × ArePlaced map.now }

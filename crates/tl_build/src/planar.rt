@@ -1,29 +1,29 @@
 //! The decision of maps whose chains are planar, with no certificate given.
 
 ghost use Rattle.std.specs.Prelude.{◌<◌, ◌^◌, length, IfOk, IsTrue, MatchOption, false};
-ghost use Rattle.tl_planar.specs.Planar.{IsPlanar};
-ghost use Rattle.tl_sides.specs.Sides.{SidesAgree};
-ghost use Rattle.tl_sides.specs.Walks.{AreWalks};
-ghost use Rattle.tl_inside.specs.Placed.{ArePlaced};
-ghost use Rattle.tl_cells.specs.Cells.{CellsAgree};
-ghost use Rattle.tl_crossings.specs.Headings.{AreProper};
-ghost use Rattle.tl_verdict.specs.Sound.{IsSound};
-ghost use Rattle.tl_verdict.specs.Truth.{IsTrueOfMap};
+ghost use Rattle.tl_check_planar.specs.Planar.{IsPlanar};
+ghost use Rattle.tl_check_sides.specs.Sides.{SidesAgree};
+ghost use Rattle.tl_check_sides.specs.Walks.{AreWalks};
+ghost use Rattle.tl_check_inside.specs.Placed.{ArePlaced};
+ghost use Rattle.tl_check_cells.specs.Cells.{CellsAgree};
+ghost use Rattle.tl_check_crossings.specs.Headings.{AreProper};
+ghost use Rattle.tl_check_verdict.specs.Sound.{IsSound};
+ghost use Rattle.tl_check_verdict.specs.Truth.{IsTrueOfMap};
 ghost use Rattle.tl_build.specs.Keeping.Deciding.{Audits, Builds};
-ghost use Rattle.tl_propose.specs.Keeping.Lists.{lists_in};
-ghost use Rattle.tl_propose.specs.Keeping.Proposed.{IsProposal};
+ghost use Rattle.tl_build_propose.specs.Keeping.Lists.{lists_in};
+ghost use Rattle.tl_build_propose.specs.Keeping.Proposed.{IsProposal};
 
 use crate::answer::{Audit, Built};
 use std::alloc::Global;
-use tl_cells::find_cells_at_odds;
-use tl_cert::Certificate;
-use tl_county::Map;
-use tl_index::Memory;
-use tl_output::Stop;
-use tl_propose::{
+use tl_build_propose::{
     find_misplaced_beside, find_misplaced_by, find_sides_at_odds, propose, propose_walks,
 };
-use tl_verdict::{MapFault, report};
+use tl_cert::Certificate;
+use tl_cert_output::Stop;
+use tl_check_cells::find_cells_at_odds;
+use tl_check_verdict::{MapFault, report};
+use tl_map_county::Map;
+use tl_tree_index::Memory;
 
 /// Decides whether a map is sound whose chains are planar, and whose polygons' points may be known to be placed.
 pub fn audit_planar(alloc: Global, map: &Map, placed: bool) -> Result<Audit, Stop>

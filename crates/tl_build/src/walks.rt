@@ -1,16 +1,16 @@
 //! The walks of a map that is sound.
 
 ghost use Rattle.std.specs.Prelude.{◌<◌, ◌^◌, length, map as map_list, IfOk, IfErr, IfSome, MatchOption};
-ghost use Rattle.tl_sides.specs.Walks.{AreWalks};
-ghost use Rattle.tl_verdict.specs.Sound.{IsSound};
+ghost use Rattle.tl_check_sides.specs.Walks.{AreWalks};
+ghost use Rattle.tl_check_verdict.specs.Sound.{IsSound};
 ghost use Rattle.tl_build.specs.Auditing.{IsMemoryStop};
 
 use crate::answer::Audit;
 use crate::of_records::decide;
 use std::alloc::Global;
-use tl_county::Map;
-use tl_output::Stop;
-use tl_propose::propose_walks;
+use tl_build_propose::propose_walks;
+use tl_cert_output::Stop;
+use tl_map_county::Map;
 
 /// The walks of a map that is sound; none of one that isn't. It stops where memory was refused, and nowhere else.
 pub fn find_walks(alloc: Global, map: &Map) -> Result<Option<Vec<Vec<u32>>>, Stop>

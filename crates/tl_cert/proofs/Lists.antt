@@ -3,7 +3,7 @@ use Rattle.std.proofs.Common.{◌≡◌, All, map, ℕ, ◌+◌, ◌<◌, List, 
 use Rattle.std.proofs.lemmas.List.{length-map, get_or_default}
 use Rattle.std.proofs.lemmas.List.Elements.{All-map}
 use Rattle.std.proofs.Math.ListN.{get_or-map}
-use Rattle.tl_index.proofs.Times.{same_or}
+use Rattle.tl_tree_index.proofs.Times.{same_or}
 use Rattle.tl_cert.specs.Certificates.{IsDartList}
 
 -- what each vector holds is what each of their lists holds

@@ -2,7 +2,7 @@
 use Rattle.std.proofs.Common.{◌≡◌, ℕ, pos, [], ◌∷◌, refl, codes}
 use Rattle.arrayvec.specs.ArrayVec.{ArrayVec}
 use Rattle.tl_geom.specs.declared.rect.Rect.{Rect}
-use Rattle.tl_index.specs.declared.node.TreeNode.TheVariants.{Leaf}
+use Rattle.tl_tree_index.specs.declared.node.TreeNode.TheVariants.{Leaf}
 use Rattle.tl_cert.specs.Certificates.{TheCertificate}
 use Rattle.tl_cert.specs.Text.{certificate_text}
 use Rattle.std.specs.Fmt.{digits}

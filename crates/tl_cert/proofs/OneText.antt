@@ -3,8 +3,8 @@ use Rattle.std.proofs.Common.{◌≡◌, ℕ, ◌+◌, ◌≤◌, ◌⊎◌, len
 use Rattle.std.proofs.lemmas.List.Elements.{All-head, All-tail}
 use Rattle.arrayvec.specs.ArrayVec.{ArrayVec}
 use Rattle.tl_geom.specs.declared.rect.Rect.{Rect}
-use Rattle.tl_index.specs.declared.node.TreeNode.{TreeNode}
-use Rattle.tl_index.specs.declared.node.TreeNode.TheVariants.{Inner, Leaf}
+use Rattle.tl_tree_index.specs.declared.node.TreeNode.{TreeNode}
+use Rattle.tl_tree_index.specs.declared.node.TreeNode.TheVariants.{Inner, Leaf}
 use Rattle.tl_record.specs.Lines.{joined_lines}
 use Rattle.tl_cert.specs.Certificates.{TheCertificate, IsNumber, IsCounted, IsDartList, AreDartLists, IsNode, IsNodeInRange, IsCertificate}
 use Rattle.tl_cert.specs.Text.{numbered_line, head_line, counts_line, end_line, item_lines, dart_lines, nodes_lines, tree_lines, all_darts_lines}

@@ -3,7 +3,7 @@ use Rattle.std.proofs.Common.{◌≡◌, ℕ, ◌+◌, ◌*◌, ◌-◌, ◌<◌
 use Rattle.std.proofs.Common.{append_assoc, append-nil, add-one, decimal, set, length-set, length-drop, take_all, take-add, drop-cons}
 use Rattle.std.proofs.lemmas.List.{drop-set, drop_all}
 use Rattle.std.proofs.lemmas.Fmt.{length-decimal-le}
-use Rattle.tl_output.specs.Writing.{line_of}
+use Rattle.tl_cert_output.specs.Writing.{line_of}
 use Rattle.tl_cert.specs.Text.{numbered_line}
 use Rattle.tl_cert.specs.Keeping.Putting.{HasRoom, Puts}
 use Rattle.tl_cert.proofs.WriteLemmas.{line_first, numbers_text, numbers_joins}

@@ -1,9 +1,9 @@
 -- Runs put together, and the run of a certificate's lines.
 use Rattle.std.proofs.Common.{◌≡◌, ℕ, suc, ◌+◌, ◌≤◌, ◌⊎◌, inl, inr, length, List, [], ◌∷◌, ◌++◌, refl, sym, subst, arith, codes, All}
 use Rattle.std.proofs.lemmas.List.Elements.{All-head, All-tail}
-use Rattle.tl_index.specs.declared.node.TreeNode.{TreeNode}
-use Rattle.tl_index.specs.declared.node.TreeNode.TheVariants.{Inner, Leaf}
-use Rattle.tl_index.specs.Preorder.{AreTrees, IsPreorder}
+use Rattle.tl_tree_index.specs.declared.node.TreeNode.{TreeNode}
+use Rattle.tl_tree_index.specs.declared.node.TreeNode.TheVariants.{Inner, Leaf}
+use Rattle.tl_tree_index.specs.Preorder.{AreTrees, IsPreorder}
 use Rattle.tl_cert.specs.Certificates.{TheCertificate, IsNumber, IsCounted, IsDartList, AreDartLists, IsNode, IsNodeInRange, IsCertificate}
 use Rattle.tl_cert.specs.Text.{numbered_line, head_line, counts_line, end_line, inner_line, leaf_line, item_lines, dart_lines, nodes_lines, tree_lines}
 use Rattle.tl_cert.specs.Text.{all_darts_lines, rounds_lines, walks_lines, certificate_lines}

@@ -1,9 +1,9 @@
 -- A list of nodes that is some trees, by recursion on the list: how many subtrees are still to come behind each node.
 use Rattle.std.proofs.Common.{◌≡◌, ℕ, zero, suc, ◌+◌, ◌≤◌, inl, inr, length, List, [], ◌∷◌, ◌++◌, refl, sym, ap, ◌∙◌, subst, arith, append_assoc}
 use Rattle.std.proofs.Common.{append-nil, All}
-use Rattle.tl_index.specs.declared.node.TreeNode.{TreeNode}
-use Rattle.tl_index.specs.declared.node.TreeNode.TheVariants.{Inner, Leaf}
-use Rattle.tl_index.specs.Preorder.{AreTrees, no_tree, leaf_first, inner_first}
+use Rattle.tl_tree_index.specs.declared.node.TreeNode.{TreeNode}
+use Rattle.tl_tree_index.specs.declared.node.TreeNode.TheVariants.{Inner, Leaf}
+use Rattle.tl_tree_index.specs.Preorder.{AreTrees, no_tree, leaf_first, inner_first}
 use Rattle.tl_cert.specs.Certificates.{IsNode}
 use Rattle.tl_cert.specs.Keeping.Steps.{CanHave}
 pub use Rattle.tl_cert.specs.Keeping.Parts.{Stand}

@@ -4,9 +4,9 @@ use Rattle.std.proofs.lemmas.List.{length-map}
 use Rattle.std.proofs.lemmas.List.Elements.{All-nil, All-cons, All-append}
 use Rattle.arrayvec.specs.ArrayVec.{ArrayVec}
 use Rattle.tl_geom.specs.declared.rect.Rect.{Rect}
-use Rattle.tl_index.specs.declared.node.TreeNode.{TreeNode}
-use Rattle.tl_index.specs.declared.node.TreeNode.TheVariants.{Inner, Leaf}
-use Rattle.tl_index.specs.Preorder.{AreTrees, IsPreorder}
+use Rattle.tl_tree_index.specs.declared.node.TreeNode.{TreeNode}
+use Rattle.tl_tree_index.specs.declared.node.TreeNode.TheVariants.{Inner, Leaf}
+use Rattle.tl_tree_index.specs.Preorder.{AreTrees, IsPreorder}
 use Rattle.tl_cert.specs.Certificates.{IsNumber, IsInRange, IsNode, IsNodeInRange}
 use Rattle.tl_cert.specs.Text.{numbered_line, nodes_lines, inner_line, leaf_line, item_lines}
 use Rattle.tl_cert.specs.declared.node_line.NodeStart.{NodeStart}

@@ -5,10 +5,10 @@ use Rattle.std.proofs.Math.Seq.{take-suc}
 use Rattle.std.proofs.lemmas.List.{take_all, map-append, length-map, drop-set}
 use Rattle.std.specs.Global.{Global}
 use Rattle.std.specs.Prelude.{codes, Vec}
-use Rattle.tl_output.specs.Writing.{line_of}
+use Rattle.tl_cert_output.specs.Writing.{line_of}
 use Rattle.tl_record.specs.Lines.{line_feed, joined_lines}
-use Rattle.tl_index.specs.declared.node.TreeNode.{TreeNode}
-use Rattle.tl_index.specs.declared.node.TreeNode.TheVariants.{Inner, Leaf}
+use Rattle.tl_tree_index.specs.declared.node.TreeNode.{TreeNode}
+use Rattle.tl_tree_index.specs.declared.node.TreeNode.TheVariants.{Inner, Leaf}
 use Rattle.tl_cert.specs.Certificates.{TheCertificate}
 use Rattle.tl_cert.specs.declared.certificate.Counts.{Counts}
 use Rattle.tl_cert.specs.Text.{numbered_line, head_line, counts_line, nodes_lines, tree_lines, leaf_line, inner_line, item_lines}

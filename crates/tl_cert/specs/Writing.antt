@@ -1,6 +1,6 @@
 -- What a sink was given of a certificate's text.
 use Rattle.std.specs.Prelude.{ℕ, List, Option, Result, Ok, Err}
-use Rattle.tl_output.specs.Writing.{Writes, WritesSome}
+use Rattle.tl_cert_output.specs.Writing.{Writes, WritesSome}
 use Rattle.tl_cert.specs.declared.stop.WriteStop.{WriteStop}
 use Rattle.tl_cert.specs.declared.stop.WriteStop.TheVariants.{Device}
 

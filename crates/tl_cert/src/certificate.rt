@@ -1,12 +1,12 @@
 //! A certificate: what a stranger says of a map, before anyone has checked it.
 
 ghost use Rattle.std.specs.Prelude.{◌≡◌, ◌⊎◌, MatchOption, map};
-ghost use Rattle.tl_index.specs.Preorder.{IsPreorder};
+ghost use Rattle.tl_tree_index.specs.Preorder.{IsPreorder};
 ghost use Rattle.tl_cert.specs.Certificates.{MakesCertificate, IsCounted, AreDartLists, made};
 
 use crate::collected::Parts;
 use std::marker::Model;
-use tl_index::TreeNode;
+use tl_tree_index::TreeNode;
 
 /// How many chains, segments, nodes and polygons a map has.
 #[derive(Clone, Copy, PartialEq, Eq)]

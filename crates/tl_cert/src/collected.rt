@@ -8,7 +8,7 @@ use crate::certificate::Counts;
 use crate::place::CertPart;
 use std::alloc::{AllocError, Global};
 use std::marker::Model;
-use tl_index::{TreeNode, is_preorder};
+use tl_tree_index::{TreeNode, is_preorder};
 
 /// A version, counts, the nodes of a tree, rounds and walks, whether they make a certificate or not.
 #[derive(Drop)]

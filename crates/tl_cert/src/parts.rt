@@ -14,8 +14,8 @@ use crate::node_line::{NodeLine, NodeStart};
 use crate::stop::CertStop;
 use arrayvec::ArrayVec;
 use std::alloc::Global;
-use tl_index::TreeNode;
 use tl_record::Source;
+use tl_tree_index::TreeNode;
 
 /// The two kinds of lists of darts.
 #[derive(Clone, Copy)]

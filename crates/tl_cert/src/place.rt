@@ -1,7 +1,7 @@
 //! The parts of a certificate, and the places between them.
 
 use crate::certificate::Counts;
-use tl_index::TreeNode;
+use tl_tree_index::TreeNode;
 
 /// A part of a certificate.
 #[derive(Drop)]

@@ -2,7 +2,7 @@
 
 ghost use Rattle.std.specs.Prelude.{◌*◌, ◌≤◌, ◌∷◌, [], length, map};
 ghost use Rattle.tl_record.specs.Lines.{joined_lines};
-ghost use Rattle.tl_output.specs.Writing.{line_of};
+ghost use Rattle.tl_cert_output.specs.Writing.{line_of};
 ghost use Rattle.tl_cert.specs.Text;
 ghost use Rattle.tl_cert.specs.Text.{number, coordinate, rectangle, numbered_line, leaf_line, item_lines, nodes_lines};
 ghost use Rattle.tl_cert.specs.Keeping.Putting.{HasRoom, Puts};
@@ -10,7 +10,7 @@ ghost use Rattle.tl_cert.specs.Keeping.Putting.{HasRoom, Puts};
 use crate::certificate::Counts;
 use itoa::write_digits;
 use tl_geom::Rect;
-use tl_index::TreeNode;
+use tl_tree_index::TreeNode;
 
 // Puts a line for each number, one behind the other, before what stands at `end`, and tells where they start.
 #[inline(always)]

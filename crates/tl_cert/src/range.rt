@@ -5,7 +5,7 @@ ghost use Rattle.tl_cert.specs.Certificates.{IsCertificate, IsInRange, IsNodeInR
 
 use crate::certificate::{Certificate, Counts};
 use tl_geom::Rect;
-use tl_index::TreeNode;
+use tl_tree_index::TreeNode;
 
 /// Looks at each number of a certificate once, so that it is known of all of them that they are in range.
 pub fn look_at_certificate(certificate: &Certificate)

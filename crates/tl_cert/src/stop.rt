@@ -1,9 +1,9 @@
 //! Why reading and writing stop.
 
 ghost use Rattle.std.specs.Prelude.{◌≡◌};
-ghost use Rattle.tl_output.specs.declared.stop.Stop.TheVariants.{Device as DeviceStop};
+ghost use Rattle.tl_cert_output.specs.declared.stop.Stop.TheVariants.{Device as DeviceStop};
 
-use tl_output::Stop;
+use tl_cert_output::Stop;
 
 /// Why no further part of a certificate is read.
 #[derive(Clone, Copy, Debug, PartialEq, Eq)]

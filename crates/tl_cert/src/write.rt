@@ -2,8 +2,8 @@
 
 ghost use Rattle.std.specs.Prelude.{◌≡◌, ◌⊎◌, ◌≤◌, ◌∷◌, [], length, map};
 ghost use Rattle.tl_record.specs.Lines.{joined_lines};
-ghost use Rattle.tl_output.specs.Writing.{line_of};
-ghost use Rattle.tl_output.specs.Printing.{Prints};
+ghost use Rattle.tl_cert_output.specs.Writing.{line_of};
+ghost use Rattle.tl_cert_output.specs.Printing.{Prints};
 ghost use Rattle.tl_cert.specs.Text;
 ghost use Rattle.tl_cert.specs.Text.{numbered_line, nodes_lines, tree_lines, darts_lines};
 ghost use Rattle.tl_cert.specs.Text.{all_darts_lines, certificate_text};
@@ -15,9 +15,9 @@ use crate::put::{put_counts, put_node, put_number, put_numbers};
 use crate::range::look_at_certificate;
 use crate::stop::WriteStop;
 use itoa::write_digits;
-use tl_index::TreeNode;
-use tl_output::Printer;
+use tl_cert_output::Printer;
 use tl_record::Sink;
+use tl_tree_index::TreeNode;
 
 // Room for the line of the counts: a letter, four spaces, four numbers of up to ten digits and a line feed.
 const COUNTS_ROOM: usize = 46;

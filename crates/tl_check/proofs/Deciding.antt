@@ -2,14 +2,14 @@
 use Rattle.std.proofs.Common.{ℕ, List, Option, Ok, Err, false}
 use Rattle.std.specs.Prelude.{IfErr}
 use Rattle.std.specs.Option.{IfSome}
-use Rattle.tl_county.specs.TheMap.{TheMap}
-use Rattle.tl_verdict.specs.declared.verdict.Report.{Report}
-use Rattle.tl_verdict.specs.declared.verdict.Verdict.TheVariants as verdict
-use Rattle.tl_output.specs.declared.stop.Stop.TheVariants.{Record, Memory, Device, Budget}
-use Rattle.tl_verdict.specs.Sound.{IsSound}
-use Rattle.tl_verdict.specs.Truth.{IsTrueOfMap}
-use Rattle.tl_verdict.specs.Texts.{IsTrueOfText, IsValidText, MayStopReading}
-use Rattle.tl_verdict.specs.Verdicts.{Answer, OnSound, IfSound, IfMapFault, IfCertFault, IsReport}
+use Rattle.tl_map_county.specs.TheMap.{TheMap}
+use Rattle.tl_check_verdict.specs.declared.verdict.Report.{Report}
+use Rattle.tl_check_verdict.specs.declared.verdict.Verdict.TheVariants as verdict
+use Rattle.tl_cert_output.specs.declared.stop.Stop.TheVariants.{Record, Memory, Device, Budget}
+use Rattle.tl_check_verdict.specs.Sound.{IsSound}
+use Rattle.tl_check_verdict.specs.Truth.{IsTrueOfMap}
+use Rattle.tl_check_verdict.specs.Texts.{IsTrueOfText, IsValidText, MayStopReading}
+use Rattle.tl_check_verdict.specs.Verdicts.{Answer, OnSound, IfSound, IfMapFault, IfCertFault, IsReport}
 use Rattle.tl_check.specs.Keeping.Streams.{IsSoundBy, Decides}
 
 module _ (m : TheMap) (budget : ℕ) (text : Option (List ℕ)) where

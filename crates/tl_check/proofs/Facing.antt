@@ -1,25 +1,25 @@
 -- What an answer in which faces take part keeps of one in which they don't.
 use Rattle.std.proofs.Common.{◌≡◌, ℕ, Bool, IsTrue, false, Ok, Err, Option, Some, None, refl, sym, subst}
 use Rattle.std.specs.Prelude.{IfErr}
-use Rattle.tl_county.specs.TheMap.{TheMap}
-use Rattle.tl_verdict.specs.declared.fault.MapFault.{MapFault}
-use Rattle.tl_verdict.specs.declared.fault.MapFault.TheVariants.{Records, Meet, Side, PolygonPoint, Cell, Face}
-use Rattle.tl_verdict.specs.declared.fault.CertFault.{CertFault}
-use Rattle.tl_verdict.specs.declared.verdict.Report.{Report}
-use Rattle.tl_verdict.specs.declared.verdict.Verdict.{Verdict}
-use Rattle.tl_verdict.specs.declared.verdict.Verdict.TheVariants as verdict
-use Rattle.tl_output.specs.declared.stop.Stop.{Stop}
-use Rattle.tl_output.specs.declared.stop.Stop.TheVariants.{Memory}
-use Rattle.tl_verdict.specs.Sound.{IsSound, IsSoundFor}
-use Rattle.tl_verdict.specs.Truth.{IsTrueOfMap}
-use Rattle.tl_verdict.specs.Verdicts.{Answer, OnSound, OnSoundButFaces, IfSound, IfMapFault, IfCertFault, UnlessMeet, OnSearched}
-use Rattle.tl_output.specs.Stops.{TellsDevice}
-use Rattle.tl_crossings.specs.Headings.{AreProper}
-use Rattle.tl_faces.specs.declared.fault.FaceFault.{FaceFault}
-use Rattle.tl_faces.specs.Facing.{FacesAgree}
-use Rattle.tl_faces.specs.Faults.{IsTrueFaceFault}
-use Rattle.tl_verdict.proofs.Denials.{true_still}
-use Rattle.tl_verdict.proofs.Asked.{keeps, disagrees}
+use Rattle.tl_map_county.specs.TheMap.{TheMap}
+use Rattle.tl_check_verdict.specs.declared.fault.MapFault.{MapFault}
+use Rattle.tl_check_verdict.specs.declared.fault.MapFault.TheVariants.{Records, Meet, Side, PolygonPoint, Cell, Face}
+use Rattle.tl_check_verdict.specs.declared.fault.CertFault.{CertFault}
+use Rattle.tl_check_verdict.specs.declared.verdict.Report.{Report}
+use Rattle.tl_check_verdict.specs.declared.verdict.Verdict.{Verdict}
+use Rattle.tl_check_verdict.specs.declared.verdict.Verdict.TheVariants as verdict
+use Rattle.tl_cert_output.specs.declared.stop.Stop.{Stop}
+use Rattle.tl_cert_output.specs.declared.stop.Stop.TheVariants.{Memory}
+use Rattle.tl_check_verdict.specs.Sound.{IsSound, IsSoundFor}
+use Rattle.tl_check_verdict.specs.Truth.{IsTrueOfMap}
+use Rattle.tl_check_verdict.specs.Verdicts.{Answer, OnSound, OnSoundButFaces, IfSound, IfMapFault, IfCertFault, UnlessMeet, OnSearched}
+use Rattle.tl_cert_output.specs.Stops.{TellsDevice}
+use Rattle.tl_check_crossings.specs.Headings.{AreProper}
+use Rattle.tl_check_faces.specs.declared.fault.FaceFault.{FaceFault}
+use Rattle.tl_check_faces.specs.Facing.{FacesAgree}
+use Rattle.tl_check_faces.specs.Faults.{IsTrueFaceFault}
+use Rattle.tl_check_verdict.proofs.Denials.{true_still}
+use Rattle.tl_check_verdict.proofs.Asked.{keeps, disagrees}
 use Rattle.tl_check.specs.Keeping.Faces.{IsOfFaces, IsFacing, IsWithFaces, verdict_of}
 use Rattle.tl_check.specs.Keeping.Read.{IsDecision}
 

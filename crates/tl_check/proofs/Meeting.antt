@@ -3,10 +3,10 @@ use Rattle.std.proofs.Common.{◌≡◌, ℕ, List, [], ◌∷◌, ◌++◌, Opt
 use Rattle.std.specs.Option.{IfSome}
 use Rattle.std.proofs.lemmas.Option.{IfSome_then}
 use Rattle.tl_record.specs.Lines.{joined_lines}
-use Rattle.tl_county.specs.TheMap.{TheMap}
-use Rattle.tl_planar.specs.Planar.{IsPlanar}
-use Rattle.tl_drawn.specs.declared.fault.MapStop.{MapStop}
-use Rattle.tl_drawn.specs.declared.fault.MapStop.TheVariants as map
+use Rattle.tl_map_county.specs.TheMap.{TheMap}
+use Rattle.tl_check_planar.specs.Planar.{IsPlanar}
+use Rattle.tl_map_rules.specs.declared.fault.MapStop.{MapStop}
+use Rattle.tl_map_rules.specs.declared.fault.MapStop.TheVariants as map
 use Rattle.tl_cert.specs.declared.place.NextPart.TheVariants.{Start, Counted, Treed}
 use Rattle.tl_cert.specs.declared.reader.CertReader.{CertReader}
 use Rattle.tl_cert.specs.declared.stop.CertStop.{CertStop}
@@ -18,19 +18,19 @@ use Rattle.tl_cert.specs.Keeping.Collecting.{Collects, Follows}
 use Rattle.tl_cert.proofs.Completing.{joined-append}
 use Rattle.tl_cert.proofs.CollectLemmas.{gives_here, breaks_all}
 use Rattle.tl_cert.proofs.Leading.{one_beginning}
-use Rattle.tl_verdict.specs.declared.fault.MapFault.{MapFault}
-use Rattle.tl_verdict.specs.declared.fault.MapFault.TheVariants.{Records, Meet, Side, PolygonPoint, Cell, Face}
-use Rattle.tl_verdict.specs.declared.verdict.Verdict.TheVariants as verdict
+use Rattle.tl_check_verdict.specs.declared.fault.MapFault.{MapFault}
+use Rattle.tl_check_verdict.specs.declared.fault.MapFault.TheVariants.{Records, Meet, Side, PolygonPoint, Cell, Face}
+use Rattle.tl_check_verdict.specs.declared.verdict.Verdict.TheVariants as verdict
 use Rattle.tl_check.specs.declared.state.Halt.{Halt}
 use Rattle.tl_check.specs.declared.state.Halt.TheVariants as halt
 use Rattle.tl_check.specs.declared.state.State.{State}
 use Rattle.tl_check.specs.declared.state.State.TheVariants as state
-use Rattle.tl_verdict.specs.Valid.{AreCounts, IsTree, AllowsSearch}
-use Rattle.tl_verdict.specs.Texts.{TextAllowsSearch}
-use Rattle.tl_verdict.specs.Verdicts.{Answer, UnlessMeet}
+use Rattle.tl_check_verdict.specs.Valid.{AreCounts, IsTree, AllowsSearch}
+use Rattle.tl_check_verdict.specs.Texts.{TextAllowsSearch}
+use Rattle.tl_check_verdict.specs.Verdicts.{Answer, UnlessMeet}
 use Rattle.tl_check.specs.Keeping.Answers.{answer_of, stop_of, refusal_of}
 use Rattle.tl_check.specs.Keeping.Parts.{Holds, IsBehindSearch, UnlessMet}
-use Rattle.tl_verdict.proofs.Denials.{of_darts_alone}
+use Rattle.tl_check_verdict.proofs.Denials.{of_darts_alone}
 use Rattle.tl_check.proofs.Prefixes.{first_rounds, first_walks}
 use Rattle.tl_check.proofs.Whole.{goes_on_with_nothing}
 

@@ -1,9 +1,9 @@
 -- Certificates of the first rounds, and of the first walks, of a certificate.
 use Rattle.std.proofs.Common.{◌≡◌, ℕ, ◌+◌, ◌<◌, ◌≤◌, List, [], Vec, Global, length, map, take, sym, ap, subst, ◌∙◌}
 use Rattle.std.proofs.lemmas.List.{take_more, take_all, length-map}
-use Rattle.tl_county.specs.TheMap.{TheMap}
+use Rattle.tl_map_county.specs.TheMap.{TheMap}
 use Rattle.tl_cert.specs.Certificates.{TheCertificate, IsDartList, AreDartLists}
-use Rattle.tl_sides.specs.Lists.{list_at}
+use Rattle.tl_check_sides.specs.Lists.{list_at}
 use Rattle.tl_check.specs.declared.state.State.{State}
 use Rattle.tl_check.specs.Keeping.Parts.{Holds, with_round, with_walk}
 

@@ -2,16 +2,16 @@
 use Rattle.std.proofs.Common.{◌≡◌, ℕ, Bool, List, Option, Result, Ok, Err, IfOk, IfErr, sym, subst}
 use Rattle.std.specs.Option.{IfSome}
 use Rattle.tl_record.specs.Records.{Records as AllRecords}
-use Rattle.tl_drawn.specs.declared.fault.MapStop.{MapStop}
-use Rattle.tl_drawn.specs.Reading.{IsReadFrom, StopsReading, TellsDevice as TellsReading}
-use Rattle.tl_county.specs.TheMap.{TheMap}
-use Rattle.tl_county.specs.declared.map.Map.{Map}
-use Rattle.tl_planar.specs.Planar.{IsPlanar}
-use Rattle.tl_verdict.specs.declared.fault.CertFault.{CertFault}
-use Rattle.tl_verdict.specs.declared.verdict.Report.{Report}
-use Rattle.tl_verdict.specs.Truth.{IsOfDarts}
-use Rattle.tl_verdict.specs.Verdicts.{Answer, OnSound, OnSoundButFaces, IfSound, IfMapFault, IfCertFault, UnlessMeet, OnSearched}
-use Rattle.tl_verdict.specs.Records.{HaveMap, IsTrueOfRecords, MayStopOn, TellsEither, LeavesUnread}
+use Rattle.tl_map_rules.specs.declared.fault.MapStop.{MapStop}
+use Rattle.tl_map_rules.specs.Reading.{IsReadFrom, StopsReading, TellsDevice as TellsReading}
+use Rattle.tl_map_county.specs.TheMap.{TheMap}
+use Rattle.tl_map_county.specs.declared.map.Map.{Map}
+use Rattle.tl_check_planar.specs.Planar.{IsPlanar}
+use Rattle.tl_check_verdict.specs.declared.fault.CertFault.{CertFault}
+use Rattle.tl_check_verdict.specs.declared.verdict.Report.{Report}
+use Rattle.tl_check_verdict.specs.Truth.{IsOfDarts}
+use Rattle.tl_check_verdict.specs.Verdicts.{Answer, OnSound, OnSoundButFaces, IfSound, IfMapFault, IfCertFault, UnlessMeet, OnSearched}
+use Rattle.tl_check_verdict.specs.Records.{HaveMap, IsTrueOfRecords, MayStopOn, TellsEither, LeavesUnread}
 use Rattle.tl_check.specs.Keeping.Answers.{refusal_of}
 use Rattle.tl_check.specs.Keeping.Read.{IsOfText, IsOfRead}
 use Rattle.tl_check.proofs.Recorded as recorded

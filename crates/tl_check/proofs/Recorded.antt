@@ -4,23 +4,23 @@ use Rattle.std.specs.Prelude.{IfErr}
 use Rattle.std.specs.Option.{IfSome}
 use Rattle.std.proofs.lemmas.Option.{IfSome_then}
 use Rattle.tl_record.specs.Records.{Records as AllRecords}
-use Rattle.tl_drawn.specs.declared.fault.MapStop.{MapStop}
-use Rattle.tl_drawn.specs.declared.fault.MapStop.TheVariants as map
-use Rattle.tl_county.specs.TheMap.{TheMap}
-use Rattle.tl_planar.specs.Planar.{IsPlanar}
-use Rattle.tl_drawn.specs.Reading.{IsReadFrom, StopsReading, TellsDevice as TellsReading}
-use Rattle.tl_verdict.specs.declared.fault.MapFault.{MapFault}
-use Rattle.tl_verdict.specs.declared.fault.MapFault.TheVariants.{Records, Meet, Side, PolygonPoint, Cell, Face}
-use Rattle.tl_verdict.specs.declared.verdict.Report.{Report}
-use Rattle.tl_verdict.specs.declared.verdict.Verdict.TheVariants as verdict
-use Rattle.tl_verdict.specs.declared.fault.CertFault.{CertFault}
-use Rattle.tl_output.specs.declared.stop.Stop.{Stop}
-use Rattle.tl_output.specs.declared.stop.Stop.TheVariants as stop
-use Rattle.tl_verdict.specs.Truth.{IsTrueOfMap, IsOfDarts}
-use Rattle.tl_verdict.specs.Verdicts.{Answer, OnSound, OnSoundButFaces, IfSound, IfMapFault, IfCertFault, UnlessMeet, OnSearched}
-use Rattle.tl_verdict.specs.Texts.{MayStopReading}
-use Rattle.tl_output.specs.Stops.{TellsDevice}
-use Rattle.tl_verdict.specs.Records.{HaveMap, IsTrueOfRecords, MayStopOn, TellsEither, LeavesUnread}
+use Rattle.tl_map_rules.specs.declared.fault.MapStop.{MapStop}
+use Rattle.tl_map_rules.specs.declared.fault.MapStop.TheVariants as map
+use Rattle.tl_map_county.specs.TheMap.{TheMap}
+use Rattle.tl_check_planar.specs.Planar.{IsPlanar}
+use Rattle.tl_map_rules.specs.Reading.{IsReadFrom, StopsReading, TellsDevice as TellsReading}
+use Rattle.tl_check_verdict.specs.declared.fault.MapFault.{MapFault}
+use Rattle.tl_check_verdict.specs.declared.fault.MapFault.TheVariants.{Records, Meet, Side, PolygonPoint, Cell, Face}
+use Rattle.tl_check_verdict.specs.declared.verdict.Report.{Report}
+use Rattle.tl_check_verdict.specs.declared.verdict.Verdict.TheVariants as verdict
+use Rattle.tl_check_verdict.specs.declared.fault.CertFault.{CertFault}
+use Rattle.tl_cert_output.specs.declared.stop.Stop.{Stop}
+use Rattle.tl_cert_output.specs.declared.stop.Stop.TheVariants as stop
+use Rattle.tl_check_verdict.specs.Truth.{IsTrueOfMap, IsOfDarts}
+use Rattle.tl_check_verdict.specs.Verdicts.{Answer, OnSound, OnSoundButFaces, IfSound, IfMapFault, IfCertFault, UnlessMeet, OnSearched}
+use Rattle.tl_check_verdict.specs.Texts.{MayStopReading}
+use Rattle.tl_cert_output.specs.Stops.{TellsDevice}
+use Rattle.tl_check_verdict.specs.Records.{HaveMap, IsTrueOfRecords, MayStopOn, TellsEither, LeavesUnread}
 use Rattle.tl_check.specs.Keeping.Answers.{refusal_of}
 use Rattle.tl_check.proofs.Searched.{searched_so}
 use Rattle.tl_check.proofs.Meeting.{meets_leads}

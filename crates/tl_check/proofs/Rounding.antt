@@ -1,9 +1,9 @@
 -- Rounds that have no fault so far.
 use Rattle.std.proofs.Common.{◌≡◌, ℕ, List, [], ◌∷◌, ◌∙◌, refl, append_assoc}
-use Rattle.tl_sides.specs.Lists.{and_list}
-use Rattle.tl_sides.specs.Keeping.Rounded.{AreSized, HaveTaken}
-use Rattle.tl_county.specs.TheMap.{TheMap}
-use Rattle.tl_sides.specs.declared.rounds.Rounds.{Rounds}
+use Rattle.tl_check_sides.specs.Lists.{and_list}
+use Rattle.tl_check_sides.specs.Keeping.Rounded.{AreSized, HaveTaken}
+use Rattle.tl_map_county.specs.TheMap.{TheMap}
+use Rattle.tl_check_sides.specs.declared.rounds.Rounds.{Rounds}
 use Rattle.tl_cert.specs.Certificates.{TheCertificate}
 use Rattle.tl_check.specs.declared.state.State.{State}
 use Rattle.tl_check.specs.declared.state.State.TheVariants as state

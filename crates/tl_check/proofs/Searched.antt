@@ -1,7 +1,7 @@
 -- Answers that come of the search or behind it, and those that don't.
 use Rattle.std.proofs.Common.{ℕ, List, Option, None, Some, Ok, Err}
 use Rattle.std.specs.Option.{IfSome}
-use Rattle.tl_county.specs.TheMap.{TheMap}
+use Rattle.tl_map_county.specs.TheMap.{TheMap}
 use Rattle.tl_cert.specs.declared.place.NextPart.TheVariants.{Treed}
 use Rattle.tl_cert.specs.declared.reader.CertReader.{CertReader}
 use Rattle.tl_cert.specs.declared.stop.CertStop.{CertStop}
@@ -9,16 +9,16 @@ use Rattle.tl_cert.specs.declared.stop.CertStop.TheVariants as cert
 use Rattle.tl_cert.specs.Certificates.{TheCertificate, IsCertificate}
 use Rattle.tl_cert.specs.Reading.{unread}
 use Rattle.tl_cert.specs.Keeping.Collecting.{Collects, Follows}
-use Rattle.tl_verdict.specs.declared.fault.MapFault.{MapFault}
-use Rattle.tl_verdict.specs.declared.fault.MapFault.TheVariants.{Records, Meet, Side, PolygonPoint, Cell, Face}
-use Rattle.tl_verdict.specs.declared.verdict.Verdict.TheVariants as verdict
-use Rattle.tl_output.specs.declared.stop.Stop.TheVariants.{Record, Memory, Device, Budget}
+use Rattle.tl_check_verdict.specs.declared.fault.MapFault.{MapFault}
+use Rattle.tl_check_verdict.specs.declared.fault.MapFault.TheVariants.{Records, Meet, Side, PolygonPoint, Cell, Face}
+use Rattle.tl_check_verdict.specs.declared.verdict.Verdict.TheVariants as verdict
+use Rattle.tl_cert_output.specs.declared.stop.Stop.TheVariants.{Record, Memory, Device, Budget}
 use Rattle.tl_check.specs.declared.state.Halt.{Halt}
 use Rattle.tl_check.specs.declared.state.Halt.TheVariants as halt
-use Rattle.tl_verdict.specs.Valid.{AllowsSearch}
-use Rattle.tl_verdict.specs.Truth.{IsOfDarts}
-use Rattle.tl_verdict.specs.Texts.{TextAllowsSearch}
-use Rattle.tl_verdict.specs.Verdicts.{Answer, OnSound, OnSearched, IfCertFault}
+use Rattle.tl_check_verdict.specs.Valid.{AllowsSearch}
+use Rattle.tl_check_verdict.specs.Truth.{IsOfDarts}
+use Rattle.tl_check_verdict.specs.Texts.{TextAllowsSearch}
+use Rattle.tl_check_verdict.specs.Verdicts.{Answer, OnSound, OnSearched, IfCertFault}
 use Rattle.tl_check.specs.Keeping.Answers.{answer_of, stop_of}
 use Rattle.tl_check.specs.Keeping.Parts.{UnlessMemory}
 

@@ -1,12 +1,12 @@
 -- What a valid certificate of a planar map with agreeing sides shows.
 use Rattle.std.proofs.Common.{ℕ, ◌∙◌}
-use Rattle.tl_county.specs.declared.sides.Side.TheVariants.{Outside, Polygon}
-use Rattle.tl_county.specs.TheMap.{TheMap}
+use Rattle.tl_map_county.specs.declared.sides.Side.TheVariants.{Outside, Polygon}
+use Rattle.tl_map_county.specs.TheMap.{TheMap}
 use Rattle.tl_cert.specs.Certificates.{TheCertificate}
-use Rattle.tl_sides.proofs.Boundaries.{boundary_of}
-use Rattle.tl_verdict.specs.declared.verdict.Report.{Report}
-use Rattle.tl_verdict.specs.Sound.{AreClosed}
-use Rattle.tl_verdict.specs.Verdicts.{IsReport, AreNumbers}
+use Rattle.tl_check_sides.proofs.Boundaries.{boundary_of}
+use Rattle.tl_check_verdict.specs.declared.verdict.Report.{Report}
+use Rattle.tl_check_verdict.specs.Sound.{AreClosed}
+use Rattle.tl_check_verdict.specs.Verdicts.{IsReport, AreNumbers}
 use Rattle.tl_check.specs.Keeping.Parts.{IsShown}
 
 module _ (m : TheMap) (c : TheCertificate) (rings : ℕ) (shown : IsShown m c rings) where

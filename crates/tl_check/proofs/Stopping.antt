@@ -1,14 +1,14 @@
 -- What is told where a check of a certificate ends before its last part.
 use Rattle.std.proofs.Common.{◌≡◌, ℕ, List, Option, Err, ap, ◌∙◌}
 use Rattle.tl_record.specs.Failures.{one_more}
-use Rattle.tl_county.specs.TheMap.{TheMap}
+use Rattle.tl_map_county.specs.TheMap.{TheMap}
 use Rattle.tl_cert.specs.Certificates.{TheCertificate}
 use Rattle.tl_cert.specs.declared.place.NextPart.{NextPart}
 use Rattle.tl_cert.specs.declared.reader.Standing.TheVariants.{Reading}
 use Rattle.tl_cert.specs.declared.stop.CertStop.{CertStop}
 use Rattle.tl_cert.specs.declared.stop.CertStop.TheVariants as stop
 use Rattle.tl_cert.specs.Reading.{TellsFailure}
-use Rattle.tl_output.specs.Stops.{TellsDevice}
+use Rattle.tl_cert_output.specs.Stops.{TellsDevice}
 use Rattle.tl_check.specs.declared.state.Halt.{Halt}
 use Rattle.tl_check.specs.declared.state.Halt.TheVariants as halt
 use Rattle.tl_check.specs.Keeping.Answers.{answer_of, stop_of}

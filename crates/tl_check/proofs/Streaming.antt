@@ -2,9 +2,9 @@
 use Rattle.std.proofs.Common.{◌≡◌, ℕ, ◌^◌, ◌<◌, List, [], Vec, Global, length, Option, None, Some, Ok, Err, refl, sym, ap, subst, ◌∙◌, arith}
 use Rattle.std.specs.Option.{IfSome}
 use Rattle.std.proofs.lemmas.Option.{IfSome_then}
-use Rattle.tl_county.specs.TheMap.{TheMap}
-use Rattle.tl_index.specs.declared.node.TreeNode.{TreeNode}
-use Rattle.tl_index.specs.Preorder.{IsPreorder}
+use Rattle.tl_map_county.specs.TheMap.{TheMap}
+use Rattle.tl_tree_index.specs.declared.node.TreeNode.{TreeNode}
+use Rattle.tl_tree_index.specs.Preorder.{IsPreorder}
 use Rattle.tl_cert.specs.declared.certificate.Counts.{Counts}
 use Rattle.tl_cert.specs.declared.place.NextPart.{NextPart}
 use Rattle.tl_cert.specs.declared.place.NextPart.TheVariants.{Start, Counted, Treed, Rounds, Walks}
@@ -20,18 +20,18 @@ use Rattle.tl_cert.specs.Given.{with_part, parts_left}
 use Rattle.tl_cert.specs.Reading.{Gives, GivesAt, unread, lines_of, standing_of}
 use Rattle.tl_cert.specs.Keeping.Collecting.{Collects, left_of}
 use Rattle.tl_cert.proofs.CollectLemmas.{gives_here, collects_more, collects_all, collects_none, stops_all}
-use Rattle.tl_sides.proofs.ListLemmas.{length-and, list-last}
-use Rattle.tl_verdict.specs.declared.fault.CertFault.{CertFault}
-use Rattle.tl_verdict.specs.declared.fault.CertFault.TheVariants as fault
-use Rattle.tl_verdict.specs.declared.verdict.Verdict.TheVariants as verdict
-use Rattle.tl_output.specs.declared.stop.Stop.TheVariants.{Record, Memory, Device, Budget}
+use Rattle.tl_check_sides.proofs.ListLemmas.{length-and, list-last}
+use Rattle.tl_check_verdict.specs.declared.fault.CertFault.{CertFault}
+use Rattle.tl_check_verdict.specs.declared.fault.CertFault.TheVariants as fault
+use Rattle.tl_check_verdict.specs.declared.verdict.Verdict.TheVariants as verdict
+use Rattle.tl_cert_output.specs.declared.stop.Stop.TheVariants.{Record, Memory, Device, Budget}
 use Rattle.tl_check.specs.declared.state.State.{State}
 use Rattle.tl_check.specs.declared.state.State.TheVariants as state
-use Rattle.tl_verdict.specs.Valid.{AreCounts}
-use Rattle.tl_verdict.specs.Truth.{IsTrueOfCert}
-use Rattle.tl_verdict.specs.Texts.{IsTrueOfText}
-use Rattle.tl_output.specs.Stops.{TellsDevice}
-use Rattle.tl_verdict.specs.Verdicts.{Answer}
+use Rattle.tl_check_verdict.specs.Valid.{AreCounts}
+use Rattle.tl_check_verdict.specs.Truth.{IsTrueOfCert}
+use Rattle.tl_check_verdict.specs.Texts.{IsTrueOfText}
+use Rattle.tl_cert_output.specs.Stops.{TellsDevice}
+use Rattle.tl_check_verdict.specs.Verdicts.{Answer}
 use Rattle.tl_check.specs.Keeping.Answers.{stop_of}
 use Rattle.tl_check.specs.Keeping.Parts.{Holds, TakesRounds, with_round, with_walk}
 use Rattle.tl_check.specs.Keeping.Streams.{Stands, Suits, MayCome, TakesBehind, Decides, Concludes}

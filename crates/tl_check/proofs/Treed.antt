@@ -1,14 +1,14 @@
 -- Trees that were checked over a map's segments.
 use Rattle.std.proofs.Common.{◌≡◌, ◌<◌, ◌≤◌, List, length, Option, None, Some, sym, subst, ◌∙◌}
-use Rattle.tl_county.specs.TheMap.{TheMap, MapChain}
-use Rattle.tl_index.specs.declared.node.TreeNode.{TreeNode}
-use Rattle.tl_index.specs.declared.fault.TreeFault.{TreeFault}
-use Rattle.tl_index.specs.Trees.{tree_of, depth}
-use Rattle.tl_index.specs.Fits.{Fits, IsFaultOf, MayFind}
-use Rattle.tl_county.specs.Segments.{segments_before}
-use Rattle.tl_planar.specs.Rectangles.{segment_rect}
+use Rattle.tl_map_county.specs.TheMap.{TheMap, MapChain}
+use Rattle.tl_tree_index.specs.declared.node.TreeNode.{TreeNode}
+use Rattle.tl_tree_index.specs.declared.fault.TreeFault.{TreeFault}
+use Rattle.tl_tree_index.specs.Trees.{tree_of, depth}
+use Rattle.tl_tree_index.specs.Fits.{Fits, IsFaultOf, MayFind}
+use Rattle.tl_map_county.specs.Segments.{segments_before}
+use Rattle.tl_check_planar.specs.Rectangles.{segment_rect}
 use Rattle.tl_cert.specs.Certificates.{TheCertificate}
-use Rattle.tl_verdict.specs.Valid.{IsTree, segments_of, greatest_depth}
+use Rattle.tl_check_verdict.specs.Valid.{IsTree, segments_of, greatest_depth}
 use Rattle.tl_check.specs.Keeping.Parts.{Continues}
 
 -- where no fault is found, the tree fits

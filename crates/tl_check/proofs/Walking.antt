@@ -2,15 +2,15 @@
 use Rattle.std.proofs.Common.{◌≡◌, ℕ, Vec, Global, Result, Ok, Err, ◌*◌, ◌<◌, List, [], ◌∷◌, length, All, refl, sym, subst, ap, ◌∙◌, append_assoc, arith}
 use Rattle.std.specs.Prelude.{slice_index}
 use Rattle.std.proofs.lemmas.List.{get_or_default}
-use Rattle.tl_county.specs.TheMap.{TheMap, MapChain}
-use Rattle.tl_sides.specs.Lists.{and_list, list_at}
-use Rattle.tl_sides.specs.Sides.{dart_count, IsRing}
-use Rattle.tl_sides.specs.declared.walks.Walks.{Walks}
-use Rattle.tl_sides.specs.Keeping.Walked.{AreReady, HaveWalked}
-use Rattle.tl_sides.proofs.Headings.{dart_within}
-use Rattle.tl_sides.proofs.ListLemmas.{length-and, list-last}
-use Rattle.tl_inside.specs.Placed.{ArePlaced}
-use Rattle.tl_rings.specs.Rings.{TheRings, AreBoxed}
+use Rattle.tl_map_county.specs.TheMap.{TheMap, MapChain}
+use Rattle.tl_check_sides.specs.Lists.{and_list, list_at}
+use Rattle.tl_check_sides.specs.Sides.{dart_count, IsRing}
+use Rattle.tl_check_sides.specs.declared.walks.Walks.{Walks}
+use Rattle.tl_check_sides.specs.Keeping.Walked.{AreReady, HaveWalked}
+use Rattle.tl_check_sides.proofs.Headings.{dart_within}
+use Rattle.tl_check_sides.proofs.ListLemmas.{length-and, list-last}
+use Rattle.tl_check_inside.specs.Placed.{ArePlaced}
+use Rattle.tl_check_points.specs.Rings.{TheRings, AreBoxed}
 use Rattle.tl_cert.specs.Certificates.{TheCertificate}
 use Rattle.tl_cert.specs.declared.place.CertPart.TheVariants as part
 use Rattle.tl_check.specs.declared.state.State.{State}

@@ -5,8 +5,8 @@ ghost use Rattle.tl_check.specs.Keeping.Answers.{answer_of, stop_of};
 
 use crate::state::Halt;
 use tl_cert::CertStop;
-use tl_output::Stop;
-use tl_verdict::{Verdict, fault_of_text};
+use tl_cert_output::Stop;
+use tl_check_verdict::{Verdict, fault_of_text};
 
 /// The answer where no further part is looked at.
 pub fn answer(halt: Halt) -> Result<Verdict, Stop>

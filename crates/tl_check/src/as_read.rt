@@ -2,19 +2,19 @@
 
 ghost use Rattle.std.specs.Prelude.{◌≡◌, ◌<◌, ◌≤◌, ◌^◌, length, IfOk, IfErr, false};
 ghost use Rattle.std.specs.Option.{IfSome};
-ghost use Rattle.tl_index.specs.Preorder.{IsPreorder};
-ghost use Rattle.tl_planar.specs.Planar.{IsPlanar};
-ghost use Rattle.tl_planar.specs.Searching.{meeting_segments};
+ghost use Rattle.tl_tree_index.specs.Preorder.{IsPreorder};
+ghost use Rattle.tl_check_planar.specs.Planar.{IsPlanar};
+ghost use Rattle.tl_check_planar.specs.Searching.{meeting_segments};
 ghost use Rattle.tl_cert.specs.declared.reader.Standing.TheVariants.{Reading};
 ghost use Rattle.tl_cert.specs.declared.place.NextPart.TheVariants.{Start};
 ghost use Rattle.tl_cert.specs.Certificates.{TheCertificate};
 ghost use Rattle.tl_cert.specs.Reading.{source_of, lines_of, standing_of};
-ghost use Rattle.tl_verdict.specs.Sound.{IsSoundFor};
-ghost use Rattle.tl_verdict.specs.Valid.{AreCounts, IsTree};
-ghost use Rattle.tl_verdict.specs.Truth.{IsTrueOfMap, IsOfDarts};
-ghost use Rattle.tl_verdict.specs.Verdicts.{OnSound, OnSoundButFaces, IfSound, IfMapFault, IfCertFault, UnlessMeet, OnSearched, IsReport};
-ghost use Rattle.tl_verdict.specs.Texts.{IsTrueOfText, IsValidText, TextAllowsSearch, MayStopReading};
-ghost use Rattle.tl_output.specs.Stops.{TellsDevice};
+ghost use Rattle.tl_check_verdict.specs.Sound.{IsSoundFor};
+ghost use Rattle.tl_check_verdict.specs.Valid.{AreCounts, IsTree};
+ghost use Rattle.tl_check_verdict.specs.Truth.{IsTrueOfMap, IsOfDarts};
+ghost use Rattle.tl_check_verdict.specs.Verdicts.{OnSound, OnSoundButFaces, IfSound, IfMapFault, IfCertFault, UnlessMeet, OnSearched, IsReport};
+ghost use Rattle.tl_check_verdict.specs.Texts.{IsTrueOfText, IsValidText, TextAllowsSearch, MayStopReading};
+ghost use Rattle.tl_cert_output.specs.Stops.{TellsDevice};
 ghost use Rattle.tl_check.specs.Keeping.Parts.{Holds, LeadsBehindTree};
 ghost use Rattle.tl_check.specs.Keeping.Read.{IsOfSpelt, IsOfText};
 ghost use Rattle.tl_check.specs.Keeping.Streams.{IsBehindTree, IsAnswer, MayCome, LeadsBy};
@@ -28,11 +28,11 @@ use crate::tree::take_tree;
 use crate::walks::{conclude, take_walk};
 use std::alloc::Global;
 use tl_cert::{CertPart, CertReader, Counts};
-use tl_county::Map;
-use tl_index::TreeNode;
-use tl_output::Stop;
+use tl_cert_output::Stop;
+use tl_check_verdict::{CertFault, Verdict};
+use tl_map_county::Map;
 use tl_record::Source;
-use tl_verdict::{CertFault, Verdict};
+use tl_tree_index::TreeNode;
 
 /// Decides whether a map is sound, by the text of a certificate of it, read to its end unless segments meet that may not
 /// or a stop comes first; and where `faces` are asked for, whether they agree, if nothing else is wrong with the map. Of the

@@ -2,11 +2,11 @@
 
 ghost use Rattle.std.specs.Prelude.{◌≡◌, ◌≢◌, ◌↔◌, List, IsTrue, IsFalse};
 ghost use Rattle.tl_geom.specs.declared.point.Point.{Point};
-ghost use Rattle.tl_county.specs.Nodes.{AreNodes};
-ghost use Rattle.tl_verdict.specs.Valid.{AreCounts};
+ghost use Rattle.tl_map_county.specs.Nodes.{AreNodes};
+ghost use Rattle.tl_check_verdict.specs.Valid.{AreCounts};
 
 use tl_cert::Counts;
-use tl_county::Map;
+use tl_map_county::Map;
 
 /// Whether the counts are the map's.
 pub fn are_counts(map: &Map, counts: Counts) -> bool

@@ -1,16 +1,16 @@
 //! Faces of maps that are found to be sound.
 
 ghost use Rattle.std.specs.Prelude.{◌≡◌};
-ghost use Rattle.tl_verdict.specs.Sound.{IsSound};
-ghost use Rattle.tl_verdict.specs.Verdicts.{OnSound};
+ghost use Rattle.tl_check_verdict.specs.Sound.{IsSound};
+ghost use Rattle.tl_check_verdict.specs.Verdicts.{OnSound};
 ghost use Rattle.tl_check.specs.Keeping.Faces.{IsFacing, IsWithFaces, verdict_of};
 
 use std::alloc::Global;
-use tl_county::Map;
-use tl_faces::FaceFault;
-use tl_facing::find_face_fault;
-use tl_output::Stop;
-use tl_verdict::{MapFault, Report, Verdict};
+use tl_cert_output::Stop;
+use tl_check_face_search::find_face_fault;
+use tl_check_faces::FaceFault;
+use tl_check_verdict::{MapFault, Report, Verdict};
+use tl_map_county::Map;
 
 /// The answer where faces may be asked for, by what was decided without them: they are looked at where the map is sound.
 pub fn with_faces(

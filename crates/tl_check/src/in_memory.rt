@@ -1,14 +1,14 @@
 //! The check of a map and a certificate in memory.
 
 ghost use Rattle.std.specs.Prelude.{◌≤◌, IfErr, false};
-ghost use Rattle.tl_planar.specs.Planar.{IsPlanar};
-ghost use Rattle.tl_planar.specs.Searching.{meeting_segments};
-ghost use Rattle.tl_verdict.specs.Sound.{IsSound, IsSoundFor};
-ghost use Rattle.tl_verdict.specs.Valid.{AllowsSearch, IsValid};
-ghost use Rattle.tl_verdict.specs.Truth.{IsTrueOfMap, IsTrueOfCert, IsOfDarts};
+ghost use Rattle.tl_check_planar.specs.Planar.{IsPlanar};
+ghost use Rattle.tl_check_planar.specs.Searching.{meeting_segments};
+ghost use Rattle.tl_check_verdict.specs.Sound.{IsSound, IsSoundFor};
+ghost use Rattle.tl_check_verdict.specs.Valid.{AllowsSearch, IsValid};
+ghost use Rattle.tl_check_verdict.specs.Truth.{IsTrueOfMap, IsTrueOfCert, IsOfDarts};
 ghost use Rattle.tl_check.specs.Keeping.Read.{IsOfCert};
 ghost use Rattle.tl_check.specs.Keeping.Streams.{Shows};
-ghost use Rattle.tl_verdict.specs.Verdicts.{OnSound, OnSoundButFaces, IfSound, IfMapFault, IfCertFault, UnlessMeet, OnSearched, IsReport, MayStop};
+ghost use Rattle.tl_check_verdict.specs.Verdicts.{OnSound, OnSoundButFaces, IfSound, IfMapFault, IfCertFault, UnlessMeet, OnSearched, IsReport, MayStop};
 
 use crate::answer::answer;
 use crate::as_read::take_counted;
@@ -17,9 +17,9 @@ use crate::rounds::{end_rounds, take_round};
 use crate::walks::{conclude, take_walk};
 use std::alloc::Global;
 use tl_cert::Certificate;
-use tl_county::Map;
-use tl_output::Stop;
-use tl_verdict::Verdict;
+use tl_cert_output::Stop;
+use tl_check_verdict::Verdict;
+use tl_map_county::Map;
 
 /// Decides whether a map is sound, by a certificate of it. `budget` is how many pairs of segments may be tested whose
 /// rectangles meet.

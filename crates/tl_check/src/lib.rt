@@ -2,7 +2,7 @@
 //!
 //! [`check_map`] answers that a map is sound only where it is: its chains are planar, its sides agree, the boundary of each
 //! polygon and that of the outside is closed rings, and the points of polygons lie inside their own rings alone
-//! (`tl_verdict/specs/Sound`). Each fault that it names is true (`tl_verdict/specs/Truth`), of the map or of the certificate.
+//! (`tl_check_verdict/specs/Sound`). Each fault that it names is true (`tl_check_verdict/specs/Truth`), of the map or of the certificate.
 //! [`check_map_with`] asks for faces too, where they are wanted, of a map that is sound otherwise.
 #![tactic(auto)]
 
@@ -21,5 +21,5 @@ mod walks;
 pub use as_read::check_cert;
 pub use in_memory::{check_map, check_map_with};
 pub use of_records::{check, check_with};
-pub use tl_output::Stop;
-pub use tl_verdict::{CertFault, MapFault, Report, Verdict, laws, report};
+pub use tl_cert_output::Stop;
+pub use tl_check_verdict::{CertFault, MapFault, Report, Verdict, laws, report};

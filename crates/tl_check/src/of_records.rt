@@ -4,23 +4,23 @@ ghost use Rattle.std.specs.Prelude.{◌≡◌, ◌≤◌, IfErr, false};
 ghost use Rattle.std.specs.Option.{IfSome};
 ghost use Rattle.tl_record.specs.Layout.{tiger_2006, layout_with};
 ghost use Rattle.tl_record.specs.Records.{records_of};
-ghost use Rattle.tl_planar.specs.Planar.{IsPlanar};
-ghost use Rattle.tl_planar.specs.Searching.{meeting_segments};
-ghost use Rattle.tl_verdict.specs.Sound.{IsSound, IsSoundFor};
-ghost use Rattle.tl_verdict.specs.Truth.{IsOfDarts};
-ghost use Rattle.tl_verdict.specs.Verdicts.{OnSound, OnSoundButFaces, IfSound, IfMapFault, IfCertFault, UnlessMeet, OnSearched, IsReport};
-ghost use Rattle.tl_verdict.specs.Texts.{IsTrueOfText, IsValidText, TextAllowsSearch};
-ghost use Rattle.tl_verdict.specs.Records.{HaveMap, IsTrueOfRecords, MayStopOn, TellsEither, LeavesUnread};
+ghost use Rattle.tl_check_planar.specs.Planar.{IsPlanar};
+ghost use Rattle.tl_check_planar.specs.Searching.{meeting_segments};
+ghost use Rattle.tl_check_verdict.specs.Sound.{IsSound, IsSoundFor};
+ghost use Rattle.tl_check_verdict.specs.Truth.{IsOfDarts};
+ghost use Rattle.tl_check_verdict.specs.Verdicts.{OnSound, OnSoundButFaces, IfSound, IfMapFault, IfCertFault, UnlessMeet, OnSearched, IsReport};
+ghost use Rattle.tl_check_verdict.specs.Texts.{IsTrueOfText, IsValidText, TextAllowsSearch};
+ghost use Rattle.tl_check_verdict.specs.Records.{HaveMap, IsTrueOfRecords, MayStopOn, TellsEither, LeavesUnread};
 ghost use Rattle.tl_check.specs.Keeping.Read.{IsOfRead};
 
 use crate::as_read::decide;
 use std::alloc::Global;
 use std::hash::RandomState;
-use tl_county::Map;
+use tl_cert_output::Stop;
+use tl_check_verdict::{Verdict, fault_of_records};
 use tl_map::{MapStop, read_map_with};
-use tl_output::Stop;
+use tl_map_county::Map;
 use tl_record::{Options, PLAIN, Source};
-use tl_verdict::{Verdict, fault_of_records};
 
 /// Decides whether the map of a county is sound, from the text of its record files and the text of a certificate.
 ///

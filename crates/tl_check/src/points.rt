@@ -1,21 +1,21 @@
 //! The points of polygons.
 
 ghost use Rattle.std.specs.Prelude.{◌<◌, ◌^◌, length, OnOk, IfErr};
-ghost use Rattle.tl_index.specs.Preorder.{IsPreorder};
-ghost use Rattle.tl_sides.specs.Sides.{SidesAgree};
-ghost use Rattle.tl_sides.specs.Walks.{AreWalks};
-ghost use Rattle.tl_inside.specs.Placed.{ArePlaced};
-ghost use Rattle.tl_rings.specs.Rings.{AreBoxed};
-ghost use Rattle.tl_verdict.specs.Valid.{IsTree};
+ghost use Rattle.tl_tree_index.specs.Preorder.{IsPreorder};
+ghost use Rattle.tl_check_sides.specs.Sides.{SidesAgree};
+ghost use Rattle.tl_check_sides.specs.Walks.{AreWalks};
+ghost use Rattle.tl_check_inside.specs.Placed.{ArePlaced};
+ghost use Rattle.tl_check_points.specs.Rings.{AreBoxed};
+ghost use Rattle.tl_check_verdict.specs.Valid.{IsTree};
 ghost use Rattle.tl_check.specs.Keeping.Parts.{MayEnd};
 
 use crate::state::Halt;
 use std::alloc::Global;
-use tl_county::Map;
-use tl_index::{TreeNode, TreeStop};
-use tl_rings::{Rings, find_misplaced};
+use tl_check_points::{Rings, find_misplaced};
+use tl_check_verdict::MapFault;
+use tl_map_county::Map;
 use tl_tree::FlatTree;
-use tl_verdict::MapFault;
+use tl_tree_index::{TreeNode, TreeStop};
 
 /// Looks at the points of polygons, where sides agree, by a tree of the map's segments and the map's rings.
 pub fn look_at_points(

@@ -6,10 +6,10 @@ ghost use Rattle.tl_check.specs.Keeping.Parts.{with_round, Holds, IsLed, Leads, 
 
 use crate::state::{Halt, State};
 use std::alloc::Global;
-use tl_county::Map;
-use tl_rings::Rings;
-use tl_sides::{Rounds, Walks};
-use tl_verdict::{CertFault, MapFault};
+use tl_check_points::Rings;
+use tl_check_sides::{Rounds, Walks};
+use tl_check_verdict::{CertFault, MapFault};
+use tl_map_county::Map;
 
 /// Takes one round more.
 pub fn take_round<'a>(map: &Map, state: State<'a>, round: &[u32]) -> State<'a>

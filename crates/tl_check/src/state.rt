@@ -3,10 +3,10 @@
 ghost use Rattle.std.specs.Prelude.{◌≡◌};
 ghost use Rattle.tl_check.specs.declared.state.Halt.TheVariants.{Memory as MemoryHalt};
 
-use tl_index::Memory;
-use tl_rings::Rings;
-use tl_sides::{RoundFault, Rounds, Walks};
-use tl_verdict::{CertFault, MapFault};
+use tl_check_points::Rings;
+use tl_check_sides::{RoundFault, Rounds, Walks};
+use tl_check_verdict::{CertFault, MapFault};
+use tl_tree_index::Memory;
 
 /// What was found of the rounds and walks so far, behind counts that are the map's and a tree.
 #[derive(Drop)]

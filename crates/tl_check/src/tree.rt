@@ -1,22 +1,22 @@
 //! The tree of a certificate, and the search for a place where chains meet that they may not.
 
 ghost use Rattle.std.specs.Prelude.{◌<◌, ◌≤◌, ◌^◌, [], length, OnOk, IfOk, IfErr};
-ghost use Rattle.tl_index.specs.Preorder.{IsPreorder};
-ghost use Rattle.tl_index.specs.Trees.{depth, tree_of};
-ghost use Rattle.tl_sides.specs.Keeping.Rounded.{AreSized, HaveTaken};
-ghost use Rattle.tl_cells.specs.Cells.{CellsAgree};
-ghost use Rattle.tl_verdict.specs.Valid.{AreCounts, IsTree};
+ghost use Rattle.tl_tree_index.specs.Preorder.{IsPreorder};
+ghost use Rattle.tl_tree_index.specs.Trees.{depth, tree_of};
+ghost use Rattle.tl_check_sides.specs.Keeping.Rounded.{AreSized, HaveTaken};
+ghost use Rattle.tl_check_cells.specs.Cells.{CellsAgree};
+ghost use Rattle.tl_check_verdict.specs.Valid.{AreCounts, IsTree};
 ghost use Rattle.tl_check.specs.Keeping.Parts.{LeadsBehindTree, MayEnd};
 
 use crate::state::{Halt, State};
 use std::alloc::Global;
-use tl_cells::find_cells_at_odds;
-use tl_county::Map;
-use tl_index::{TreeNode, TreeStop};
-use tl_planar::{Meeting, Segments, first_meet};
-use tl_sides::Rounds;
+use tl_check_cells::find_cells_at_odds;
+use tl_check_planar::{Meeting, Segments, first_meet};
+use tl_check_sides::Rounds;
+use tl_check_verdict::{CertFault, MapFault};
+use tl_map_county::Map;
 use tl_tree::FlatTree;
-use tl_verdict::{CertFault, MapFault};
+use tl_tree_index::{TreeNode, TreeStop};
 
 /// Takes the tree, behind counts that are the map's: it fits the map's segments and the chains are planar, or it is wrong,
 /// or no further part is looked at.

@@ -1,7 +1,7 @@
 //! The walks of a certificate.
 
 ghost use Rattle.std.specs.Prelude.{◌≡◌, ◌<◌, ◌^◌, zero, length, IfOk, IfErr};
-ghost use Rattle.tl_index.specs.Preorder.{IsPreorder};
+ghost use Rattle.tl_tree_index.specs.Preorder.{IsPreorder};
 ghost use Rattle.tl_cert.specs.Certificates.{TheCertificate};
 ghost use Rattle.tl_check.specs.Keeping.Parts.{with_walk, Holds, Leads, TakesWalks, IsEnded, IsFaulty};
 ghost use Rattle.tl_check.specs.Keeping.Streams.{IsConcluded};
@@ -11,11 +11,11 @@ use crate::points::look_at_points;
 use crate::rounds::end_rounds;
 use crate::state::{Halt, State};
 use std::alloc::Global;
-use tl_county::Map;
-use tl_index::TreeNode;
-use tl_output::Stop;
-use tl_rings::Rings;
-use tl_verdict::{CertFault, Verdict, report};
+use tl_cert_output::Stop;
+use tl_check_points::Rings;
+use tl_check_verdict::{CertFault, Verdict, report};
+use tl_map_county::Map;
+use tl_tree_index::TreeNode;
 
 /// Takes one walk more, and keeps it.
 pub fn take_walk<'a>(map: &Map, state: State<'a>, walk: &[u32]) -> Result<State<'a>, Halt>

@@ -4,7 +4,7 @@ use Rattle.std.proofs.lemmas.List.{append-nil}
 use Rattle.std.proofs.lemmas.List.Elements.{filter_map-append}
 use Rattle.tl_record.specs.declared.record.Record.{Record}
 use Rattle.tl_map.specs.declared.areas.AreaRecords.{AreaRecords}
-use Rattle.tl_drawn.specs.MapOf.{sides_at, polygon_at, landmark_at, link_at}
+use Rattle.tl_map_rules.specs.MapOf.{sides_at, polygon_at, landmark_at, link_at}
 use Rattle.tl_map.specs.Keeping.Areas.{KeepsAreas}
 
 -- a record that gives nothing

@@ -9,18 +9,18 @@ use Rattle.std.proofs.lemmas.List.Sums.{sum_by-cons, count_by_more_no}
 use Rattle.tl_geom.specs.declared.point.Point.{Point}
 use Rattle.tl_record.specs.declared.record.Record.{Record}
 use Rattle.tl_record.specs.declared.record.Record.TheVariants.{Chain, Shape}
-use Rattle.tl_drawn.specs.declared.entry.ChainEntry.{ChainEntry}
-use Rattle.tl_drawn.specs.declared.entry.ShapeEntry.{ShapeEntry}
-use Rattle.tl_county.specs.declared.limits.TheConstants.{CHAIN_LIMIT, SEGMENT_LIMIT}
-use Rattle.tl_drawn.specs.declared.fault.MapStop.{MapStop}
-use Rattle.tl_drawn.specs.ChainsOf.{is_chain, shape_count, pairs_up_to, pairs_of, used, same_point, points_between, segments_by, segments_of, IsDrawn, AreChainsOf}
-use Rattle.tl_county.specs.Chains.{CompleteChain, ChainList, tlids, segment_count, IsProper}
-use Rattle.tl_drawn.specs.Faults.{IsStray, IsDegenerate, AreJoined, HaveNoChainFault, IsFaultOfChains}
-use Rattle.tl_drawn.specs.Reading.{IfFault}
+use Rattle.tl_map_rules.specs.declared.entry.ChainEntry.{ChainEntry}
+use Rattle.tl_map_rules.specs.declared.entry.ShapeEntry.{ShapeEntry}
+use Rattle.tl_map_county.specs.declared.limits.TheConstants.{CHAIN_LIMIT, SEGMENT_LIMIT}
+use Rattle.tl_map_rules.specs.declared.fault.MapStop.{MapStop}
+use Rattle.tl_map_rules.specs.ChainsOf.{is_chain, shape_count, pairs_up_to, pairs_of, used, same_point, points_between, segments_by, segments_of, IsDrawn, AreChainsOf}
+use Rattle.tl_map_county.specs.Chains.{CompleteChain, ChainList, tlids, segment_count, IsProper}
+use Rattle.tl_map_rules.specs.Faults.{IsStray, IsDegenerate, AreJoined, HaveNoChainFault, IsFaultOfChains}
+use Rattle.tl_map_rules.specs.Reading.{IfFault}
 use Rattle.tl_map.specs.Keeping.Entries.{by_chain, AreChainEntries, entry_points, AreShapeEntries, chains_with, AreRising, has_tlid, shapes_with, ArePlaced, joined}
 use Rattle.tl_map.specs.Keeping.Rows.{AreJoinedBy, StopsJoin}
 use Rattle.tl_map.specs.Keeping.Built.{AreSound, AreBuilt, StopsBuilding}
-use Rattle.tl_drawn.proofs.CountLemmas.{none_counted, one_counted, sum_by-same, rising_keys_from_pairs}
+use Rattle.tl_map_rules.proofs.CountLemmas.{none_counted, one_counted, sum_by-same, rising_keys_from_pairs}
 use Rattle.tl_map.proofs.SequenceLemmas.{numbered_from_placed}
 use Rattle.tl_map.proofs.GapLemmas.{used-append, shapes_with_is, IsNumbered-from_entries, pairs_more}
 use Rattle.tl_map.proofs.CollectLemmas.{chain_count_is}

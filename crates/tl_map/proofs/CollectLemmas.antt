@@ -9,14 +9,14 @@ use Rattle.tl_record.specs.declared.record.Record.{Record}
 use Rattle.tl_record.specs.declared.record.Record.TheVariants.{Chain, Shape}
 use Rattle.tl_map.specs.declared.collect.Collected.{Collected}
 use Rattle.tl_map.specs.Keeping.Collected.{Collects}
-use Rattle.tl_drawn.specs.declared.entry.ChainEntry.{ChainEntry}
-use Rattle.tl_drawn.specs.declared.entry.ShapeEntry.{ShapeEntry}
+use Rattle.tl_map_rules.specs.declared.entry.ChainEntry.{ChainEntry}
+use Rattle.tl_map_rules.specs.declared.entry.ShapeEntry.{ShapeEntry}
 use Rattle.std.specs.Prelude.{if◌then◌else◌}
-use Rattle.tl_drawn.specs.declared.entry.Fill.{Fill}
-use Rattle.tl_drawn.specs.declared.entry.Fill.TheVariants.{Full, Ended, Gap}
-use Rattle.tl_drawn.specs.ChainsOf.{is_any_chain, chain_count, used, has_gap}
+use Rattle.tl_map_rules.specs.declared.entry.Fill.{Fill}
+use Rattle.tl_map_rules.specs.declared.entry.Fill.TheVariants.{Full, Ended, Gap}
+use Rattle.tl_map_rules.specs.ChainsOf.{is_any_chain, chain_count, used, has_gap}
 use Rattle.tl_map.specs.Keeping.Entries.{some_unused, fill_of, by_chain, by_shape, AreChainEntries, IsShapeEntry, AreShapeEntries}
-use Rattle.tl_drawn.proofs.CountLemmas.{sum_by-same}
+use Rattle.tl_map_rules.proofs.CountLemmas.{sum_by-same}
 use Rattle.tl_map.proofs.GapLemmas.{used-append, some_unused-append, has_gap-append}
 
 -- what is kept of the pairs seen so far

@@ -6,12 +6,12 @@ use Rattle.std.proofs.lemmas.List.Sums.{sum_by-cons, sum_by-take-le, count_by_mo
 use Rattle.tl_geom.specs.declared.point.Point.{Point}
 use Rattle.tl_record.specs.declared.record.Record.{Record}
 use Rattle.tl_record.specs.declared.record.Record.TheVariants.{Chain, Shape}
-use Rattle.tl_drawn.specs.declared.entry.ShapeEntry.{ShapeEntry}
-use Rattle.tl_drawn.specs.declared.entry.Fill.TheVariants.{Full, Ended, Gap}
-use Rattle.tl_drawn.specs.ChainsOf.{is_shape, is_shape_at, shape_count, pairs_at, pairs_up_to, pairs_of, used, some_used, has_gap}
-use Rattle.tl_drawn.specs.Faults.{IsNumbered}
+use Rattle.tl_map_rules.specs.declared.entry.ShapeEntry.{ShapeEntry}
+use Rattle.tl_map_rules.specs.declared.entry.Fill.TheVariants.{Full, Ended, Gap}
+use Rattle.tl_map_rules.specs.ChainsOf.{is_shape, is_shape_at, shape_count, pairs_at, pairs_up_to, pairs_of, used, some_used, has_gap}
+use Rattle.tl_map_rules.specs.Faults.{IsNumbered}
 use Rattle.tl_map.specs.Keeping.Entries.{some_unused, fill_of, by_shape, entry_points, IsInside, IsShapeEntry, AreShapeEntries, has_tlid, shapes_with, shapes_at, AreInOrder, ArePlaced, AreNumbered, late_by, late_after, ended_by, ended_after}
-use Rattle.tl_drawn.proofs.CountLemmas.{sum_by-same, one_counted}
+use Rattle.tl_map_rules.proofs.CountLemmas.{sum_by-same, one_counted}
 use Rattle.tl_map.proofs.SequenceLemmas.{numbered_from_placed, count_more, none_before}
 
 pub used-append : (xs ys : List (Option Point)) → used (xs ++ ys) ≡ used xs ++ used ys

@@ -12,7 +12,7 @@ use Rattle.tl_record.specs.Failures.{one_more}
 use Rattle.tl_record.specs.Reader.{Gives, Repeats, TellsFailure, with_entry, nothing_after, refusal_after}
 use Rattle.tl_map.specs.declared.areas.AreaRecords.{AreaRecords}
 use Rattle.tl_map.specs.declared.collect.Collected.{Collected}
-use Rattle.tl_drawn.specs.Reading.{records_in, stop_of, TellsDevice}
+use Rattle.tl_map_rules.specs.Reading.{records_in, stop_of, TellsDevice}
 use Rattle.tl_map.specs.Keeping.Areas.{KeepsAreas}
 use Rattle.tl_map.specs.Keeping.Collected.{Collects}
 use Rattle.tl_map.specs.Keeping.Gathering.{GathersSoFar, GathersAllSoFar, StopsGathering}

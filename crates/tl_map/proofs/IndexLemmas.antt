@@ -15,14 +15,14 @@ use Rattle.indexmap.specs.IndexMap.{IndexMap, keys, index_of, IsUnique}
 use Rattle.indexmap.proofs.MapLemmas.{index-first}
 use Rattle.indexmap.proofs.RemoveLemmas.{own_first}
 use Rattle.tl_geom.specs.declared.point.Point.{Point}
-use Rattle.tl_key.specs.declared.key.PolyKey.{PolyKey}
-use Rattle.tl_county.specs.declared.polygons.Polygon.{Polygon}
-use Rattle.tl_county.specs.Rows.{polygon_in}
-use Rattle.tl_drawn.specs.MapOf.{same_key, place_of}
-use Rattle.tl_drawn.specs.MapOf as drawn
-use Rattle.tl_drawn.specs.Faults.{StandsTwice}
+use Rattle.tl_record_key.specs.declared.key.PolyKey.{PolyKey}
+use Rattle.tl_map_county.specs.declared.polygons.Polygon.{Polygon}
+use Rattle.tl_map_county.specs.Rows.{polygon_in}
+use Rattle.tl_map_rules.specs.MapOf.{same_key, place_of}
+use Rattle.tl_map_rules.specs.MapOf as drawn
+use Rattle.tl_map_rules.specs.Faults.{StandsTwice}
 use Rattle.tl_map.specs.Keeping.Index.{Numbers, Indexes, entry_of}
-use Rattle.tl_county.proofs.PlaceLemmas.{contained}
+use Rattle.tl_map_county.proofs.PlaceLemmas.{contained}
 
 -- the places of a map's keys number them
 pub numbers_keys : {K X S : Type 0} (eq : K → K → Bool) → IsEquivalence eq → ((x y : K) → eq x y ≡ true → x ≡ y) → (m : IndexMap K X S) → IsUnique eq m → Numbers (keys m) (index_of eq m)

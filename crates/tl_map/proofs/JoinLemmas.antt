@@ -3,11 +3,11 @@ use Rattle.std.proofs.lemmas.Bool.{cases_lt, eq-eqb, ne_eqb}
 use Rattle.std.proofs.lemmas.List.{append-nil, take-append-drop, get_or-take, get_or-drop, get_or_default, length-take-le, length-drop, map_more, length-map, get_or-map, take-map}
 use Rattle.std.proofs.lemmas.List.Elements.{All-head, All-tail, filter-append}
 use Rattle.tl_geom.specs.declared.point.Point.{Point}
-use Rattle.tl_drawn.specs.declared.entry.ChainEntry.{ChainEntry}
-use Rattle.tl_drawn.specs.declared.entry.ShapeEntry.{ShapeEntry}
+use Rattle.tl_map_rules.specs.declared.entry.ChainEntry.{ChainEntry}
+use Rattle.tl_map_rules.specs.declared.entry.ShapeEntry.{ShapeEntry}
 use Rattle.std.proofs.lemmas.List.Sums.{sum_by-take-le}
-use Rattle.tl_drawn.specs.declared.fault.MapStop.{MapStop}
-use Rattle.tl_county.specs.Chains.{CompleteChain, segment_count}
+use Rattle.tl_map_rules.specs.declared.fault.MapStop.{MapStop}
+use Rattle.tl_map_county.specs.Chains.{CompleteChain, segment_count}
 use Rattle.tl_map.specs.Keeping.Entries.{has_tlid, chains_with, AreRising, AreInOrder, joined}
 use Rattle.tl_map.specs.Keeping.Rows.{drawn_by, StopsAdding, StopsJoin}
 use Rattle.tl_map.proofs.StrayLemmas.{no_chain}

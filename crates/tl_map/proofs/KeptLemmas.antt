@@ -5,9 +5,9 @@ use Rattle.std.specs.Option.{unwrap_or}
 use Rattle.std.proofs.lemmas.Bool.{ne_eqb}
 use Rattle.std.proofs.lemmas.List.{get_or_append_left, get_or-map, map-append, length-map, length-append}
 use Rattle.std.proofs.lemmas.List.Elements.{All-append, All-cons, All-nil, All-head, All-tail}
-use Rattle.tl_county.specs.Kept.{given}
-use Rattle.tl_key.specs.declared.key.PolyKey.{PolyKey}
-use Rattle.tl_drawn.specs.declared.entry.SidesEntry.{SidesEntry}
+use Rattle.tl_map_county.specs.Kept.{given}
+use Rattle.tl_record_key.specs.declared.key.PolyKey.{PolyKey}
+use Rattle.tl_map_rules.specs.declared.entry.SidesEntry.{SidesEntry}
 use Rattle.tl_map.specs.declared.kept.SidesRow.{SidesRow}
 use Rattle.tl_map.specs.declared.kept.SidesMore.{SidesMore}
 use Rattle.tl_map.specs.Keeping.Kept.{short_of, long_of, no_more, kept_in, IsRow}

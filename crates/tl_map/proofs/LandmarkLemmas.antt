@@ -10,15 +10,15 @@ use Rattle.std.proofs.lemmas.List.Elements.{Contains-push, Contains-push_cases, 
 use Rattle.std.specs.declared.hash.RandomState.{RandomState}
 use Rattle.indexmap.specs.IndexMap.{IndexMap, IsUnique}
 use Rattle.tl_geom.specs.declared.point.Point.{Point}
-use Rattle.tl_drawn.specs.declared.entry.LandmarkEntry.{LandmarkEntry}
-use Rattle.tl_county.specs.declared.limits.TheConstants.{LANDMARK_LIMIT}
-use Rattle.tl_drawn.specs.MapOf.{firsts, firsts_after}
+use Rattle.tl_map_rules.specs.declared.entry.LandmarkEntry.{LandmarkEntry}
+use Rattle.tl_map_county.specs.declared.limits.TheConstants.{LANDMARK_LIMIT}
+use Rattle.tl_map_rules.specs.MapOf.{firsts, firsts_after}
 use Rattle.std.specs.List.Sorted.{IsNonDecreasingBy, IsPermutation, IsStableByKey}
 use Rattle.std.proofs.lemmas.Bool.Decides.{nat_tests}
-use Rattle.tl_key.specs.declared.key.PolyKey.{PolyKey}
-use Rattle.tl_drawn.specs.declared.entry.LinkEntry.{LinkEntry}
+use Rattle.tl_record_key.specs.declared.key.PolyKey.{PolyKey}
+use Rattle.tl_map_rules.specs.declared.entry.LinkEntry.{LinkEntry}
 use Rattle.tl_map.specs.declared.landmarks.Link.{Link}
-use Rattle.tl_drawn.specs.declared.fault.MapStop.{MapStop}
+use Rattle.tl_map_rules.specs.declared.fault.MapStop.{MapStop}
 use Rattle.tl_map.specs.Keeping.Landmarks.{lands, first_of, ListsLandmarks, IsLink, AreLinks, StopsLink, StopsLinks, AreByLandmark}
 
 -- what is listed of the first i records

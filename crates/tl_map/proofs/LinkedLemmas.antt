@@ -4,22 +4,22 @@ use Rattle.std.proofs.lemmas.List.{length-map}
 use Rattle.std.proofs.lemmas.Bool.{cases_eq, eq-eqb, ne_eqb}
 use Rattle.std.proofs.lemmas.Option.{slice_get_within}
 use Rattle.std.proofs.lemmas.List.Sorted.{All-permutation}
-use Rattle.tl_key.specs.declared.key.PolyKey.{PolyKey}
-use Rattle.tl_drawn.specs.declared.entry.LandmarkEntry.{LandmarkEntry}
-use Rattle.tl_drawn.specs.declared.entry.LinkEntry.{LinkEntry}
+use Rattle.tl_record_key.specs.declared.key.PolyKey.{PolyKey}
+use Rattle.tl_map_rules.specs.declared.entry.LandmarkEntry.{LandmarkEntry}
+use Rattle.tl_map_rules.specs.declared.entry.LinkEntry.{LinkEntry}
 use Rattle.tl_map.specs.declared.landmarks.Link.{Link}
 use Rattle.std.specs.declared.hash.RandomState.{RandomState}
 use Rattle.std.specs.Map.{keys_of}
 use Rattle.indexmap.specs.IndexMap.{IndexMap, keys, index_of}
 use Rattle.tl_geom.specs.declared.point.Point.{Point}
-use Rattle.tl_county.specs.declared.landmarks.LandmarkRow.{LandmarkRow}
-use Rattle.tl_county.specs.Rows.{polygons_at, landmarks_in}
-use Rattle.tl_county.specs.declared.landmarks.LinkedLandmarks.{LinkedLandmarks}
-use Rattle.tl_drawn.specs.declared.fault.MapStop.{MapStop}
-use Rattle.tl_drawn.specs.MapOf.{firsts, place_of, linked_to}
+use Rattle.tl_map_county.specs.declared.landmarks.LandmarkRow.{LandmarkRow}
+use Rattle.tl_map_county.specs.Rows.{polygons_at, landmarks_in}
+use Rattle.tl_map_county.specs.declared.landmarks.LinkedLandmarks.{LinkedLandmarks}
+use Rattle.tl_map_rules.specs.declared.fault.MapStop.{MapStop}
+use Rattle.tl_map_rules.specs.MapOf.{firsts, place_of, linked_to}
 use Rattle.tl_map.specs.Keeping.Index.{Numbers}
 use Rattle.tl_map.specs.Keeping.Landmarks.{first_of, ListsLandmarks, IsLink, AreAllLinks, StopsLinks, StopsLinking, links_to, AreByLandmark, polygons_to, AreRows, landmark_from, AreLinked}
-use Rattle.tl_county.proofs.PlaceLemmas.{contained}
+use Rattle.tl_map_county.proofs.PlaceLemmas.{contained}
 
 -- the links of the l-th LAND, by numbers and by keys
 to_links : (ks : List PolyKey) (ns : List ℕ) (found : ℕ → Option ℕ) (links : List LinkEntry) (made : List Link) (l n : ℕ) → Numbers ns found → slice_get ns l ≡ Some n → length made ≡ length links → ((j : ℕ) (link : LinkEntry) (m : Link) → j < length made → IsLink ks ns (get_or links j link) (get_or made j m)) → map (λ (m : Link). m.polygon) (links_to l made) ≡ map (λ (k : LinkEntry). place_of ks k.key) (filter (λ (k : LinkEntry). eqb k.land n) links)

@@ -5,9 +5,9 @@ use Rattle.std.proofs.lemmas.List.{drop-append-le, take-append-le, drop_at, take
 use Rattle.std.proofs.Math.Seq.{get_or-append_seam}
 use Rattle.std.proofs.lemmas.List.Elements.{All-push, All-weaker}
 use Rattle.tl_map.specs.declared.landmarks.Link.{Link}
-use Rattle.tl_county.specs.declared.landmarks.LandmarkRow.{LandmarkRow}
+use Rattle.tl_map_county.specs.declared.landmarks.LandmarkRow.{LandmarkRow}
 use Rattle.tl_map.specs.Keeping.Landmarks.{links_to, polygons_to, AreRows}
-use Rattle.tl_county.specs.Rows.{IsRow, polygons_at}
+use Rattle.tl_map_county.specs.Rows.{IsRow, polygons_at}
 use Rattle.tl_map.proofs.JoinLemmas.{filter_part}
 
 -- the links of landmark l stand from s to e

@@ -3,38 +3,38 @@ use Rattle.std.specs.Prelude.{Any, MatchResult}
 use Rattle.std.specs.declared.hash.RandomState.{RandomState}
 use Rattle.indexmap.specs.IndexMap.{IndexMap, keys as index_keys_of}
 use Rattle.tl_geom.specs.declared.point.Point.{Point}
-use Rattle.tl_county.specs.TheMap.{TheMap}
+use Rattle.tl_map_county.specs.TheMap.{TheMap}
 use Rattle.std.proofs.lemmas.Bool.{ne_eqb, eqb-true}
 use Rattle.std.proofs.lemmas.List.{get_or_default, length-map, get_or-map}
 use Rattle.std.proofs.lemmas.List.Sums.{sum_by-cons}
 use Rattle.std.proofs.lemmas.List.Sorted.{IsPermutation-map, IsPermutation-sym, Contains-permutation, All-permutation, sum_by-IsPermutation}
-use Rattle.tl_key.specs.declared.key.PolyKey.{PolyKey}
+use Rattle.tl_record_key.specs.declared.key.PolyKey.{PolyKey}
 use Rattle.tl_record.specs.declared.record.Record.{Record}
 use Rattle.tl_map.specs.declared.areas.AreaRecords.{AreaRecords}
-use Rattle.tl_drawn.specs.declared.entry.SidesEntry.{SidesEntry}
-use Rattle.tl_drawn.specs.declared.entry.LandmarkEntry.{LandmarkEntry}
-use Rattle.tl_drawn.specs.declared.entry.LinkEntry.{LinkEntry}
-use Rattle.tl_county.specs.declared.polygons.Polygon.{Polygon}
-use Rattle.tl_county.specs.declared.sides.ChainSides.{ChainSides}
-use Rattle.tl_county.specs.declared.landmarks.LinkedLandmarks.{LinkedLandmarks}
-use Rattle.tl_drawn.specs.declared.fault.Limited.TheVariants.{Chains, Segments, Polygons, Landmarks}
-use Rattle.tl_drawn.specs.declared.fault.RecordFault.TheVariants.{DuplicateChain, ShapeWithoutChain, ShapeSequence, ShapeGap, ChainWithoutSides, SidesWithoutChain, DuplicateSides, DuplicatePolygon, SideWithoutPolygon, LinkWithoutLandmark, LinkWithoutPolygon, DegenerateChain, TooMany}
-use Rattle.tl_drawn.specs.declared.fault.MapStop.{MapStop}
-use Rattle.tl_county.specs.Chains.{CompleteChain, ChainList, tlids}
-use Rattle.tl_drawn.specs.ChainsOf.{AreChainsOf}
-use Rattle.tl_drawn.specs.MapOf.{sides_in, polygons_in, landmarks_in, links_in, keys, without_sides, IsSided, firsts}
-use Rattle.tl_drawn.specs.Faults.{HasChain, HaveNoFault}
-use Rattle.tl_county.specs.Limits.{most_polygons, most_landmarks}
+use Rattle.tl_map_rules.specs.declared.entry.SidesEntry.{SidesEntry}
+use Rattle.tl_map_rules.specs.declared.entry.LandmarkEntry.{LandmarkEntry}
+use Rattle.tl_map_rules.specs.declared.entry.LinkEntry.{LinkEntry}
+use Rattle.tl_map_county.specs.declared.polygons.Polygon.{Polygon}
+use Rattle.tl_map_county.specs.declared.sides.ChainSides.{ChainSides}
+use Rattle.tl_map_county.specs.declared.landmarks.LinkedLandmarks.{LinkedLandmarks}
+use Rattle.tl_map_rules.specs.declared.fault.Limited.TheVariants.{Chains, Segments, Polygons, Landmarks}
+use Rattle.tl_map_rules.specs.declared.fault.RecordFault.TheVariants.{DuplicateChain, ShapeWithoutChain, ShapeSequence, ShapeGap, ChainWithoutSides, SidesWithoutChain, DuplicateSides, DuplicatePolygon, SideWithoutPolygon, LinkWithoutLandmark, LinkWithoutPolygon, DegenerateChain, TooMany}
+use Rattle.tl_map_rules.specs.declared.fault.MapStop.{MapStop}
+use Rattle.tl_map_county.specs.Chains.{CompleteChain, ChainList, tlids}
+use Rattle.tl_map_rules.specs.ChainsOf.{AreChainsOf}
+use Rattle.tl_map_rules.specs.MapOf.{sides_in, polygons_in, landmarks_in, links_in, keys, without_sides, IsSided, firsts}
+use Rattle.tl_map_rules.specs.Faults.{HasChain, HaveNoFault}
+use Rattle.tl_map_county.specs.Limits.{most_polygons, most_landmarks}
 use Rattle.tl_map.specs.Keeping.Areas.{KeepsAreas}
 use Rattle.tl_map.specs.Keeping.Built.{AreBuilt, StopsBuilding}
 use Rattle.tl_map.specs.Keeping.Index.{Numbers, StopsIndex}
 use Rattle.tl_map.specs.Keeping.Sided.{sided_by, NamesKnown, sides_tlids, ArePaired, StopsPairing, StopsSides}
-use Rattle.tl_county.specs.Rows.{landmarks_in as rows_in, sided, polygon_in}
+use Rattle.tl_map_county.specs.Rows.{landmarks_in as rows_in, sided, polygon_in}
 use Rattle.tl_map.specs.Keeping.Landmarks.{landmark_from, AreLinked, StopsLinking}
 use Rattle.tl_map.specs.Keeping.Mapped.{AreMapped, ArePairedChains, AreIndexedSides, StopsIndexedSides, IsLinkedMap}
-use Rattle.tl_drawn.proofs.CountLemmas.{none_counted}
-use Rattle.tl_drawn.proofs.KnownLemmas.{far, chain_known}
-use Rattle.tl_county.proofs.RowLemmas.{length-landmarks_in}
+use Rattle.tl_map_rules.proofs.CountLemmas.{none_counted}
+use Rattle.tl_map_rules.proofs.KnownLemmas.{far, chain_known}
+use Rattle.tl_map_county.proofs.RowLemmas.{length-landmarks_in}
 use Rattle.tl_map.proofs.IndexLemmas.{keys_are, index_keys, polygons_entries}
 
 chain_there : (rs : List Record) (chains : List CompleteChain) (t : ℕ) → AreChainsOf rs chains → HasChain rs t → Contains (tlids chains) t

@@ -3,7 +3,7 @@ use Rattle.std.specs.List.{list_any}
 use Rattle.std.proofs.lemmas.Bool.{cases_Bool, eq-eqb, ne_eqb, cases_eq}
 use Rattle.std.proofs.lemmas.List.{append_assoc, append-nil, at_drop_more, at_drop_all}
 use Rattle.tl_map.specs.declared.landmarks.Link.{Link}
-use Rattle.tl_drawn.specs.MapOf.{firsts, firsts_after}
+use Rattle.tl_map_rules.specs.MapOf.{firsts, firsts_after}
 
 -- whether a number is in the list
 abbrev pub has : ℕ → List ℕ → Bool

@@ -3,16 +3,16 @@ use Rattle.std.specs.List.{list_any}
 use Rattle.std.proofs.lemmas.Bool.{cases_Bool, eq-eqb}
 use Rattle.std.proofs.lemmas.List.{length-map, get_or-map}
 use Rattle.std.proofs.lemmas.List.Elements.{All-push, All-map, All-filter, All-weaker}
-use Rattle.tl_key.specs.declared.key.PolyKey.{PolyKey}
-use Rattle.tl_drawn.specs.declared.entry.LandmarkEntry.{LandmarkEntry}
-use Rattle.tl_drawn.specs.declared.entry.LinkEntry.{LinkEntry}
+use Rattle.tl_record_key.specs.declared.key.PolyKey.{PolyKey}
+use Rattle.tl_map_rules.specs.declared.entry.LandmarkEntry.{LandmarkEntry}
+use Rattle.tl_map_rules.specs.declared.entry.LinkEntry.{LinkEntry}
 use Rattle.tl_geom.specs.declared.point.Point.{Point}
-use Rattle.tl_county.specs.declared.landmarks.LandmarkRow.{LandmarkRow}
-use Rattle.tl_county.specs.declared.landmarks.LinkedLandmarks.{LinkedLandmarks}
-use Rattle.tl_drawn.specs.MapOf.{same_key, place_of, firsts, firsts_after, linked_to}
-use Rattle.tl_county.specs.TheMap.{MapLandmark}
-use Rattle.tl_county.specs.Landmarks.{AreOnce, ArePolygonsOf}
-use Rattle.tl_county.specs.Rows.{HasPolygonsOf, polygons_at, landmarks_in}
+use Rattle.tl_map_county.specs.declared.landmarks.LandmarkRow.{LandmarkRow}
+use Rattle.tl_map_county.specs.declared.landmarks.LinkedLandmarks.{LinkedLandmarks}
+use Rattle.tl_map_rules.specs.MapOf.{same_key, place_of, firsts, firsts_after, linked_to}
+use Rattle.tl_map_county.specs.TheMap.{MapLandmark}
+use Rattle.tl_map_county.specs.Landmarks.{AreOnce, ArePolygonsOf}
+use Rattle.tl_map_county.specs.Rows.{HasPolygonsOf, polygons_at, landmarks_in}
 use Rattle.tl_map.specs.Keeping.Landmarks.{landmark_from, AreLinked}
 use Rattle.tl_map.proofs.IndexLemmas.{same_key-refl}
 

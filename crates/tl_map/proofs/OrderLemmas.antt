@@ -2,7 +2,7 @@ use Rattle.std.proofs.Common.{◌≡◌, ℕ, zero, suc, ◌+◌, ◌<◌, ◌�
 use Rattle.std.specs.Ordering.{nat_cmp, ordering_then, is_lt}
 use Rattle.std.proofs.lemmas.Bool.{cases_lt}
 use Rattle.std.proofs.lemmas.Bool.Decides.{nat_tests}
-use Rattle.tl_drawn.specs.declared.entry.ShapeEntry.{ShapeEntry}
+use Rattle.tl_map_rules.specs.declared.entry.ShapeEntry.{ShapeEntry}
 use Rattle.tl_map.specs.Keeping.Entries.{Precedes, AreInOrder}
 
 -- neighbours that a sort by TLID and RTSQ leaves

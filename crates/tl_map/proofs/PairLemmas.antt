@@ -5,11 +5,11 @@ use Rattle.std.proofs.lemmas.Bool.{cases_lt}
 use Rattle.std.proofs.lemmas.Option.{slice_get-get_or}
 use Rattle.std.proofs.lemmas.List.{get_or_default, get_or-map}
 use Rattle.std.proofs.lemmas.List.Sorted.{IsPermutation-map, IsPermutation-sym, IsPermutation-trans, Contains-permutation, sum_by-IsPermutation}
-use Rattle.tl_drawn.specs.declared.fault.RecordFault.{RecordFault}
-use Rattle.tl_drawn.specs.declared.fault.MapStop.{MapStop}
-use Rattle.tl_drawn.specs.declared.entry.SidesEntry.{SidesEntry}
+use Rattle.tl_map_rules.specs.declared.fault.RecordFault.{RecordFault}
+use Rattle.tl_map_rules.specs.declared.fault.MapStop.{MapStop}
+use Rattle.tl_map_rules.specs.declared.entry.SidesEntry.{SidesEntry}
 use Rattle.tl_map.specs.Keeping.Sided.{sides_tlids, IsUnpaired, ArePaired, StopsPairing}
-use Rattle.tl_drawn.proofs.KnownLemmas.{far}
+use Rattle.tl_map_rules.proofs.KnownLemmas.{far}
 
 -- two lists are one up to i, and the i-th of the first isn't in the second
 pub absent : (xs ys : List ℕ) (i x : ℕ) → IsStrictlyIncreasing xs → IsStrictlyIncreasing ys → ((k : ℕ) → k < i → get_or ys k 0 ≡ get_or xs k 0) → i < length xs → get_or xs i 0 ≡ x → (i < length ys → x < get_or ys i 0) → ¬ Contains ys x

@@ -2,8 +2,8 @@ use Rattle.std.proofs.Common.{◌≡◌, ◌≢◌, ℕ, zero, suc, ◌<◌, Boo
 use Rattle.std.specs.List.{dedup_from}
 use Rattle.std.proofs.lemmas.Cmp.{int_eq_equiv}
 use Rattle.tl_geom.specs.declared.point.Point.{Point}
-use Rattle.tl_drawn.specs.ChainsOf.{same_point}
-use Rattle.tl_county.specs.Chains.{IsProper}
+use Rattle.tl_map_rules.specs.ChainsOf.{same_point}
+use Rattle.tl_map_county.specs.Chains.{IsProper}
 use Rattle.tl_map.specs.Keeping.Rows.{dedup_after}
 use Rattle.tl_map.proofs.RowLemmas.{dedup_from-is}
 

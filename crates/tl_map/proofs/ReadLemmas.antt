@@ -3,12 +3,12 @@ use Rattle.std.specs.Prelude.{IfSome, IfOk, IfErr, MatchResult}
 use Rattle.std.specs.Option.{option_map}
 use Rattle.tl_record.specs.declared.record.Record.{Record}
 use Rattle.tl_record.specs.Records.{Records}
-use Rattle.tl_county.specs.Chains.{ChainList}
-use Rattle.tl_county.specs.TheMap.{TheMap}
-use Rattle.tl_drawn.specs.declared.fault.RecordFault.{RecordFault}
-use Rattle.tl_drawn.specs.declared.fault.MapStop.{MapStop}
-use Rattle.tl_drawn.specs.declared.fault.MapStop.TheVariants.{Refused, Device, Memory, Fault}
-use Rattle.tl_drawn.specs.Reading.{records_in, AreReadFrom, IsReadFrom, StopsReading, IfFault}
+use Rattle.tl_map_county.specs.Chains.{ChainList}
+use Rattle.tl_map_county.specs.TheMap.{TheMap}
+use Rattle.tl_map_rules.specs.declared.fault.RecordFault.{RecordFault}
+use Rattle.tl_map_rules.specs.declared.fault.MapStop.{MapStop}
+use Rattle.tl_map_rules.specs.declared.fault.MapStop.TheVariants.{Refused, Device, Memory, Fault}
+use Rattle.tl_map_rules.specs.Reading.{records_in, AreReadFrom, IsReadFrom, StopsReading, IfFault}
 use Rattle.tl_map.specs.Keeping.Built.{AreBuilt, StopsBuilding}
 use Rattle.tl_map.specs.Keeping.Mapped.{AreMapped}
 use Rattle.tl_map.specs.Keeping.Gathering.{StopsGathering}

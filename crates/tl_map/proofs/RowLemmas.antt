@@ -4,15 +4,15 @@ use Rattle.std.proofs.lemmas.Bool.{cases_lt}
 use Rattle.std.proofs.lemmas.List.{append-nil, append_assoc, at_drop_more, at_drop_all, drop-append-le, get_or_append_left, get_or_push, take-append-le, drop_at, take_all, map_push, length-append, length-drop, length-map, length_push}
 use Rattle.std.proofs.lemmas.List.Elements.{All-nil, All-head, All-tail, All-push, All-weaker}
 use Rattle.std.proofs.lemmas.List.Sums.{sum_by_push}
-use Rattle.tl_drawn.specs.declared.entry.ChainEntry.{ChainEntry}
-use Rattle.tl_drawn.specs.declared.entry.ShapeEntry.{ShapeEntry}
+use Rattle.tl_map_rules.specs.declared.entry.ChainEntry.{ChainEntry}
+use Rattle.tl_map_rules.specs.declared.entry.ShapeEntry.{ShapeEntry}
 use Rattle.tl_map.specs.Keeping.Entries.{entry_points}
 use Rattle.tl_geom.specs.declared.point.Point.{Point}
-use Rattle.tl_county.specs.declared.chains.ChainRow.{ChainRow}
-use Rattle.tl_county.specs.declared.limits.TheConstants.{SEGMENT_LIMIT}
-use Rattle.tl_county.specs.Chains.{segment_count}
-use Rattle.tl_drawn.specs.ChainsOf.{same_point}
-use Rattle.tl_county.specs.Rows.{IsWithin, chain_in, chains_in, IsTable}
+use Rattle.tl_map_county.specs.declared.chains.ChainRow.{ChainRow}
+use Rattle.tl_map_county.specs.declared.limits.TheConstants.{SEGMENT_LIMIT}
+use Rattle.tl_map_county.specs.Chains.{segment_count}
+use Rattle.tl_map_rules.specs.ChainsOf.{same_point}
+use Rattle.tl_map_county.specs.Rows.{IsWithin, chain_in, chains_in, IsTable}
 use Rattle.tl_map.specs.Keeping.Rows.{dedup_after, drawn_through}
 
 -- dedup keeps the first point and what follows it

@@ -3,9 +3,9 @@ use Rattle.std.proofs.lemmas.Bool.{cases_lt, ne_eqb}
 use Rattle.std.proofs.lemmas.Bool.Decides.{eqb_tells, nat_tests}
 use Rattle.std.proofs.lemmas.List.{get_or-drop, length-drop, take_all, get_or-take, get_or_default, length-take-le}
 use Rattle.std.proofs.lemmas.List.Sums.{sum_by_more, sum_by-take-drop, sum_by-le-sum_by, count_by_more_yes, count_by-le-length}
-use Rattle.tl_drawn.specs.declared.entry.ShapeEntry.{ShapeEntry}
+use Rattle.tl_map_rules.specs.declared.entry.ShapeEntry.{ShapeEntry}
 use Rattle.tl_map.specs.Keeping.Entries.{has_tlid, shapes_with, shapes_at, AreInOrder, IsPlaced, ArePlaced, AreNumbered}
-use Rattle.tl_drawn.proofs.CountLemmas.{none_counted, one_counted, sum_by-both, sum_by-same}
+use Rattle.tl_map_rules.proofs.CountLemmas.{none_counted, one_counted, sum_by-both, sum_by-same}
 
 -- of m entries of a TLID that count up from 1, a have RTSQ n
 pub record AtIs (m n a : ℕ) : Type 0 where

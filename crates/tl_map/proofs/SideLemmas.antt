@@ -1,14 +1,14 @@
 use Rattle.std.proofs.Common.{◌≡◌, ℕ, ◌+◌, ◌<◌, All, Contains, inl, inr, Option, Some, None, List, [], ◌∷◌, ◌++◌, length, map, take, get_or, refl, sym, ap, ◌∙◌, arith}
 use Rattle.std.proofs.lemmas.Bool.{cases_lt}
-use Rattle.tl_county.specs.declared.sides.Side.{Side}
-use Rattle.tl_county.specs.declared.sides.ChainSides.{ChainSides}
+use Rattle.tl_map_county.specs.declared.sides.Side.{Side}
+use Rattle.tl_map_county.specs.declared.sides.ChainSides.{ChainSides}
 use Rattle.std.proofs.lemmas.List.{get_or_default, map_more}
 use Rattle.std.proofs.lemmas.List.Elements.{All-map, All-weaker}
-use Rattle.tl_key.specs.declared.key.PolyKey.{PolyKey}
-use Rattle.tl_drawn.specs.declared.entry.SidesEntry.{SidesEntry}
-use Rattle.tl_drawn.specs.declared.fault.MapStop.{MapStop}
-use Rattle.tl_drawn.specs.MapOf.{side_of}
-use Rattle.tl_county.specs.Sides.{IsSideAmong, AreSidesAmong}
+use Rattle.tl_record_key.specs.declared.key.PolyKey.{PolyKey}
+use Rattle.tl_map_rules.specs.declared.entry.SidesEntry.{SidesEntry}
+use Rattle.tl_map_rules.specs.declared.fault.MapStop.{MapStop}
+use Rattle.tl_map_rules.specs.MapOf.{side_of}
+use Rattle.tl_map_county.specs.Sides.{IsSideAmong, AreSidesAmong}
 use Rattle.tl_map.proofs.OnceLemmas.{place_below}
 use Rattle.tl_map.specs.Keeping.Sided.{sided_by, IsSide, NamesKnown, StopsSide, StopsSides}
 

@@ -1,10 +1,10 @@
 use Rattle.std.proofs.Common.{◌≡◌, ◌≢◌, ℕ, ◌+◌, ◌-◌, ◌<◌, ◌≤◌, eqb, ◌⊎◌, inl, inr, List, length, get_or, refl, arith}
 use Rattle.std.proofs.lemmas.Bool.{cases_lt, eq-eqb, ne_eqb}
 use Rattle.std.proofs.lemmas.List.{get_or_default}
-use Rattle.tl_drawn.specs.declared.entry.ChainEntry.{ChainEntry}
-use Rattle.tl_drawn.specs.declared.entry.ShapeEntry.{ShapeEntry}
+use Rattle.tl_map_rules.specs.declared.entry.ChainEntry.{ChainEntry}
+use Rattle.tl_map_rules.specs.declared.entry.ShapeEntry.{ShapeEntry}
 use Rattle.tl_map.specs.Keeping.Entries.{chains_with, AreRising, has_tlid, shapes_with, AreInOrder}
-use Rattle.tl_drawn.proofs.CountLemmas.{none_counted, one_counted}
+use Rattle.tl_map_rules.proofs.CountLemmas.{none_counted, one_counted}
 
 -- the chains passed so far and those passed now are all below the i-th shape
 pub all_below : (chains : List ChainEntry) (shapes : List ShapeEntry) (i start b : ℕ) (d : ShapeEntry) → i < length shapes → AreInOrder shapes → ((k : ℕ) (e : ChainEntry) (x : ShapeEntry) → k < start → (0 < i) × ((get_or chains k e).tlid < (get_or shapes (i - 1) x).tlid)) → ((k : ℕ) (e : ChainEntry) → start ≤ k → k < b → (get_or chains k e).tlid < (get_or shapes i d).tlid) → (k : ℕ) (e : ChainEntry) → k < b → (get_or chains k e).tlid < (get_or shapes i d).tlid

@@ -1,11 +1,11 @@
 -- Records that were collected, and the map that is built of them.
 use Rattle.std.specs.Prelude.{◌≡◌, ℕ, ⊤, List}
 use Rattle.tl_record.specs.declared.record.Record.{Record}
-use Rattle.tl_county.specs.TheMap.{TheMap}
-use Rattle.tl_drawn.specs.declared.fault.MapStop.{MapStop}
-use Rattle.tl_drawn.specs.declared.fault.MapStop.TheVariants.{Refused, Device, Memory, Fault}
-use Rattle.tl_drawn.specs.Faults.{IsTrueOf, HaveNoFault}
-use Rattle.tl_drawn.specs.MapOf.{IsMapOf}
+use Rattle.tl_map_county.specs.TheMap.{TheMap}
+use Rattle.tl_map_rules.specs.declared.fault.MapStop.{MapStop}
+use Rattle.tl_map_rules.specs.declared.fault.MapStop.TheVariants.{Refused, Device, Memory, Fault}
+use Rattle.tl_map_rules.specs.Faults.{IsTrueOf, HaveNoFault}
+use Rattle.tl_map_rules.specs.MapOf.{IsMapOf}
 use Rattle.tl_map.specs.declared.collected.CollectedRecords.{CollectedRecords}
 use Rattle.tl_map.specs.Keeping.Collected.{Collects}
 use Rattle.tl_map.specs.Keeping.Areas.{KeepsAreas}

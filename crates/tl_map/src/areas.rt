@@ -4,8 +4,8 @@ ghost use Rattle.std.specs.Prelude.{◌≡◌, ◌∷◌, [], ◌++◌, OnOk};
 
 use crate::kept::KeptSides;
 use std::alloc::{AllocError, Global};
-use tl_county::Polygon;
-use tl_drawn::{LandmarkEntry, LinkEntry, SidesEntry};
+use tl_map_county::Polygon;
+use tl_map_rules::{LandmarkEntry, LinkEntry, SidesEntry};
 use tl_record::Record;
 
 /// The type I, P, 7 and 8 records read so far, each in file order.

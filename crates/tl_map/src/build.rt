@@ -4,9 +4,9 @@ ghost use Rattle.std.specs.Prelude.{◌≡◌, ◌≤◌, List, IfSome, IfErr, M
 ghost use Rattle.std.specs.List.Sorted.{IsNonDecreasingBy};
 ghost use Rattle.tl_geom.specs.declared.point.Point.{Point};
 ghost use Rattle.tl_record.specs.declared.record.Record.{Record};
-ghost use Rattle.tl_drawn.specs.declared.entry.ChainEntry.{ChainEntry};
-ghost use Rattle.tl_drawn.specs.Faults.{IsTrueOf, IsFaultOfChains};
-ghost use Rattle.tl_drawn.specs.Reading.{IfFault};
+ghost use Rattle.tl_map_rules.specs.declared.entry.ChainEntry.{ChainEntry};
+ghost use Rattle.tl_map_rules.specs.Faults.{IsTrueOf, IsFaultOfChains};
+ghost use Rattle.tl_map_rules.specs.Reading.{IfFault};
 ghost use Rattle.tl_map.specs.Keeping.Entries.{AreChainEntries, AreShapeEntries, AreInOrder};
 ghost use Rattle.tl_map.specs.Keeping.Collected.{Collects};
 ghost use Rattle.tl_map.specs.Keeping.Built.{AreSound, AreBuilt, StopsBuilding};
@@ -16,8 +16,8 @@ use crate::join::join;
 use crate::passes::{gap_tlid, misnumbered_tlid, repeated_tlid, stray_tlid};
 use crate::sort::{sort_chains, sort_shapes};
 use std::alloc::Global;
-use tl_county::{Chains, release};
-use tl_drawn::{ChainEntry, Limited, MapStop, RecordFault, ShapeEntry};
+use tl_map_county::{Chains, release};
+use tl_map_rules::{ChainEntry, Limited, MapStop, RecordFault, ShapeEntry};
 
 /// A fault of sorted chains and shapes that shows before they are joined.
 fn first_fault(chains: &[ChainEntry], shapes: &[ShapeEntry]) -> Option<RecordFault>

@@ -3,10 +3,10 @@
 ghost use Rattle.std.specs.Prelude.{◌≡◌, ◌≤◌, List, MatchResult, All, length};
 ghost use Rattle.indexmap.specs.IndexMap.{IsUnique, keys};
 ghost use Rattle.tl_record.specs.declared.record.Record.{Record};
-ghost use Rattle.tl_drawn.specs.MapOf.{same_key, sides_in};
-ghost use Rattle.tl_county.specs.Chains.{CompleteChain, IsProper};
-ghost use Rattle.tl_county.specs.Limits.{most_polygons};
-ghost use Rattle.tl_county.specs.Sides.{AreSidesAmong};
+ghost use Rattle.tl_map_rules.specs.MapOf.{same_key, sides_in};
+ghost use Rattle.tl_map_county.specs.Chains.{CompleteChain, IsProper};
+ghost use Rattle.tl_map_county.specs.Limits.{most_polygons};
+ghost use Rattle.tl_map_county.specs.Sides.{AreSidesAmong};
 ghost use Rattle.tl_map.specs.Keeping.Collected.{Collects};
 ghost use Rattle.tl_map.specs.Keeping.Areas.{KeepsAreas};
 ghost use Rattle.tl_map.specs.Keeping.Mapped.{AreMapped, ArePairedChains, AreIndexedSides, StopsIndexedSides, IsLinkedMap};
@@ -23,9 +23,9 @@ use crate::sides::{pair_sides, resolve_sides};
 use indexmap::IndexMap;
 use std::alloc::Global;
 use std::hash::RandomState;
-use tl_county::{Chains, Map, POLYGON_LIMIT, Polygon, SidesOfChains, release};
-use tl_drawn::{LandmarkEntry, Limited, LinkEntry, MapStop, RecordFault};
 use tl_geom::Point;
+use tl_map_county::{Chains, Map, POLYGON_LIMIT, Polygon, SidesOfChains, release};
+use tl_map_rules::{LandmarkEntry, Limited, LinkEntry, MapStop, RecordFault};
 use tl_record::PolyKey;
 
 /// The chains of the records, and the type I record of each in their order.

@@ -4,14 +4,14 @@ ghost use Rattle.std.specs.Prelude.{◌≡◌, ◌+◌, ◌<◌, ◌≤◌, ◌�
 ghost use Rattle.tl_geom.specs.declared.point.Point.{Point};
 ghost use Rattle.tl_record.specs.declared.record.Record.{Record};
 ghost use Rattle.tl_record.specs.declared.record.Record.TheVariants.{Shape};
-ghost use Rattle.tl_drawn.specs.declared.entry.Fill.TheVariants.{Full, Ended, Gap};
-ghost use Rattle.tl_drawn.specs.ChainsOf.{used};
+ghost use Rattle.tl_map_rules.specs.declared.entry.Fill.TheVariants.{Full, Ended, Gap};
+ghost use Rattle.tl_map_rules.specs.ChainsOf.{used};
 ghost use Rattle.tl_map.specs.Keeping.Entries.{fill_of, AreShapeEntries};
 
 use std::alloc::{AllocError, Global};
-use tl_county::CHAIN_LIMIT;
-use tl_drawn::{ChainEntry, Fill, ShapeEntry};
 use tl_geom::Point;
+use tl_map_county::CHAIN_LIMIT;
+use tl_map_rules::{ChainEntry, Fill, ShapeEntry};
 use tl_record::{PAIRS, Record};
 
 /// The records read so far.

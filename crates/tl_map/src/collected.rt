@@ -5,8 +5,8 @@ use crate::build_map::build_map;
 use crate::collect::Collected;
 use std::alloc::{AllocError, Global};
 use std::hash::RandomState;
-use tl_county::Map;
-use tl_drawn::MapStop;
+use tl_map_county::Map;
+use tl_map_rules::MapStop;
 use tl_record::Record;
 
 /// The records of a county up to some place, and what is kept of them until the map is built.

@@ -3,13 +3,13 @@
 ghost use Rattle.std.specs.Prelude.{◌≡◌, ◌<◌, ◌^◌, IfSome, length};
 ghost use Rattle.std.specs.Bool.{OnTrue};
 ghost use Rattle.indexmap.specs.IndexMap.{index_of};
-ghost use Rattle.tl_drawn.specs.MapOf.{same_key};
+ghost use Rattle.tl_map_rules.specs.MapOf.{same_key};
 
 use indexmap::IndexMap;
 use std::alloc::{AllocError, Global};
 use std::hash::RandomState;
-use tl_county::release;
 use tl_geom::Point;
+use tl_map_county::release;
 use tl_record::PolyKey;
 
 /// What stands at a place where there is no guess. It is no polygon's number, since there are fewer.

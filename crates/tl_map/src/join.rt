@@ -3,18 +3,18 @@
 ghost use Rattle.std.specs.Prelude.{◌≡◌, ◌+◌, ◌<◌, ◌≤◌, ◌++◌, List, OnOk, IfOk, MatchResult, length};
 ghost use Rattle.std.specs.Prelude.{map, All};
 ghost use Rattle.tl_geom.specs.declared.point.Point.{Point};
-ghost use Rattle.tl_drawn.specs.declared.entry.ShapeEntry.{ShapeEntry};
-ghost use Rattle.tl_county.specs.declared.limits.TheConstants.{CHAIN_LIMIT, SEGMENT_LIMIT};
+ghost use Rattle.tl_map_rules.specs.declared.entry.ShapeEntry.{ShapeEntry};
+ghost use Rattle.tl_map_county.specs.declared.limits.TheConstants.{CHAIN_LIMIT, SEGMENT_LIMIT};
 ghost use Rattle.std.specs.List.{flat_map};
 ghost use Rattle.tl_map.specs.Keeping.Entries.{entry_points, IsInside, AreRising, AreInOrder, chains_with, joined};
-ghost use Rattle.tl_county.specs.Rows.{IsTable, chains_in};
+ghost use Rattle.tl_map_county.specs.Rows.{IsTable, chains_in};
 ghost use Rattle.tl_map.specs.Keeping.Rows.{dedup_after, drawn_through, drawn_by, IsAdded, StopsAdding};
 ghost use Rattle.tl_map.specs.Keeping.Rows.{AreJoinedBy, StopsJoin};
 
 use std::alloc::{AllocError, Global};
-use tl_county::{CHAIN_LIMIT, ChainRow, Chains, SEGMENT_LIMIT, run_end};
-use tl_drawn::{ChainEntry, Limited, MapStop, RecordFault, ShapeEntry};
 use tl_geom::Point;
+use tl_map_county::{CHAIN_LIMIT, ChainRow, Chains, SEGMENT_LIMIT, run_end};
+use tl_map_rules::{ChainEntry, Limited, MapStop, RecordFault, ShapeEntry};
 
 /// Appends the points that differ from the one before, where `last` is the one before the first. Gives the last.
 fn append_distinct(

@@ -4,16 +4,16 @@
 
 ghost use Rattle.std.specs.Prelude.{◌≡◌, ◌++◌, is_some, IfOk, IfSome, OnOk, List};
 ghost use Rattle.std.specs.List.Sorted.{IsNonDecreasingBy, IsPermutation};
-ghost use Rattle.tl_drawn.specs.declared.entry.SidesEntry.{SidesEntry};
+ghost use Rattle.tl_map_rules.specs.declared.entry.SidesEntry.{SidesEntry};
 ghost use Rattle.tl_map.specs.declared.kept.SidesRow.{SidesRow};
 ghost use Rattle.tl_map.specs.declared.kept.SidesMore.{SidesMore};
-ghost use Rattle.tl_county.specs.Kept.{given};
+ghost use Rattle.tl_map_county.specs.Kept.{given};
 ghost use Rattle.tl_map.specs.Keeping.Kept.{short_of, long_of, kept_in, IsRow};
 
 use std::alloc::{AllocError, Global};
 use std::marker::Model;
-use tl_county::{Ranked, presort_by_rank, release};
-use tl_drawn::SidesEntry;
+use tl_map_county::{Ranked, presort_by_rank, release};
+use tl_map_rules::SidesEntry;
 use tl_record::PolyKey;
 
 /// The first number that takes more than 32 bits.
@@ -64,7 +64,7 @@ pub struct KeptSides {
 
 impl Model for KeptSides {
     ghost use Rattle.std.specs.Prelude.{List, All, map};
-    ghost use Rattle.tl_drawn.specs.declared.entry.SidesEntry.{SidesEntry};
+    ghost use Rattle.tl_map_rules.specs.declared.entry.SidesEntry.{SidesEntry};
     ghost use Rattle.tl_map.specs.Keeping.Kept.{kept_in, IsRow};
 
     ghost Value = { List SidesEntry };
@@ -77,7 +77,7 @@ impl Model for KeptSides {
 impl KeptSides {
     ghost use Rattle.std.specs.Prelude.{◌≡◌, ◌<◌, [], ◌∷◌, ◌++◌, OnOk, length, slice_index, slice_index_or};
     ghost use Rattle.std.specs.List.Sorted.{IsNonDecreasingBy, IsPermutation};
-    ghost use Rattle.tl_drawn.specs.declared.entry.SidesEntry.{SidesEntry};
+    ghost use Rattle.tl_map_rules.specs.declared.entry.SidesEntry.{SidesEntry};
     ghost use Rattle.tl_map.specs.Keeping.Sided.{sides_tlids};
 
     /// No record.

@@ -2,23 +2,23 @@
 
 ghost use Rattle.std.specs.Prelude.{◌≡◌, ◌<◌, ◌≤◌, ◌^◌, ◌++◌, [], ℕ, List, IfOk, IfErr, OnOk, MatchResult, All, length};
 ghost use Rattle.std.specs.Prelude.{map, nat_eq};
-ghost use Rattle.tl_key.specs.declared.key.PolyKey.{PolyKey};
+ghost use Rattle.tl_record_key.specs.declared.key.PolyKey.{PolyKey};
 ghost use Rattle.tl_map.specs.Keeping.Index.{Indexes};
 ghost use Rattle.tl_map.specs.Keeping.Landmarks.{ListsLandmarks, StopsLandmarks, IsLink, IndexesLands, StopsLink};
 ghost use Rattle.tl_map.specs.Keeping.Landmarks.{AreAllLinks, StopsLinks, AreByLandmark, AreRows};
 ghost use Rattle.tl_map.specs.Keeping.Landmarks.{AreLinkRows, AreLinked, StopsLinking};
-ghost use Rattle.tl_drawn.specs.MapOf.{firsts, same_key};
+ghost use Rattle.tl_map_rules.specs.MapOf.{firsts, same_key};
 ghost use Rattle.indexmap.specs.IndexMap.{IsUnique, keys};
-ghost use Rattle.tl_county.specs.declared.limits.TheConstants.{LANDMARK_LIMIT};
+ghost use Rattle.tl_map_county.specs.declared.limits.TheConstants.{LANDMARK_LIMIT};
 ghost use Rattle.tl_map.specs.declared.landmarks.Link.{Link};
 ghost use Rattle.std.specs.List.Sorted.{IsNonDecreasingBy};
 
 use indexmap::IndexMap;
 use std::alloc::{AllocError, Global};
 use std::hash::RandomState;
-use tl_county::{Keyed, LANDMARK_LIMIT, LandmarkRow, LinkedLandmarks, run_end};
-use tl_drawn::{LandmarkEntry, Limited, LinkEntry, MapStop, RecordFault};
 use tl_geom::Point;
+use tl_map_county::{Keyed, LANDMARK_LIMIT, LandmarkRow, LinkedLandmarks, run_end};
+use tl_map_rules::{LandmarkEntry, Limited, LinkEntry, MapStop, RecordFault};
 use tl_record::PolyKey;
 
 /// The first record of each LAND, by their order: the LAND with the record's point.

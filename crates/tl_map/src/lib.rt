@@ -24,8 +24,8 @@ mod sort;
 
 pub use collected::CollectedRecords;
 pub use read::{read_chains, read_chains_with, read_map, read_map_with};
-pub use tl_county::{
+pub use tl_map_county::{
     CHAIN_LIMIT, Chain, Chains, LANDMARK_LIMIT, Landmark, Map, POLYGON_LIMIT, Polygon,
     SEGMENT_LIMIT, Side,
 };
-pub use tl_drawn::{Limited, MapStop, RecordFault};
+pub use tl_map_rules::{Limited, MapStop, RecordFault};

@@ -4,12 +4,12 @@ ghost use Rattle.std.specs.Prelude.{◌≡◌, ℕ, ◌≤◌, true, false, List
 ghost use Rattle.std.specs.List.Sorted.{IsNonDecreasingBy};
 ghost use Rattle.tl_geom.specs.declared.point.Point.{Point};
 ghost use Rattle.tl_record.specs.declared.record.Record.{Record};
-ghost use Rattle.tl_drawn.specs.ChainsOf.{has_gap, pairs_of};
+ghost use Rattle.tl_map_rules.specs.ChainsOf.{has_gap, pairs_of};
 ghost use Rattle.tl_map.specs.Keeping.Entries.{chains_with, AreRising, shapes_with, AreInOrder, ArePlaced};
 ghost use Rattle.tl_map.specs.Keeping.Entries.{AreNumbered, AreShapeEntries, late_after, ended_after};
 
-use tl_county::first_not_below;
-use tl_drawn::{ChainEntry, Fill, ShapeEntry};
+use tl_map_county::first_not_below;
+use tl_map_rules::{ChainEntry, Fill, ShapeEntry};
 
 /// A TLID that two chains have, in chains sorted by TLID.
 pub fn repeated_tlid(chains: &[ChainEntry]) -> Option<u64>

@@ -2,16 +2,16 @@
 
 ghost use Rattle.std.specs.Prelude.{◌≡◌, IfOk, IfErr, map};
 ghost use Rattle.indexmap.specs.IndexMap.{IsUnique};
-ghost use Rattle.tl_drawn.specs.MapOf.{keys, same_key};
-ghost use Rattle.tl_county.specs.Rows.{polygon_in};
+ghost use Rattle.tl_map_rules.specs.MapOf.{keys, same_key};
+ghost use Rattle.tl_map_county.specs.Rows.{polygon_in};
 ghost use Rattle.tl_map.specs.Keeping.Index.{entry_of, StopsIndex};
 
 use indexmap::IndexMap;
 use std::alloc::{AllocError, Global};
 use std::hash::RandomState;
-use tl_county::Polygon;
-use tl_drawn::{MapStop, RecordFault};
 use tl_geom::Point;
+use tl_map_county::Polygon;
+use tl_map_rules::{MapStop, RecordFault};
 use tl_record::PolyKey;
 
 /// Polygons by their keys, in the order of their records.

@@ -5,8 +5,8 @@ ghost use Rattle.tl_record.specs.declared.reader.Standing.TheVariants.{Reading};
 ghost use Rattle.tl_record.specs.Layout.{tiger_2006, layout_with};
 ghost use Rattle.tl_record.specs.Records.{records_of};
 ghost use Rattle.tl_record.specs.Reader.{source_of, skipped_of, standing_of, outcome};
-ghost use Rattle.tl_drawn.specs.Reading.{AreReadFrom, IsReadFrom, StopsReading, IfFault, TellsDevice};
-ghost use Rattle.tl_drawn.specs.Faults.{IsFaultOfChains};
+ghost use Rattle.tl_map_rules.specs.Reading.{AreReadFrom, IsReadFrom, StopsReading, IfFault, TellsDevice};
+ghost use Rattle.tl_map_rules.specs.Faults.{IsFaultOfChains};
 ghost use Rattle.tl_map.specs.Keeping.Gathering.{Gathers, GathersAll, StopsGathering};
 
 use crate::areas::AreaRecords;
@@ -15,8 +15,8 @@ use crate::build_map::build_map;
 use crate::collect::Collected;
 use std::alloc::Global;
 use std::hash::RandomState;
-use tl_county::{Chains, Map};
-use tl_drawn::MapStop;
+use tl_map_county::{Chains, Map};
+use tl_map_rules::MapStop;
 use tl_record::{NO_RECORD, Options, PLAIN, RecordReader, Source};
 
 /// Collects all records that a reader has to give.

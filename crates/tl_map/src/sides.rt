@@ -4,10 +4,10 @@ ghost use Rattle.std.specs.Prelude.{◌≡◌, ◌<◌, ◌≤◌, ◌^◌, ◌=
 ghost use Rattle.std.specs.Prelude.{MatchResult, map};
 ghost use Rattle.std.specs.Prelude.{count_by, All};
 ghost use Rattle.std.specs.List.Sorted.{IsNonDecreasingBy, IsStrictlyIncreasing};
-ghost use Rattle.tl_drawn.specs.declared.entry.SidesEntry.{SidesEntry};
-ghost use Rattle.tl_county.specs.Chains.{tlids};
-ghost use Rattle.tl_county.specs.Kept.{HasNumber};
-ghost use Rattle.tl_key.specs.declared.key.PolyKey.{PolyKey};
+ghost use Rattle.tl_map_rules.specs.declared.entry.SidesEntry.{SidesEntry};
+ghost use Rattle.tl_map_county.specs.Chains.{tlids};
+ghost use Rattle.tl_map_county.specs.Kept.{HasNumber};
+ghost use Rattle.tl_record_key.specs.declared.key.PolyKey.{PolyKey};
 ghost use Rattle.tl_map.specs.Keeping.Index.{Indexes};
 ghost use Rattle.tl_map.specs.Keeping.Sided.{sided_by, IsSide, NamesKnown, StopsSide, StopsSides, sides_tlids};
 ghost use Rattle.tl_map.specs.Keeping.Sided.{IsUnpaired, ArePaired, StopsPairing};
@@ -17,9 +17,9 @@ use crate::kept::KeptSides;
 use indexmap::IndexMap;
 use std::alloc::Global;
 use std::hash::RandomState;
-use tl_county::{ChainSides, Chains, Side, SidesOfChains};
-use tl_drawn::{MapStop, RecordFault};
 use tl_geom::Point;
+use tl_map_county::{ChainSides, Chains, Side, SidesOfChains};
+use tl_map_rules::{MapStop, RecordFault};
 use tl_record::PolyKey;
 
 /// What lies on a side of a chain whose record has this key there.

@@ -7,8 +7,8 @@ ghost use Rattle.tl_record.specs.declared.record.Record.{Record};
 ghost use Rattle.tl_map.specs.Keeping.Entries.{AreChainEntries, AreShapeEntries, AreInOrder};
 
 use std::alloc::{AllocError, Global};
-use tl_county::presort_by_rank;
-use tl_drawn::{ChainEntry, ShapeEntry};
+use tl_map_county::presort_by_rank;
+use tl_map_rules::{ChainEntry, ShapeEntry};
 
 /// Sorts chains by TLID.
 pub fn sort_chains(alloc: Global, chains: &mut Vec<ChainEntry>) -> Result<(), AllocError>

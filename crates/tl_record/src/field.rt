@@ -13,7 +13,7 @@ use crate::layout::{CellColumns, KeyColumns, PointColumns};
 use crate::number::{Spelt, coordinate_spelt, is_plus_zero, number_spelt};
 use crate::stop::{Cause, Field};
 use tl_geom::Point;
-use tl_key::PolyKey;
+use tl_record_key::PolyKey;
 
 /// The greatest distance of a longitude from 0, in millionths of a degree.
 pub const MAX_LONGITUDE: u32 = 180_000_000;

@@ -49,5 +49,5 @@ pub use sink::Sink;
 pub use source::Source;
 pub use stop::{Cause, Field, ReadStop};
 pub use take::skip_line;
-pub use tl_key::PolyKey;
+pub use tl_record_key::PolyKey;
 pub use word::{eight_digits, first_digits, leading_digits};

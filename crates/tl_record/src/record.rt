@@ -1,7 +1,7 @@
 //! What a line holds.
 
 use tl_geom::Point;
-use tl_key::PolyKey;
+use tl_record_key::PolyKey;
 
 /// How many coordinate pairs one shape record has room for.
 pub const PAIRS: usize = 10;

@@ -2,8 +2,8 @@
 use Rattle.std.proofs.Common.{◌≡◌, ℕ, suc, ◌<◌, List, [], ◌∷◌, length, get_or, Option, refl, arith}
 use Rattle.tl_geom.specs.declared.rect.Rect.{Rect}
 use Rattle.tl_geom.specs.Rectangle.{AreMeeting, Covers}
-use Rattle.tl_index.specs.Pairs.{row_sum, cross_sum, meeting, AllRow, AllCross, AreFree}
-use Rattle.tl_index.specs.Fits.{AreBelow, CoversAll}
+use Rattle.tl_tree_index.specs.Pairs.{row_sum, cross_sum, meeting, AllRow, AllCross, AreFree}
+use Rattle.tl_tree_index.specs.Fits.{AreBelow, CoversAll}
 use Rattle.tl_tree.proofs.PairTests.{meeting-apart, KeepsLaw, free-apart}
 
 -- rectangles that hold what two others hold meet where those do

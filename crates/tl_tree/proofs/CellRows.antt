@@ -11,8 +11,8 @@ use Rattle.tl_geom.specs.EightRectangles.{lane}
 use Rattle.tl_geom.specs.Rectangle.{AreMeeting}
 use Rattle.tl_tree.specs.Keeping.Cells.{AreLaneCells, AreCellsOf}
 use Rattle.tl_tree.specs.Keeping.Marking.{AreBoundsOf}
-use Rattle.tl_index.specs.Fits.{AreBelow}
-use Rattle.tl_index.specs.Pairs.{meeting, row_sum, cross_sum, AllRow, AllCross, AreFree}
+use Rattle.tl_tree_index.specs.Fits.{AreBelow}
+use Rattle.tl_tree_index.specs.Pairs.{meeting, row_sum, cross_sum, AllRow, AllCross, AreFree}
 use Rattle.tl_tree.proofs.Apart.{one-none, one-none_free}
 use Rattle.tl_tree.proofs.Marks8.{by_test}
 use Rattle.tl_tree.proofs.PairTests.{KeepsLaw}

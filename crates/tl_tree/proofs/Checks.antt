@@ -2,19 +2,19 @@
 use Rattle.std.proofs.Common.{◌≡◌, ℕ, zero, suc, ◌+◌, ◌-◌, ◌<◌, ◌≤◌, inl, inr, ◌↔◌, Bool, true, false, List, length, get_or, replicate, Option, Some, None, pos, refl, sym, subst, arith}
 use Rattle.tl_geom.specs.declared.rect.Rect.{Rect}
 use Rattle.tl_geom.specs.Rectangle.{Covers}
-use Rattle.tl_index.specs.declared.fault.TreeFault.{TreeFault}
-use Rattle.tl_index.specs.declared.fault.TreeFault.TheVariants.{UnknownIndex, IndexTwice, IndexMissing, RectTooSmall}
+use Rattle.tl_tree_index.specs.declared.fault.TreeFault.{TreeFault}
+use Rattle.tl_tree_index.specs.declared.fault.TreeFault.TheVariants.{UnknownIndex, IndexTwice, IndexMissing, RectTooSmall}
 use Rattle.tl_tree.specs.declared.walk.Below.{Below}
 use Rattle.tl_tree.specs.declared.walk.Below.TheVariants.{Items, Children}
-use Rattle.tl_index.specs.Fits.{AreBelow, CoversAll, CoversBelow, IsTooSmall, Fits, IsFaultOf, MayFind}
-use Rattle.tl_index.specs.Hits.{times}
-use Rattle.tl_index.specs.Trees.{Forest, none, leaf, inner, leaf_items, node_count}
+use Rattle.tl_tree_index.specs.Fits.{AreBelow, CoversAll, CoversBelow, IsTooSmall, Fits, IsFaultOf, MayFind}
+use Rattle.tl_tree_index.specs.Hits.{times}
+use Rattle.tl_tree_index.specs.Trees.{Forest, none, leaf, inner, leaf_items, node_count}
 use Rattle.tl_tree.specs.Keeping.Walking.{followed, items_below, size_of}
-use Rattle.tl_index.specs.Keeping.Marked.{mark_at, AreMarked}
+use Rattle.tl_tree_index.specs.Keeping.Marked.{mark_at, AreMarked}
 use Rattle.tl_tree.specs.Keeping.Checking.{IsHull, AreChecked, IsChecked, IsFaultAt, IsFaultBelow}
-use Rattle.tl_index.proofs.Times.{times-append, times-above}
+use Rattle.tl_tree_index.proofs.Times.{times-append, times-above}
 use Rattle.tl_tree.proofs.Hulls.{hull-both, hull-none, nothing-empty}
-use Rattle.tl_index.proofs.Marks.{marked-both, unmarked, is-marked}
+use Rattle.tl_tree_index.proofs.Marks.{marked-both, unmarked, is-marked}
 
 pub none-checked : (b : ℕ → Rect) (marks : List Bool) (f : Forest) → f ≡ none → AreChecked b f marks marks (record { xmin = pos 1; ymin = pos 1; xmax = pos 0; ymax = pos 0 })
 none-checked b marks f e =

@@ -4,8 +4,8 @@ use Rattle.std.proofs.lemmas.Bool.{false≢true}
 use Rattle.std.proofs.lemmas.Bool.Decides.{nat_tests}
 use Rattle.tl_geom.specs.declared.rect.Rect.{Rect}
 use Rattle.tl_geom.specs.Rectangle.{AreMeeting}
-use Rattle.tl_index.specs.Pairs.{indices, row_sum, pair_sum, meeting}
-use Rattle.tl_index.specs.Searches.{IsFreePair, IsBeyond, chosen_pairs}
+use Rattle.tl_tree_index.specs.Pairs.{indices, row_sum, pair_sum, meeting}
+use Rattle.tl_tree_index.specs.Searches.{IsFreePair, IsBeyond, chosen_pairs}
 use Rattle.tl_tree.specs.Keeping.Walking.{CountsChosen, Enough, IsSpent}
 use Rattle.tl_tree.proofs.Apart.{turned}
 use Rattle.tl_tree.proofs.Leaving.{enough_from}

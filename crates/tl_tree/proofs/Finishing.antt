@@ -1,13 +1,13 @@
 -- From what a whole search leaves to its answer.
 use Rattle.std.proofs.Common.{◌≡◌, ℕ, ◌≤◌, Bool, true, false, Option, Some, None, refl, sym, subst, arith}
 use Rattle.tl_geom.specs.declared.rect.Rect.{Rect}
-use Rattle.tl_index.specs.Pairs.{indices, pair_sum, meeting, AllPairs, AreFree}
-use Rattle.tl_index.specs.Searches.{IsClear, MayAnswer, meeting_pairs}
-use Rattle.tl_index.specs.declared.items.Conflict.{Conflict}
+use Rattle.tl_tree_index.specs.Pairs.{indices, pair_sum, meeting, AllPairs, AreFree}
+use Rattle.tl_tree_index.specs.Searches.{IsClear, MayAnswer, meeting_pairs}
+use Rattle.tl_tree_index.specs.declared.items.Conflict.{Conflict}
 use Rattle.tl_tree.specs.declared.search.Progress.{Progress}
 use Rattle.tl_tree.specs.Keeping.Walking.{Stops, MayLeave, answer_of}
-use Rattle.tl_index.specs.Trees.{Forest, leaf_items}
-use Rattle.tl_index.specs.Fits.{Fits}
+use Rattle.tl_tree_index.specs.Trees.{Forest, leaf_items}
+use Rattle.tl_tree_index.specs.Fits.{Fits}
 use Rattle.tl_tree.proofs.PairLemmas.{IsSymmetric}
 use Rattle.tl_tree.proofs.PairTests.{meeting-swap, free-turned}
 use Rattle.tl_tree.proofs.Choosing.{beyond}

@@ -2,12 +2,12 @@
 use Rattle.std.proofs.Common.{◌≡◌, ℕ, zero, suc, ◌+◌, ◌-◌, ◌<◌, ◌≤◌, List, [], ◌∷◌, length, get_or, drop, set, refl, sym, ap, ◌∙◌, arith, ◌⊎◌, inl, inr, length-drop, length-set, get_or-set_same, get_or-set_other}
 use Rattle.std.proofs.lemmas.List.{at_drop_more, at_drop_all, drop-drop}
 use Rattle.tl_geom.specs.declared.rect.Rect.{Rect}
-use Rattle.tl_index.specs.declared.node.TreeNode.{TreeNode}
-use Rattle.tl_index.specs.declared.node.TreeNode.TheVariants.{Inner, Leaf}
+use Rattle.tl_tree_index.specs.declared.node.TreeNode.{TreeNode}
+use Rattle.tl_tree_index.specs.declared.node.TreeNode.TheVariants.{Inner, Leaf}
 use Rattle.arrayvec.specs.ArrayVec.{ArrayVec}
-use Rattle.tl_index.specs.Trees.{Forest, none, leaf, inner, node_count, first_trees, other_trees, trees_of}
+use Rattle.tl_tree_index.specs.Trees.{Forest, none, leaf, inner, node_count, first_trees, other_trees, trees_of}
 use Rattle.tl_tree.specs.Keeping.Sizes.{size_at, AreSizesFrom}
-use Rattle.tl_index.proofs.Times.{same_or}
+use Rattle.tl_tree_index.proofs.Times.{same_or}
 
 pub first-none : (k : ℕ) → first_trees k none ≡ none
 first-none zero = refl

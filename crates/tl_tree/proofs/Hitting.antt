@@ -5,10 +5,10 @@ use Rattle.std.proofs.lemmas.Grind.{common_steps}
 use Rattle.std.proofs.lemmas.List.{take_more}
 use Rattle.tl_geom.specs.declared.rect.Rect.{Rect}
 use Rattle.tl_geom.specs.Rectangle.{AreMeeting}
-use Rattle.tl_index.specs.Fits.{AreBelow, CoversAll}
-use Rattle.tl_index.specs.Hits.{times, AreHits, Adds}
+use Rattle.tl_tree_index.specs.Fits.{AreBelow, CoversAll}
+use Rattle.tl_tree_index.specs.Hits.{times, AreHits, Adds}
 use Rattle.tl_tree.specs.Keeping.Walking.{Collects, Grows}
-use Rattle.tl_index.proofs.Times.{same_or, times-above, times-append, times-one, times-other, times-unhit}
+use Rattle.tl_tree_index.proofs.Times.{same_or, times-above, times-append, times-one, times-other, times-unhit}
 
 pub grows-nothing : (xs : List ℕ) → Grows xs xs
 grows-nothing xs = record { added = []; appended = sym (append-nil xs) }

@@ -3,7 +3,7 @@ use Rattle.std.proofs.Common.{ℕ, pos, ◌<ℤ◌, ◌≤ℤ◌, ◌↔◌, Lis
 use Rattle.std.proofs.lemmas.Int.{ints, by_lt_z}
 use Rattle.tl_geom.specs.declared.rect.Rect.{Rect}
 use Rattle.tl_geom.specs.Rectangle.{Holds, Covers, IsEmpty}
-use Rattle.tl_index.proofs.Covering.{all-append}
+use Rattle.tl_tree_index.proofs.Covering.{all-append}
 use Rattle.tl_tree.specs.Keeping.Checking.{IsHull}
 
 pub empty-x : (r : Rect) → r.xmax <ℤ r.xmin → IsEmpty r

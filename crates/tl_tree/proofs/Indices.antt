@@ -1,7 +1,7 @@
 -- Sums over the numbers below a bound, as a loop comes to them.
 use Rattle.std.proofs.Common.{◌≡◌, ℕ, zero, suc, ◌+◌, ◌≤◌, refl, add-one, arith}
-use Rattle.tl_index.specs.Pairs.{indices, row_sum, pair_sum, AllRow, AllPairs}
-use Rattle.tl_index.proofs.Times.{same_or}
+use Rattle.tl_tree_index.specs.Pairs.{indices, row_sum, pair_sum, AllRow, AllPairs}
+use Rattle.tl_tree_index.proofs.Times.{same_or}
 
 pub row-more : (f : ℕ → ℕ → ℕ) (x i : ℕ) → row_sum f x (indices (i + 1)) ≡ f x i + row_sum f x (indices i)
 unfolding indices

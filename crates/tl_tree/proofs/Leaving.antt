@@ -2,9 +2,9 @@
 use Rattle.std.proofs.Common.{◌≡◌, ℕ, ◌+◌, ◌<◌, ◌≤◌, Bool, true, false, ◌||◌, Option, Some, None, ◌⊎◌, inl, inr, refl, sym, arith}
 use Rattle.std.proofs.lemmas.Bool.{false≢true}
 use Rattle.tl_geom.specs.declared.rect.Rect.{Rect}
-use Rattle.tl_index.specs.Pairs.{meeting}
-use Rattle.tl_index.specs.Searches.{IsFreePair}
-use Rattle.tl_index.specs.declared.items.Conflict.{Conflict}
+use Rattle.tl_tree_index.specs.Pairs.{meeting}
+use Rattle.tl_tree_index.specs.Searches.{IsFreePair}
+use Rattle.tl_tree_index.specs.declared.items.Conflict.{Conflict}
 use Rattle.tl_tree.specs.declared.search.Progress.{Progress}
 use Rattle.tl_tree.specs.Keeping.Walking.{Enough, GoesOn, Stops, MayLeave}
 use Rattle.tl_tree.proofs.PairLemmas.{IsSymmetric}

@@ -6,9 +6,9 @@ use Rattle.tl_geom.specs.Rectangle.{AreMeeting, Covers}
 use Rattle.tl_tree.specs.declared.walk.Tree.{Tree}
 use Rattle.tl_tree.specs.declared.walk.Below.{Below}
 use Rattle.tl_tree.specs.declared.walk.Below.TheVariants.{Items, Children}
-use Rattle.tl_index.specs.Pairs.{meeting, cross_sum, AllRow, AllCross, AreFree}
-use Rattle.tl_index.specs.Fits.{AreBelow, CoversAll}
-use Rattle.tl_index.specs.Trees.{Forest}
+use Rattle.tl_tree_index.specs.Pairs.{meeting, cross_sum, AllRow, AllCross, AreFree}
+use Rattle.tl_tree_index.specs.Fits.{AreBelow, CoversAll}
+use Rattle.tl_tree_index.specs.Trees.{Forest}
 use Rattle.tl_tree.specs.Keeping.Listing.{first_items, listed_items, AllSound, IsFirst, StandsFor, StandsForItems, AreListed, MayList, AreListedItems, MayListItems}
 use Rattle.tl_tree.specs.Keeping.Walking.{followed, items_below, AreSound, IsSound}
 use Rattle.tl_tree.proofs.Apart.{cross-apart, cross-free}

@@ -5,9 +5,9 @@ use Rattle.std.proofs.lemmas.List.{at_drop_more, at_drop_all}
 use Rattle.std.proofs.lemmas.Nat.Bits.{bit_at_above}
 use Rattle.tl_geom.specs.declared.rect.Rect.{Rect}
 use Rattle.tl_geom.specs.Rectangle.{AreMeeting}
-use Rattle.tl_index.specs.Fits.{AreBelow}
+use Rattle.tl_tree_index.specs.Fits.{AreBelow}
 use Rattle.tl_tree.specs.Keeping.OwnPairs.{partner, own_sum, AllOwn, AreThere, AreOwnCells}
-use Rattle.tl_index.specs.Pairs.{meeting, row_sum, cross_sum, pair_sum, AllCross, AllPairs, AreFree}
+use Rattle.tl_tree_index.specs.Pairs.{meeting, row_sum, cross_sum, pair_sum, AllCross, AllPairs, AreFree}
 use Rattle.tl_tree.proofs.Apart.{one-none, one-none_free}
 use Rattle.tl_tree.proofs.CellRows.{cell-in, all-cell-in}
 use Rattle.tl_tree.proofs.Marks8.{by_test}

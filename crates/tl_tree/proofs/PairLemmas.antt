@@ -1,6 +1,6 @@
 -- Sums over pairs.
 use Rattle.std.proofs.Common.{◌≡◌, ℕ, ◌+◌, List, [], ◌∷◌, ◌++◌, refl, sym, arith}
-use Rattle.tl_index.specs.Pairs.{row_sum, cross_sum, pair_sum, AllRow, AllCross, AllPairs}
+use Rattle.tl_tree_index.specs.Pairs.{row_sum, cross_sum, pair_sum, AllRow, AllCross, AllPairs}
 
 pub row-append : (f : ℕ → ℕ → ℕ) (x : ℕ) (ys zs : List ℕ) → row_sum f x (ys ++ zs) ≡ row_sum f x ys + row_sum f x zs
 row-append f x [] zs = omega arith

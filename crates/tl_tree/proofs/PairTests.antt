@@ -7,7 +7,7 @@ use Rattle.std.proofs.lemmas.Bool.Decides.{nat_tests}
 use Rattle.std.proofs.lemmas.Int.{ints, clamps}
 use Rattle.tl_geom.specs.declared.rect.Rect.{Rect}
 use Rattle.tl_geom.specs.Rectangle.{AreMeeting}
-use Rattle.tl_index.specs.Pairs.{overlaps, meeting, AreFree}
+use Rattle.tl_tree_index.specs.Pairs.{overlaps, meeting, AreFree}
 
 T-true : (b : Bool) → T b → b ≡ true
 T-true true h = refl

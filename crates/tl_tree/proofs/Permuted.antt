@@ -1,10 +1,10 @@
 -- Sums over a list in which each number below n stands once.
 use Rattle.std.proofs.Common.{◌≡◌, ℕ, zero, suc, ◌+◌, ◌<◌, cond, eqb, List, [], ◌∷◌, refl, sym, ap, ◌∙◌, subst, arith}
 use Rattle.std.proofs.lemmas.Bool.Decides.{nat_tests}
-use Rattle.tl_index.specs.Pairs.{indices, row_sum, pair_sum, AllRow, AllPairs}
-use Rattle.tl_index.specs.Hits.{times}
-use Rattle.tl_index.specs.Fits.{AreBelow}
-use Rattle.tl_index.proofs.Times.{same_or, times-same, times-other}
+use Rattle.tl_tree_index.specs.Pairs.{indices, row_sum, pair_sum, AllRow, AllPairs}
+use Rattle.tl_tree_index.specs.Hits.{times}
+use Rattle.tl_tree_index.specs.Fits.{AreBelow}
+use Rattle.tl_tree_index.proofs.Times.{same_or, times-same, times-other}
 use Rattle.tl_tree.proofs.PairLemmas.{IsSymmetric, Turns}
 
 -- the list without each n

@@ -6,7 +6,7 @@ use Rattle.tl_geom.specs.Rectangle.{AreMeeting}
 use Rattle.tl_tree.specs.declared.walk.Below.{Below}
 use Rattle.tl_tree.specs.declared.walk.Below.TheVariants.{Items, Children}
 use Rattle.tl_tree.specs.Keeping.Marking.{Includes, roots, RootMeets}
-use Rattle.tl_index.specs.Trees.{Forest, none, leaf, inner, first_trees}
+use Rattle.tl_tree_index.specs.Trees.{Forest, none, leaf, inner, first_trees}
 use Rattle.tl_tree.specs.Keeping.Walking.{followed}
 use Rattle.tl_tree.proofs.Marks8.{includes-later, includes-same}
 

@@ -2,8 +2,8 @@
 use Rattle.std.proofs.Common.{◌≡◌, ℕ, zero, suc, ◌+◌, ◌<◌, ◌≤◌, List, [], ◌∷◌, ◌++◌, length, get_or, take, drop, ◌-◌, sym, subst, arith}
 use Rattle.std.proofs.lemmas.Grind.{common_steps}
 use Rattle.std.proofs.lemmas.List.{at_drop_more, at_drop_all}
-use Rattle.tl_index.specs.Pairs.{row_sum, cross_sum, pair_sum, AllRow, AllCross, AllPairs}
-use Rattle.tl_index.specs.Fits.{AreBelow}
+use Rattle.tl_tree_index.specs.Pairs.{row_sum, cross_sum, pair_sum, AllRow, AllCross, AllPairs}
+use Rattle.tl_tree_index.specs.Fits.{AreBelow}
 
 at_drop : (f : List ℕ → ℕ) (xs : List ℕ) (k : ℕ) → k < length xs → f (drop k xs) ≡ f (get_or xs k 0 ∷ drop (k + 1) xs)
 at_drop f xs k h = at_drop_more f xs k 0 h

@@ -4,10 +4,10 @@ use Rattle.tl_geom.specs.declared.rect.Rect.{Rect}
 use Rattle.tl_tree.specs.declared.walk.Tree.{Tree}
 use Rattle.tl_tree.specs.declared.walk.Below.{Below}
 use Rattle.tl_tree.specs.declared.walk.Below.TheVariants.{Items, Children}
-use Rattle.tl_index.specs.Pairs.{cross_sum, pair_sum, AllCross, AllPairs}
+use Rattle.tl_tree_index.specs.Pairs.{cross_sum, pair_sum, AllCross, AllPairs}
 use Rattle.tl_tree.proofs.PairLemmas.{cross-nil, cross-append_right, pair-append, all_cross-nil, all_cross-join, all_pairs-join}
-use Rattle.tl_index.specs.Fits.{AreBelow, CoversAll, CoversBelow}
-use Rattle.tl_index.specs.Trees.{Forest, none, leaf_items, node_count}
+use Rattle.tl_tree_index.specs.Fits.{AreBelow, CoversAll, CoversBelow}
+use Rattle.tl_tree_index.specs.Trees.{Forest, none, leaf_items, node_count}
 use Rattle.tl_tree.specs.Keeping.Walking.{followed, items_below, size_of, AreSound, IsSound, CoveredBelow, Collects}
 use Rattle.tl_tree.proofs.Hitting.{collects-both}
 

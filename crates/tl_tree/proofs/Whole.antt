@@ -1,8 +1,8 @@
 -- A whole tree in preorder has all its nodes.
 use Rattle.std.proofs.Common.{◌≡◌, ℕ, zero, suc, ◌+◌, inl, inr, List, [], ◌++◌, length, refl, sym, ap, ◌∙◌, append_assoc, append-nil, length-append, arith}
-use Rattle.tl_index.specs.declared.node.TreeNode.{TreeNode}
-use Rattle.tl_index.specs.Preorder.{AreTrees, no_tree, leaf_first, inner_first, IsPreorder}
-use Rattle.tl_index.specs.Trees.{trees_of, tree_of, first_trees, node_count}
+use Rattle.tl_tree_index.specs.declared.node.TreeNode.{TreeNode}
+use Rattle.tl_tree_index.specs.Preorder.{AreTrees, no_tree, leaf_first, inner_first, IsPreorder}
+use Rattle.tl_tree_index.specs.Trees.{trees_of, tree_of, first_trees, node_count}
 use Rattle.tl_tree.proofs.Flat.{first-add}
 
 counts-trees : (nodes : List TreeNode) (p : ℕ) → AreTrees nodes p → (m q : ℕ) (rest : List TreeNode) → m ≡ p + q → node_count (first_trees m (trees_of (nodes ++ rest))) ≡ length nodes + node_count (first_trees q (trees_of rest))

@@ -1,10 +1,10 @@
 //! The boxed tree: nodes that own their children.
 ghost use Rattle.std.specs.Prelude.{◌≡◌, ◌<◌, ◌≤◌, ◌^◌, ◌↔◌, None, length, IfOk, IfErr};
-ghost use Rattle.tl_index.specs.declared.fault.TreeStop.TheVariants.{TooDeep};
+ghost use Rattle.tl_tree_index.specs.declared.fault.TreeStop.TheVariants.{TooDeep};
 ghost use Rattle.tl_tree.specs.Keeping.Branches.{forest_of};
-ghost use Rattle.tl_index.specs.Fits.{Fits, MayFind};
-ghost use Rattle.tl_index.specs.Preorder.{IsPreorder};
-ghost use Rattle.tl_index.specs.Trees.{depth, tree_of, node_count};
+ghost use Rattle.tl_tree_index.specs.Fits.{Fits, MayFind};
+ghost use Rattle.tl_tree_index.specs.Preorder.{IsPreorder};
+ghost use Rattle.tl_tree_index.specs.Trees.{depth, tree_of, node_count};
 
 use crate::branch::{Branch, copy_trees};
 use crate::check::check_all;
@@ -53,7 +53,7 @@ impl BoxTree {
 
 impl BoxIndex for BoxTree {
     ghost use Rattle.tl_tree.specs.Keeping.Boxed.{unboxed};
-    ghost use Rattle.tl_index.specs.Fits.{Fits};
+    ghost use Rattle.tl_tree_index.specs.Fits.{Fits};
 
     ghost fits = { λ tree n bounds. Fits (unboxed tree) n bounds };
 

@@ -4,7 +4,7 @@ ghost use Rattle.std.specs.Prelude.{◌≡◌, ℕ, ◌<◌, ◌≤◌, ◌↔�
 ghost use Rattle.std.specs.Int.{bit_at};
 ghost use Rattle.tl_geom.specs.EightRectangles.{lane};
 ghost use Rattle.tl_geom.specs.Rectangle.{AreMeeting};
-ghost use Rattle.tl_index.specs.Fits.{AreBelow};
+ghost use Rattle.tl_tree_index.specs.Fits.{AreBelow};
 ghost use Rattle.tl_tree.specs.Keeping.Cells.{AreLaneCells};
 
 use crate::Items;

@@ -1,10 +1,10 @@
 //! The check of a tree against items.
 ghost use Rattle.std.specs.Prelude.{◌≡◌, ℕ, ◌<◌, ◌+◌, ◌^◌, ◌↔◌, length, None, OnOk, IfOk, IfErr};
-ghost use Rattle.tl_index.specs.Keeping.Marked.{mark_at, AreMarked};
+ghost use Rattle.tl_tree_index.specs.Keeping.Marked.{mark_at, AreMarked};
 ghost use Rattle.tl_tree.specs.Keeping.Checking.{IsMarkFault, AreChecked, IsChecked, IsFaultAt, IsTold};
 ghost use Rattle.tl_tree.specs.Keeping.Checking.{IsFaultBelow};
-ghost use Rattle.tl_index.specs.Fits.{Fits, MayFind};
-ghost use Rattle.tl_index.specs.Trees.{node_count};
+ghost use Rattle.tl_tree_index.specs.Fits.{Fits, MayFind};
+ghost use Rattle.tl_tree_index.specs.Trees.{node_count};
 ghost use Rattle.tl_tree.specs.Keeping.Walking.{size_of};
 
 use crate::hull::{NOTHING, covers, hull_of, hull_of_items};

@@ -1,6 +1,6 @@
 //! A walk over a list of nodes in preorder.
 ghost use Rattle.std.specs.Prelude.{◌≡◌, drop};
-ghost use Rattle.tl_index.specs.Trees.{first_trees, tree_of, trees_of};
+ghost use Rattle.tl_tree_index.specs.Trees.{first_trees, tree_of, trees_of};
 ghost use Rattle.tl_tree.specs.Keeping.Sizes.{AreSizesFrom};
 
 use crate::TreeNode;

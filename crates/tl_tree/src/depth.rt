@@ -1,6 +1,6 @@
 //! How deep trees are.
 ghost use Rattle.std.specs.Prelude.{◌≤◌, ◌↔◌, IsTrue};
-ghost use Rattle.tl_index.specs.Trees.{depth};
+ghost use Rattle.tl_tree_index.specs.Trees.{depth};
 
 use crate::walk::{Below, Trees};
 

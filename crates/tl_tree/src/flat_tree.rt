@@ -1,11 +1,11 @@
 //! The flat tree: a list of nodes in preorder, lent, and the size of each subtree.
 ghost use Rattle.std.specs.Prelude.{◌≡◌, ◌<◌, ◌≤◌, ◌+◌, ◌^◌, ◌↔◌, None, IsTrue, length, drop, IfOk, IfErr};
-ghost use Rattle.tl_index.specs.declared.fault.TreeStop.TheVariants.{TooDeep};
-ghost use Rattle.tl_index.specs.Fits.{Fits, MayFind};
-ghost use Rattle.tl_index.specs.Preorder.{IsPreorder};
+ghost use Rattle.tl_tree_index.specs.declared.fault.TreeStop.TheVariants.{TooDeep};
+ghost use Rattle.tl_tree_index.specs.Fits.{Fits, MayFind};
+ghost use Rattle.tl_tree_index.specs.Preorder.{IsPreorder};
 ghost use Rattle.tl_tree.specs.Keeping.Sizes.{AreSizesFrom};
-ghost use Rattle.tl_index.specs.Searches.{MayAnswer};
-ghost use Rattle.tl_index.specs.Trees.{depth, tree_of, first_trees, trees_of, node_count};
+ghost use Rattle.tl_tree_index.specs.Searches.{MayAnswer};
+ghost use Rattle.tl_tree_index.specs.Trees.{depth, tree_of, first_trees, trees_of, node_count};
 
 use crate::check::check_all;
 use crate::cursor::{Cursor, Lists};
@@ -26,7 +26,7 @@ pub struct FlatTree<'a> {
 
 impl<'a> Model for FlatTree<'a> {
     ghost use Rattle.std.specs.Prelude.{List, length, ◌<◌, ◌^◌};
-    ghost use Rattle.tl_index.specs.declared.node.TreeNode.{TreeNode};
+    ghost use Rattle.tl_tree_index.specs.declared.node.TreeNode.{TreeNode};
     ghost use Rattle.tl_tree.specs.Keeping.Sizes.{AreSizesFrom};
 
     ghost Value = { List TreeNode };
@@ -132,8 +132,8 @@ fn search_walk<I: Items>(items: &I, root: Cursor<'_>, budget: u64) -> Search<I::
 }
 
 impl BoxIndex for FlatTree<'_> {
-    ghost use Rattle.tl_index.specs.Fits.{Fits};
-    ghost use Rattle.tl_index.specs.Trees.{tree_of};
+    ghost use Rattle.tl_tree_index.specs.Fits.{Fits};
+    ghost use Rattle.tl_tree_index.specs.Trees.{tree_of};
 
     ghost fits = { λ tree n bounds. Fits (tree_of tree) n bounds };
 

@@ -1,8 +1,8 @@
 //! The search for the items that a probe hits.
 ghost use Rattle.std.specs.Prelude.{◌≡◌, OnOk, OnErr};
-ghost use Rattle.tl_index.specs.Fits.{AreBelow, Fits};
-ghost use Rattle.tl_index.specs.Hits.{Adds};
-ghost use Rattle.tl_index.specs.Trees.{leaf_items};
+ghost use Rattle.tl_tree_index.specs.Fits.{AreBelow, Fits};
+ghost use Rattle.tl_tree_index.specs.Hits.{Adds};
+ghost use Rattle.tl_tree_index.specs.Trees.{leaf_items};
 ghost use Rattle.tl_tree.specs.Keeping.Walking.{AreSound, IsSound, Grows, Collects, items_below};
 
 use crate::lanes::{bounds_of_eight, is_first_marked, later_marks, meeting_roots};

@@ -3,7 +3,7 @@ ghost use Rattle.std.specs.Prelude.{◌↔◌, ◌<ℤ◌, ◌≤ℤ◌, IsTrue}
 ghost use Rattle.tl_geom.specs.Rectangle.{Covers, IsEmpty};
 ghost use Rattle.tl_geom.specs.declared.rect.Rect.{Rect};
 ghost use Rattle.tl_tree.specs.Keeping.Checking.{IsHull};
-ghost use Rattle.tl_index.specs.Fits.{AreBelow};
+ghost use Rattle.tl_tree_index.specs.Fits.{AreBelow};
 
 use crate::Items;
 use tl_geom::Rect;

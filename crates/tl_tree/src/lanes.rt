@@ -2,7 +2,7 @@
 ghost use Rattle.std.specs.Prelude.{◌≡◌, ℕ, ◌<◌, ◌≤◌, ◌+◌, ◌↔◌, length, get_or, IsTrue};
 ghost use Rattle.std.specs.Int.{bit_at};
 ghost use Rattle.tl_geom.specs.Rectangle.{nothing};
-ghost use Rattle.tl_index.specs.Fits.{AreBelow};
+ghost use Rattle.tl_tree_index.specs.Fits.{AreBelow};
 ghost use Rattle.tl_tree.specs.Keeping.Marking.{AreBoundsOf, Includes, RootMeets, roots};
 
 use crate::Items;

@@ -1,9 +1,9 @@
 //! Laws of the definitions, each the contract of a function that does nothing.
 ghost use Rattle.std.specs.Prelude.{◌≡◌, ◌↔◌, IsTrue, length};
 ghost use Rattle.tl_geom.specs.Rectangle.{AreMeeting};
-ghost use Rattle.tl_index.specs.Pairs.{overlaps};
-ghost use Rattle.tl_index.specs.Preorder.{IsPreorder};
-ghost use Rattle.tl_index.specs.Trees.{tree_of, node_count};
+ghost use Rattle.tl_tree_index.specs.Pairs.{overlaps};
+ghost use Rattle.tl_tree_index.specs.Preorder.{IsPreorder};
+ghost use Rattle.tl_tree_index.specs.Trees.{tree_of, node_count};
 
 use crate::TreeNode;
 use tl_geom::Rect;

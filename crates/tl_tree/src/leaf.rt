@@ -1,10 +1,10 @@
 //! The search of a leaf, whose bounds are gathered once: its own pairs, and against the items below other trees.
 ghost use Rattle.std.specs.Prelude.{◌≡◌, ◌≤◌, None, length};
-ghost use Rattle.tl_index.specs.Fits.{AreBelow, CoversAll};
+ghost use Rattle.tl_tree_index.specs.Fits.{AreBelow, CoversAll};
 ghost use Rattle.tl_tree.specs.Keeping.Listing.{listed_items, AllSound, sum_beside, AllBeside};
 ghost use Rattle.tl_tree.specs.Keeping.Marking.{AreBoundsOf};
 ghost use Rattle.tl_tree.specs.Keeping.Walking.{MayLeave};
-ghost use Rattle.tl_index.specs.Pairs.{cross_sum, pair_sum, AllCross, AllPairs, AreFree};
+ghost use Rattle.tl_tree_index.specs.Pairs.{cross_sum, pair_sum, AllCross, AllPairs, AreFree};
 
 use crate::Items;
 use crate::cells::cells_of;

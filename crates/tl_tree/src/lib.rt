@@ -28,6 +28,6 @@ mod walk;
 pub use box_tree::BoxTree;
 pub use flat_tree::FlatTree;
 pub use plain_list::PlainList;
-pub use tl_index::{
+pub use tl_tree_index::{
     BoxIndex, Items, Memory, Probe, Search, TreeFault, TreeNode, TreeStop, is_preorder,
 };

@@ -3,7 +3,7 @@ ghost use Rattle.std.specs.Prelude.{◌≡◌, ◌≤◌, ◌<◌, ◌+◌, ◌�
 ghost use Rattle.std.specs.Prelude.{IsTrue, IsFalse};
 ghost use Rattle.std.specs.Int.{int_max, int_min};
 ghost use Rattle.tl_geom.specs.Rectangle.{AreMeeting};
-ghost use Rattle.tl_index.specs.Trees.{leaf_items};
+ghost use Rattle.tl_tree_index.specs.Trees.{leaf_items};
 ghost use Rattle.tl_tree.specs.Keeping.Listing.{first_items, listed_items, AllSound, IsFirst, StandsFor, MayList};
 ghost use Rattle.tl_tree.specs.Keeping.Walking.{items_below, IsSound, AreSound};
 

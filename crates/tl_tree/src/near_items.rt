@@ -1,10 +1,10 @@
 //! Lists of the items that those of a leaf are tested against: of the items below other trees, those whose bounds meet the
 //! rectangle around the leaf.
 ghost use Rattle.std.specs.Prelude.{◌≡◌, ◌≤◌, ◌+◌, length, take};
-ghost use Rattle.tl_index.specs.Fits.{AreBelow, CoversAll};
+ghost use Rattle.tl_tree_index.specs.Fits.{AreBelow, CoversAll};
 ghost use Rattle.tl_tree.specs.Keeping.Listing.{first_items, listed_items, AllSound, StandsForItems, MayListItems};
 ghost use Rattle.tl_tree.specs.Keeping.Walking.{items_below, IsSound, AreSound};
-ghost use Rattle.tl_index.specs.Trees.{leaf_items};
+ghost use Rattle.tl_tree_index.specs.Trees.{leaf_items};
 
 use crate::Items;
 use crate::near::{are_apart, do_meet, next_place};

@@ -1,10 +1,10 @@
 //! The pairs of the items of a leaf: the eight rectangles are turned against themselves, which tells all pairs at once.
 ghost use Rattle.std.specs.Prelude.{◌≡◌, ◌<◌, ◌≤◌, ◌^◌, ◌%◌, None, length, get_or};
 ghost use Rattle.tl_geom.specs.Rectangle.{AreMeeting};
-ghost use Rattle.tl_index.specs.Fits.{AreBelow};
+ghost use Rattle.tl_tree_index.specs.Fits.{AreBelow};
 ghost use Rattle.tl_tree.specs.Keeping.OwnPairs.{partner, own_sum, AllOwn, AreThere, AreOwnCells};
 ghost use Rattle.tl_tree.specs.Keeping.Walking.{MayLeave};
-ghost use Rattle.tl_index.specs.Pairs.{pair_sum, AllPairs, AreFree};
+ghost use Rattle.tl_tree_index.specs.Pairs.{pair_sum, AllPairs, AreFree};
 
 use crate::Items;
 use crate::search::{Progress, test_meeting};

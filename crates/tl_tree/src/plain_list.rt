@@ -1,6 +1,6 @@
 //! The plain index: a list of all items.
 ghost use Rattle.std.specs.Prelude.{◌≡◌, ◌<◌, ◌≤◌};
-ghost use Rattle.tl_index.specs.Pairs.{row_sum, AllRow, AreFree, indices};
+ghost use Rattle.tl_tree_index.specs.Pairs.{row_sum, AllRow, AreFree, indices};
 ghost use Rattle.tl_tree.specs.Keeping.Walking.{MayLeave};
 
 use crate::search::{Progress, answer, test_pair};

@@ -3,13 +3,13 @@ ghost use Rattle.std.specs.Prelude.{◌≡◌, ◌<◌, ◌≤◌, ◌+◌, ◌+
 ghost use Rattle.std.specs.Prelude.{◌≤ℤ◌};
 ghost use Rattle.std.specs.Int.{int_max, int_min};
 ghost use Rattle.tl_geom.specs.Rectangle.{AreMeeting};
-ghost use Rattle.tl_index.specs.Fits.{AreBelow, Fits};
+ghost use Rattle.tl_tree_index.specs.Fits.{AreBelow, Fits};
 ghost use Rattle.tl_tree.specs.Keeping.Cells.{AreCellsOf};
 ghost use Rattle.tl_tree.specs.Keeping.Listing.{first_items, listed_items, AllSound, sum_beside, AllBeside};
 ghost use Rattle.tl_tree.specs.Keeping.Marking.{Includes, RootMeets};
-ghost use Rattle.tl_index.specs.Pairs.{row_sum, cross_sum, pair_sum, AllRow, AllCross, AllPairs, AreFree};
-ghost use Rattle.tl_index.specs.Searches.{MayAnswer};
-ghost use Rattle.tl_index.specs.Trees.{leaf_items};
+ghost use Rattle.tl_tree_index.specs.Pairs.{row_sum, cross_sum, pair_sum, AllRow, AllCross, AllPairs, AreFree};
+ghost use Rattle.tl_tree_index.specs.Searches.{MayAnswer};
+ghost use Rattle.tl_tree_index.specs.Trees.{leaf_items};
 ghost use Rattle.tl_tree.specs.Keeping.Walking.{MayLeave, answer_of, items_below, IsSound, AreSound};
 
 use crate::cells::cells_of;
@@ -18,7 +18,7 @@ use crate::leaf::test_leaf;
 use crate::near::{LIST, do_meet, list_near};
 use crate::walk::{Below, Tree, Trees};
 use crate::{Items, Search};
-use tl_index::Conflict;
+use tl_tree_index::Conflict;
 
 /// How far a search is. Each part of it tells whether it goes on; where it doesn't, a conflict was found or the budget
 /// is spent.

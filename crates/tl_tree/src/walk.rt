@@ -1,5 +1,5 @@
 //! Walks over trees, whatever holds their nodes.
-ghost use Rattle.tl_index.specs.Trees.{Forest};
+ghost use Rattle.tl_tree_index.specs.Trees.{Forest};
 
 use tl_geom::Rect;
 

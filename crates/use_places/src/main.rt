@@ -3,8 +3,8 @@
 
 use std::hash::RandomState;
 use std::io;
+use tl_check_inside::{Place, locate};
 use tl_geom::Point;
-use tl_inside::{Place, locate};
 use tl_map::read_map;
 use tl_record::Meter;
 use tl_tree::PlainList;

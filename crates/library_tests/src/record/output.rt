@@ -3,7 +3,7 @@
 use crate::record::pieces::Few;
 use std::alloc::Global;
 use std::io::ErrorKind;
-use tl_output::{Printer, Stop, print_line, write_all};
+use tl_cert_output::{Printer, Stop, print_line, write_all};
 use tl_record::{FailAtOut, MeterOut, Sink};
 
 const LINE: &str = "a line of several writes";

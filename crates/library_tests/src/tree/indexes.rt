@@ -1,15 +1,15 @@
 //! What indexes over the same items answer.
 ghost use Rattle.std.specs.Prelude.{◌<◌, ◌^◌, length};
-ghost use Rattle.tl_index.specs.Preorder.{IsPreorder};
+ghost use Rattle.tl_tree_index.specs.Preorder.{IsPreorder};
 
 use crate::tree::items::{Counting, Pin, rect};
 use arrayvec::ArrayVec;
 use std::alloc::{AllocError, Global};
 use tl_geom::{Point, Rect};
-use tl_pack::pack;
 use tl_tree::{
     BoxIndex, BoxTree, FlatTree, Items, PlainList, Search, TreeFault, TreeNode, is_preorder,
 };
+use tl_tree_pack::pack;
 
 fn leaf(bounds: Rect, items: &[u32]) -> TreeNode {
     let mut kept = ArrayVec::new();

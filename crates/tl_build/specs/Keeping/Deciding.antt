@@ -1,15 +1,15 @@
 -- Answers to maps, with one clause for all that each says.
 use Rattle.std.specs.Prelude.{◌≡◌, ◌≤◌, Result, Ok, Err, Bool, false}
-use Rattle.tl_drawn.specs.declared.fault.MapStop.{MapStop}
-use Rattle.tl_county.specs.TheMap.{TheMap}
-use Rattle.tl_county.specs.declared.map.Map.{Map}
-use Rattle.tl_index.specs.Trees.{depth, tree_of}
-use Rattle.tl_pack.specs.Packed.{IsEvenlySplit}
+use Rattle.tl_map_rules.specs.declared.fault.MapStop.{MapStop}
+use Rattle.tl_map_county.specs.TheMap.{TheMap}
+use Rattle.tl_map_county.specs.declared.map.Map.{Map}
+use Rattle.tl_tree_index.specs.Trees.{depth, tree_of}
+use Rattle.tl_tree_pack.specs.Packed.{IsEvenlySplit}
 use Rattle.tl_cert.specs.Certificates.{TheCertificate}
-use Rattle.tl_verdict.specs.Sound.{IsSound, IsSoundFor}
-use Rattle.tl_verdict.specs.Valid.{IsValid}
-use Rattle.tl_verdict.specs.Truth.{IsTrueOfMap}
-use Rattle.tl_verdict.specs.Verdicts.{IsReport}
+use Rattle.tl_check_verdict.specs.Sound.{IsSound, IsSoundFor}
+use Rattle.tl_check_verdict.specs.Valid.{IsValid}
+use Rattle.tl_check_verdict.specs.Truth.{IsTrueOfMap}
+use Rattle.tl_check_verdict.specs.Verdicts.{IsReport}
 use Rattle.tl_build.specs.declared.answer.Audit.TheVariants as audit
 use Rattle.tl_build.specs.declared.answer.Built.TheVariants as built
 use Rattle.tl_build.specs.Auditing.{Auditing, IsMemoryStop}

@@ -1,16 +1,16 @@
 -- Decisions of maps in memory, and answers where records have no map.
 use Rattle.std.specs.Prelude.{false, Result, Ok, Err}
-use Rattle.tl_drawn.specs.declared.fault.MapStop.{MapStop}
-use Rattle.tl_county.specs.TheMap.{TheMap}
+use Rattle.tl_map_rules.specs.declared.fault.MapStop.{MapStop}
+use Rattle.tl_map_county.specs.TheMap.{TheMap}
 use Rattle.tl_cert.specs.Certificates.{TheCertificate}
-use Rattle.tl_verdict.specs.declared.fault.MapFault.{MapFault}
-use Rattle.tl_verdict.specs.declared.verdict.Report.{Report}
-use Rattle.tl_output.specs.declared.stop.Stop.{Stop}
-use Rattle.tl_verdict.specs.Stops.{unmapped}
-use Rattle.tl_verdict.specs.Sound.{IsSound}
-use Rattle.tl_verdict.specs.Valid.{IsValid}
-use Rattle.tl_verdict.specs.Truth.{IsTrueOfMap}
-use Rattle.tl_verdict.specs.Verdicts.{IsReport}
+use Rattle.tl_check_verdict.specs.declared.fault.MapFault.{MapFault}
+use Rattle.tl_check_verdict.specs.declared.verdict.Report.{Report}
+use Rattle.tl_cert_output.specs.declared.stop.Stop.{Stop}
+use Rattle.tl_check_verdict.specs.Stops.{unmapped}
+use Rattle.tl_check_verdict.specs.Sound.{IsSound}
+use Rattle.tl_check_verdict.specs.Valid.{IsValid}
+use Rattle.tl_check_verdict.specs.Truth.{IsTrueOfMap}
+use Rattle.tl_check_verdict.specs.Verdicts.{IsReport}
 use Rattle.tl_build.specs.declared.answer.Audit.TheVariants as audit
 use Rattle.tl_build.specs.Auditing.{Auditing, IsMemoryStop}
 

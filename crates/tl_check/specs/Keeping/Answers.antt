@@ -1,16 +1,16 @@
 -- Answers, before anything is shown of them.
 use Rattle.std.specs.Prelude.{Result, Ok, Err}
-use Rattle.tl_verdict.specs.declared.verdict.Verdict.TheVariants as verdict
-use Rattle.tl_output.specs.declared.stop.Stop.{Stop}
-use Rattle.tl_output.specs.declared.stop.Stop.TheVariants as stop
-use Rattle.tl_verdict.specs.declared.fault.MapFault.{MapFault}
-use Rattle.tl_verdict.specs.declared.fault.CertFault.{CertFault}
-use Rattle.tl_verdict.specs.Stops.{unmapped, unread}
+use Rattle.tl_check_verdict.specs.declared.verdict.Verdict.TheVariants as verdict
+use Rattle.tl_cert_output.specs.declared.stop.Stop.{Stop}
+use Rattle.tl_cert_output.specs.declared.stop.Stop.TheVariants as stop
+use Rattle.tl_check_verdict.specs.declared.fault.MapFault.{MapFault}
+use Rattle.tl_check_verdict.specs.declared.fault.CertFault.{CertFault}
+use Rattle.tl_check_verdict.specs.Stops.{unmapped, unread}
 use Rattle.tl_check.specs.declared.state.Halt.{Halt}
 use Rattle.tl_check.specs.declared.state.Halt.TheVariants as halt
-use Rattle.tl_drawn.specs.declared.fault.MapStop.{MapStop}
+use Rattle.tl_map_rules.specs.declared.fault.MapStop.{MapStop}
 use Rattle.tl_cert.specs.declared.stop.CertStop.{CertStop}
-use Rattle.tl_verdict.specs.Verdicts.{Answer}
+use Rattle.tl_check_verdict.specs.Verdicts.{Answer}
 
 -- the answer where no further part is looked at
 abbrev pub answer_of : Halt → Answer

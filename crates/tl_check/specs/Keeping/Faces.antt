@@ -1,16 +1,16 @@
 -- How an answer in which faces take part follows from one in which they don't.
 use Rattle.std.specs.Prelude.{◌≡◌, Bool, Ok, Err, Option, Some, None, ⊤}
-use Rattle.tl_county.specs.TheMap.{TheMap}
-use Rattle.tl_verdict.specs.declared.fault.MapFault.{MapFault}
-use Rattle.tl_verdict.specs.declared.fault.MapFault.TheVariants.{Records, Meet, Side, PolygonPoint, Cell, Face}
-use Rattle.tl_verdict.specs.declared.verdict.Report.{Report}
-use Rattle.tl_faces.specs.declared.fault.FaceFault.{FaceFault}
-use Rattle.tl_verdict.specs.declared.verdict.Verdict.{Verdict}
-use Rattle.tl_verdict.specs.declared.verdict.Verdict.TheVariants as verdict
-use Rattle.tl_output.specs.declared.stop.Stop.TheVariants.{Memory}
-use Rattle.tl_verdict.specs.Sound.{IsSoundFor}
-use Rattle.tl_verdict.specs.Truth.{IsTrueOfMap}
-use Rattle.tl_verdict.specs.Verdicts.{Answer}
+use Rattle.tl_map_county.specs.TheMap.{TheMap}
+use Rattle.tl_check_verdict.specs.declared.fault.MapFault.{MapFault}
+use Rattle.tl_check_verdict.specs.declared.fault.MapFault.TheVariants.{Records, Meet, Side, PolygonPoint, Cell, Face}
+use Rattle.tl_check_verdict.specs.declared.verdict.Report.{Report}
+use Rattle.tl_check_faces.specs.declared.fault.FaceFault.{FaceFault}
+use Rattle.tl_check_verdict.specs.declared.verdict.Verdict.{Verdict}
+use Rattle.tl_check_verdict.specs.declared.verdict.Verdict.TheVariants as verdict
+use Rattle.tl_cert_output.specs.declared.stop.Stop.TheVariants.{Memory}
+use Rattle.tl_check_verdict.specs.Sound.{IsSoundFor}
+use Rattle.tl_check_verdict.specs.Truth.{IsTrueOfMap}
+use Rattle.tl_check_verdict.specs.Verdicts.{Answer}
 
 -- the fault is of faces
 abbrev pub IsOfFaces : MapFault → Type 0

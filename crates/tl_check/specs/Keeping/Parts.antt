@@ -1,28 +1,28 @@
 -- What was found of a certificate's rounds and walks so far, behind counts that are the map's and a tree that was taken.
 use Rattle.std.specs.Prelude.{◌≡◌, ℕ, ◌≤◌, List, [], ◌++◌, length, Result, Ok, Err, ⊤, false}
-use Rattle.tl_county.specs.TheMap.{TheMap}
-use Rattle.tl_index.specs.declared.node.TreeNode.{TreeNode}
-use Rattle.tl_planar.specs.Planar.{IsPlanar}
-use Rattle.tl_planar.specs.Searching.{meeting_segments, AreBeyond}
-use Rattle.tl_sides.specs.Sides.{SidesAgree}
-use Rattle.tl_inside.specs.Placed.{ArePlaced}
-use Rattle.tl_cells.specs.Cells.{CellsAgree}
-use Rattle.tl_rings.specs.Rings.{TheRings, AreBoxed}
-use Rattle.tl_sides.specs.Lists.{and_list}
-use Rattle.tl_sides.specs.Rounds.{AreRounds, IsRoundFault}
-use Rattle.tl_sides.specs.declared.rounds.Rounds.{Rounds}
-use Rattle.tl_sides.specs.declared.walks.Walks.{Walks}
-use Rattle.tl_sides.specs.Keeping.Rounded.{AreSized, HaveTaken}
-use Rattle.tl_sides.specs.Keeping.Walked.{AreReady, HaveWalked}
+use Rattle.tl_map_county.specs.TheMap.{TheMap}
+use Rattle.tl_tree_index.specs.declared.node.TreeNode.{TreeNode}
+use Rattle.tl_check_planar.specs.Planar.{IsPlanar}
+use Rattle.tl_check_planar.specs.Searching.{meeting_segments, AreBeyond}
+use Rattle.tl_check_sides.specs.Sides.{SidesAgree}
+use Rattle.tl_check_inside.specs.Placed.{ArePlaced}
+use Rattle.tl_check_cells.specs.Cells.{CellsAgree}
+use Rattle.tl_check_points.specs.Rings.{TheRings, AreBoxed}
+use Rattle.tl_check_sides.specs.Lists.{and_list}
+use Rattle.tl_check_sides.specs.Rounds.{AreRounds, IsRoundFault}
+use Rattle.tl_check_sides.specs.declared.rounds.Rounds.{Rounds}
+use Rattle.tl_check_sides.specs.declared.walks.Walks.{Walks}
+use Rattle.tl_check_sides.specs.Keeping.Rounded.{AreSized, HaveTaken}
+use Rattle.tl_check_sides.specs.Keeping.Walked.{AreReady, HaveWalked}
 use Rattle.tl_cert.specs.Certificates.{TheCertificate}
 use Rattle.tl_check.specs.declared.state.State.{State}
 use Rattle.tl_check.specs.declared.state.State.TheVariants as state
 use Rattle.tl_check.specs.declared.state.Halt.{Halt}
 use Rattle.tl_check.specs.declared.state.Halt.TheVariants as halt
-use Rattle.tl_verdict.specs.declared.fault.CertFault.{CertFault}
-use Rattle.tl_verdict.specs.declared.fault.MapFault.TheVariants.{Meet}
-use Rattle.tl_verdict.specs.Valid.{AreCounts, IsTree, AllowsSearch, IsValid}
-use Rattle.tl_verdict.specs.Truth.{IsTrueOfMap, IsTrueOfCert, IsOfDarts}
+use Rattle.tl_check_verdict.specs.declared.fault.CertFault.{CertFault}
+use Rattle.tl_check_verdict.specs.declared.fault.MapFault.TheVariants.{Meet}
+use Rattle.tl_check_verdict.specs.Valid.{AreCounts, IsTree, AllowsSearch, IsValid}
+use Rattle.tl_check_verdict.specs.Truth.{IsTrueOfMap, IsTrueOfCert, IsOfDarts}
 
 -- the certificate with a round more, or a walk
 abbrev pub with_round : TheCertificate → List ℕ → TheCertificate

@@ -1,20 +1,20 @@
 -- What an answer says of a map, by a certificate in memory or its text, and of the map that was read of records.
 use Rattle.std.specs.Prelude.{◌≡◌, ℕ, ◌≤◌, Bool, List, Option, Result, Ok, Err, IfErr}
 use Rattle.std.specs.Option.{IfSome}
-use Rattle.tl_drawn.specs.declared.fault.MapStop.{MapStop}
-use Rattle.tl_county.specs.TheMap.{TheMap}
-use Rattle.tl_county.specs.declared.map.Map.{Map}
-use Rattle.tl_planar.specs.Planar.{IsPlanar}
-use Rattle.tl_planar.specs.Searching.{meeting_segments}
+use Rattle.tl_map_rules.specs.declared.fault.MapStop.{MapStop}
+use Rattle.tl_map_county.specs.TheMap.{TheMap}
+use Rattle.tl_map_county.specs.declared.map.Map.{Map}
+use Rattle.tl_check_planar.specs.Planar.{IsPlanar}
+use Rattle.tl_check_planar.specs.Searching.{meeting_segments}
 use Rattle.tl_cert.specs.Certificates.{TheCertificate}
-use Rattle.tl_verdict.specs.declared.fault.CertFault.{CertFault}
-use Rattle.tl_output.specs.declared.stop.Stop.{Stop}
-use Rattle.tl_verdict.specs.Sound.{IsSoundFor}
-use Rattle.tl_verdict.specs.Valid.{AllowsSearch, IsValid}
-use Rattle.tl_verdict.specs.Truth.{IsTrueOfMap, IsTrueOfCert, IsOfDarts}
-use Rattle.tl_verdict.specs.Verdicts.{Answer, OnSound, OnSoundButFaces, IfSound, IfMapFault, IfCertFault, UnlessMeet, OnSearched, IsReport, MayStop}
-use Rattle.tl_verdict.specs.Texts.{IsTrueOfText, IsValidText, TextAllowsSearch, MayStopReading}
-use Rattle.tl_output.specs.Stops.{TellsDevice}
+use Rattle.tl_check_verdict.specs.declared.fault.CertFault.{CertFault}
+use Rattle.tl_cert_output.specs.declared.stop.Stop.{Stop}
+use Rattle.tl_check_verdict.specs.Sound.{IsSoundFor}
+use Rattle.tl_check_verdict.specs.Valid.{AllowsSearch, IsValid}
+use Rattle.tl_check_verdict.specs.Truth.{IsTrueOfMap, IsTrueOfCert, IsOfDarts}
+use Rattle.tl_check_verdict.specs.Verdicts.{Answer, OnSound, OnSoundButFaces, IfSound, IfMapFault, IfCertFault, UnlessMeet, OnSearched, IsReport, MayStop}
+use Rattle.tl_check_verdict.specs.Texts.{IsTrueOfText, IsValidText, TextAllowsSearch, MayStopReading}
+use Rattle.tl_cert_output.specs.Stops.{TellsDevice}
 use Rattle.tl_check.specs.Keeping.Answers.{refusal_of}
 
 -- What an answer says of a map, where faces are asked for or not. `valid` says that the certificate is valid, `faulty` what a fault

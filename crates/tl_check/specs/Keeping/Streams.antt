@@ -1,14 +1,14 @@
 -- What is kept of a certificate that is checked as its parts come, and what its answer says.
 use Rattle.std.specs.Prelude.{◌≡◌, ℕ, ◌<◌, ◌≤◌, ◌^◌, List, length, Option, Result, Ok, Err, ⊤, false}
 use Rattle.std.specs.Option.{IfSome}
-use Rattle.tl_county.specs.TheMap.{TheMap}
-use Rattle.tl_index.specs.declared.node.TreeNode.{TreeNode}
-use Rattle.tl_index.specs.Preorder.{IsPreorder}
-use Rattle.tl_planar.specs.Planar.{IsPlanar}
-use Rattle.tl_planar.specs.Searching.{meeting_segments, AreBeyond}
-use Rattle.tl_sides.specs.Sides.{SidesAgree}
-use Rattle.tl_inside.specs.Placed.{ArePlaced}
-use Rattle.tl_cells.specs.Cells.{CellsAgree}
+use Rattle.tl_map_county.specs.TheMap.{TheMap}
+use Rattle.tl_tree_index.specs.declared.node.TreeNode.{TreeNode}
+use Rattle.tl_tree_index.specs.Preorder.{IsPreorder}
+use Rattle.tl_check_planar.specs.Planar.{IsPlanar}
+use Rattle.tl_check_planar.specs.Searching.{meeting_segments, AreBeyond}
+use Rattle.tl_check_sides.specs.Sides.{SidesAgree}
+use Rattle.tl_check_inside.specs.Placed.{ArePlaced}
+use Rattle.tl_check_cells.specs.Cells.{CellsAgree}
 use Rattle.tl_cert.specs.declared.place.NextPart.{NextPart}
 use Rattle.tl_cert.specs.declared.place.NextPart.TheVariants as place
 use Rattle.tl_cert.specs.declared.place.CertPart.{CertPart}
@@ -18,17 +18,17 @@ use Rattle.tl_cert.specs.Certificates.{TheCertificate}
 use Rattle.tl_cert.specs.Given.{with_part}
 use Rattle.tl_cert.specs.Reading.{source_of, unread}
 use Rattle.tl_cert.specs.Keeping.Collecting.{Collects}
-use Rattle.tl_verdict.specs.declared.verdict.Report.{Report}
-use Rattle.tl_verdict.specs.declared.verdict.Verdict.TheVariants as verdict
-use Rattle.tl_output.specs.declared.stop.Stop.TheVariants.{Record, Memory, Device, Budget}
+use Rattle.tl_check_verdict.specs.declared.verdict.Report.{Report}
+use Rattle.tl_check_verdict.specs.declared.verdict.Verdict.TheVariants as verdict
+use Rattle.tl_cert_output.specs.declared.stop.Stop.TheVariants.{Record, Memory, Device, Budget}
 use Rattle.tl_check.specs.declared.state.State.{State}
 use Rattle.tl_check.specs.declared.state.Halt.{Halt}
-use Rattle.tl_verdict.specs.Sound.{AreClosed}
-use Rattle.tl_verdict.specs.Valid.{AllowsSearch}
-use Rattle.tl_verdict.specs.Truth.{IsTrueOfMap, IsTrueOfCert, IsOfDarts}
-use Rattle.tl_verdict.specs.Texts.{IsTrueOfText, IsValidText, TextAllowsSearch}
-use Rattle.tl_output.specs.Stops.{TellsDevice}
-use Rattle.tl_verdict.specs.Verdicts.{Answer, OnSound, IfCertFault, UnlessMeet, OnSearched, IsReport, AreNumbers}
+use Rattle.tl_check_verdict.specs.Sound.{AreClosed}
+use Rattle.tl_check_verdict.specs.Valid.{AllowsSearch}
+use Rattle.tl_check_verdict.specs.Truth.{IsTrueOfMap, IsTrueOfCert, IsOfDarts}
+use Rattle.tl_check_verdict.specs.Texts.{IsTrueOfText, IsValidText, TextAllowsSearch}
+use Rattle.tl_cert_output.specs.Stops.{TellsDevice}
+use Rattle.tl_check_verdict.specs.Verdicts.{Answer, OnSound, IfCertFault, UnlessMeet, OnSearched, IsReport, AreNumbers}
 use Rattle.tl_check.specs.Keeping.Parts.{Holds, TakesRounds, TakesWalks, IsSearched, IsBehindSearch, IsShown, IsLed, IsHalted}
 
 -- at this place the state takes what may come

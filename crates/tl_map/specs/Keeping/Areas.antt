@@ -2,7 +2,7 @@
 use Rattle.std.specs.Prelude.{◌≡◌, List}
 use Rattle.tl_record.specs.declared.record.Record.{Record}
 use Rattle.tl_map.specs.declared.areas.AreaRecords.{AreaRecords}
-use Rattle.tl_drawn.specs.MapOf.{sides_in, polygons_in, landmarks_in, links_in}
+use Rattle.tl_map_rules.specs.MapOf.{sides_in, polygons_in, landmarks_in, links_in}
 
 -- the type I, P, 7 and 8 records are kept, each in file order
 pub record KeepsAreas (rs : List Record) (a : AreaRecords) : Type 0 where

@@ -1,13 +1,13 @@
 -- Kept on the way: what sorted entries must be to be joined, and what building answers.
 use Rattle.std.specs.Prelude.{◌≡◌, ℕ, ◌≤◌, false, List, All}
 use Rattle.tl_record.specs.declared.record.Record.{Record}
-use Rattle.tl_drawn.specs.declared.entry.ChainEntry.{ChainEntry}
-use Rattle.tl_drawn.specs.declared.entry.ShapeEntry.{ShapeEntry}
-use Rattle.tl_drawn.specs.declared.fault.MapStop.{MapStop}
-use Rattle.tl_drawn.specs.declared.fault.MapStop.TheVariants.{Refused, Device, Memory, Fault}
-use Rattle.tl_county.specs.Chains.{CompleteChain, IsProper, ChainList}
-use Rattle.tl_drawn.specs.ChainsOf.{AreChainsOf, has_gap, pairs_of}
-use Rattle.tl_drawn.specs.Faults.{IsTrueOf, HaveNoChainFault}
+use Rattle.tl_map_rules.specs.declared.entry.ChainEntry.{ChainEntry}
+use Rattle.tl_map_rules.specs.declared.entry.ShapeEntry.{ShapeEntry}
+use Rattle.tl_map_rules.specs.declared.fault.MapStop.{MapStop}
+use Rattle.tl_map_rules.specs.declared.fault.MapStop.TheVariants.{Refused, Device, Memory, Fault}
+use Rattle.tl_map_county.specs.Chains.{CompleteChain, IsProper, ChainList}
+use Rattle.tl_map_rules.specs.ChainsOf.{AreChainsOf, has_gap, pairs_of}
+use Rattle.tl_map_rules.specs.Faults.{IsTrueOf, HaveNoChainFault}
 use Rattle.tl_map.specs.Keeping.Entries.{chains_with, AreRising, ArePlaced}
 
 -- sorted entries can be joined

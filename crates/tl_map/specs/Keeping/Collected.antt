@@ -2,8 +2,8 @@
 use Rattle.std.specs.Prelude.{◌≡◌, ◌<◌, ◌≤◌, true, false, List, length}
 use Rattle.tl_record.specs.declared.record.Record.{Record}
 use Rattle.tl_map.specs.declared.collect.Collected.{Collected}
-use Rattle.tl_county.specs.declared.limits.TheConstants.{CHAIN_LIMIT}
-use Rattle.tl_drawn.specs.ChainsOf.{chain_count}
+use Rattle.tl_map_county.specs.declared.limits.TheConstants.{CHAIN_LIMIT}
+use Rattle.tl_map_rules.specs.ChainsOf.{chain_count}
 use Rattle.tl_map.specs.Keeping.Entries.{AreChainEntries, AreShapeEntries}
 
 -- the records are kept; past the limit, the chains are not

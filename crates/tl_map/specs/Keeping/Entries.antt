@@ -4,12 +4,12 @@ use Rattle.std.specs.List.{dedup, flat_map}
 use Rattle.tl_geom.specs.declared.point.Point.{Point}
 use Rattle.tl_record.specs.declared.record.Record.{Record}
 use Rattle.tl_record.specs.declared.record.Record.TheVariants.{Chain, Shape}
-use Rattle.tl_drawn.specs.declared.entry.ChainEntry.{ChainEntry}
-use Rattle.tl_drawn.specs.declared.entry.ShapeEntry.{ShapeEntry}
-use Rattle.tl_drawn.specs.declared.entry.Fill.{Fill}
-use Rattle.tl_drawn.specs.declared.entry.Fill.TheVariants.{Full, Ended, Gap}
-use Rattle.tl_drawn.specs.ChainsOf.{same_point, used, has_gap}
-use Rattle.tl_county.specs.Chains.{CompleteChain}
+use Rattle.tl_map_rules.specs.declared.entry.ChainEntry.{ChainEntry}
+use Rattle.tl_map_rules.specs.declared.entry.ShapeEntry.{ShapeEntry}
+use Rattle.tl_map_rules.specs.declared.entry.Fill.{Fill}
+use Rattle.tl_map_rules.specs.declared.entry.Fill.TheVariants.{Full, Ended, Gap}
+use Rattle.tl_map_rules.specs.ChainsOf.{same_point, used, has_gap}
+use Rattle.tl_map_county.specs.Chains.{CompleteChain}
 
 -- is one of the pairs unused
 abbrev pub some_unused : List (Option Point) → Bool

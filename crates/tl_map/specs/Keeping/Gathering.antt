@@ -3,12 +3,12 @@ use Rattle.std.specs.Prelude.{◌≡◌, ℕ, List, ◌++◌, Option, Some, None
 use Rattle.tl_record.specs.declared.record.Record.{Record}
 use Rattle.tl_record.specs.Records.{Records}
 use Rattle.tl_map.specs.declared.collect.Collected.{Collected}
-use Rattle.tl_drawn.specs.declared.fault.MapStop.{MapStop}
-use Rattle.tl_drawn.specs.declared.fault.MapStop.TheVariants.{Refused, Device, Memory, Fault}
+use Rattle.tl_map_rules.specs.declared.fault.MapStop.{MapStop}
+use Rattle.tl_map_rules.specs.declared.fault.MapStop.TheVariants.{Refused, Device, Memory, Fault}
 use Rattle.tl_map.specs.declared.areas.AreaRecords.{AreaRecords}
 use Rattle.tl_map.specs.Keeping.Areas.{KeepsAreas}
 use Rattle.tl_map.specs.Keeping.Collected.{Collects}
-use Rattle.tl_drawn.specs.Reading.{records_in}
+use Rattle.tl_map_rules.specs.Reading.{records_in}
 
 -- the records so far, and what was to come at first is these and what comes now
 pub record GathersSoFar (at_first now : Option Records) (c : Collected) : Type 0 where

@@ -3,13 +3,13 @@ use Rattle.std.specs.Prelude.{◌≡◌, ℕ, Option, Some, List, ◌⊎◌, sli
 use Rattle.std.specs.declared.hash.RandomState.{RandomState}
 use Rattle.indexmap.specs.IndexMap.{IndexMap, index_of}
 use Rattle.tl_geom.specs.declared.point.Point.{Point}
-use Rattle.tl_county.specs.declared.polygons.Polygon.{Polygon}
-use Rattle.tl_key.specs.declared.key.PolyKey.{PolyKey}
-use Rattle.tl_drawn.specs.declared.fault.MapStop.{MapStop}
-use Rattle.tl_drawn.specs.declared.fault.MapStop.TheVariants.{Memory, Fault}
-use Rattle.tl_drawn.specs.declared.fault.RecordFault.TheVariants.{DuplicatePolygon}
-use Rattle.tl_drawn.specs.Faults.{StandsTwice}
-use Rattle.tl_drawn.specs.MapOf.{same_key}
+use Rattle.tl_map_county.specs.declared.polygons.Polygon.{Polygon}
+use Rattle.tl_record_key.specs.declared.key.PolyKey.{PolyKey}
+use Rattle.tl_map_rules.specs.declared.fault.MapStop.{MapStop}
+use Rattle.tl_map_rules.specs.declared.fault.MapStop.TheVariants.{Memory, Fault}
+use Rattle.tl_map_rules.specs.declared.fault.RecordFault.TheVariants.{DuplicatePolygon}
+use Rattle.tl_map_rules.specs.Faults.{StandsTwice}
+use Rattle.tl_map_rules.specs.MapOf.{same_key}
 
 -- a polygon as an entry of a map by keys
 abbrev pub entry_of : Polygon → PolyKey × Point

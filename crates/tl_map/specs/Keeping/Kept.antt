@@ -1,7 +1,7 @@
 -- Kept on the way: type I records in rows, and what some have beside them.
 use Rattle.std.specs.Prelude.{◌≤◌, ◌-◌, ◌==◌, false, None, if◌then◌else◌, List, length, slice_index_or}
-use Rattle.tl_county.specs.Kept.{given}
-use Rattle.tl_drawn.specs.declared.entry.SidesEntry.{SidesEntry}
+use Rattle.tl_map_county.specs.Kept.{given}
+use Rattle.tl_map_rules.specs.declared.entry.SidesEntry.{SidesEntry}
 use Rattle.tl_map.specs.declared.kept.SidesRow.{SidesRow}
 use Rattle.tl_map.specs.declared.kept.SidesMore.{SidesMore}
 

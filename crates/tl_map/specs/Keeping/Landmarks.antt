@@ -4,21 +4,21 @@ use Rattle.std.specs.declared.hash.RandomState.{RandomState}
 use Rattle.indexmap.specs.IndexMap.{IndexMap, index_of, keys, IsUnique}
 use Rattle.tl_geom.specs.declared.point.Point.{Point}
 use Rattle.std.specs.List.Sorted.{IsNonDecreasingBy, IsPermutation}
-use Rattle.tl_key.specs.declared.key.PolyKey.{PolyKey}
-use Rattle.tl_drawn.specs.declared.entry.LandmarkEntry.{LandmarkEntry}
-use Rattle.tl_drawn.specs.declared.entry.LinkEntry.{LinkEntry}
+use Rattle.tl_record_key.specs.declared.key.PolyKey.{PolyKey}
+use Rattle.tl_map_rules.specs.declared.entry.LandmarkEntry.{LandmarkEntry}
+use Rattle.tl_map_rules.specs.declared.entry.LinkEntry.{LinkEntry}
 use Rattle.tl_map.specs.declared.landmarks.Link.{Link}
-use Rattle.tl_drawn.specs.declared.fault.Limited.TheVariants.{Landmarks}
-use Rattle.tl_drawn.specs.declared.fault.RecordFault.TheVariants.{TooMany, LinkWithoutLandmark, LinkWithoutPolygon}
-use Rattle.tl_drawn.specs.declared.fault.MapStop.{MapStop}
-use Rattle.tl_drawn.specs.declared.fault.MapStop.TheVariants.{Memory, Fault}
-use Rattle.tl_county.specs.declared.landmarks.LinkedLandmarks.{LinkedLandmarks}
-use Rattle.tl_county.specs.declared.landmarks.LandmarkRow.{LandmarkRow}
-use Rattle.tl_drawn.specs.MapOf.{firsts, place_of, linked_to}
-use Rattle.tl_county.specs.TheMap.{MapLandmark}
-use Rattle.tl_county.specs.Limits.{most_landmarks}
+use Rattle.tl_map_rules.specs.declared.fault.Limited.TheVariants.{Landmarks}
+use Rattle.tl_map_rules.specs.declared.fault.RecordFault.TheVariants.{TooMany, LinkWithoutLandmark, LinkWithoutPolygon}
+use Rattle.tl_map_rules.specs.declared.fault.MapStop.{MapStop}
+use Rattle.tl_map_rules.specs.declared.fault.MapStop.TheVariants.{Memory, Fault}
+use Rattle.tl_map_county.specs.declared.landmarks.LinkedLandmarks.{LinkedLandmarks}
+use Rattle.tl_map_county.specs.declared.landmarks.LandmarkRow.{LandmarkRow}
+use Rattle.tl_map_rules.specs.MapOf.{firsts, place_of, linked_to}
+use Rattle.tl_map_county.specs.TheMap.{MapLandmark}
+use Rattle.tl_map_county.specs.Limits.{most_landmarks}
 use Rattle.tl_map.specs.Keeping.Index.{Numbers}
-use Rattle.tl_county.specs.Rows.{IsRow, polygons_at, landmarks_in}
+use Rattle.tl_map_county.specs.Rows.{IsRow, polygons_at, landmarks_in}
 
 -- the LANDs of records
 abbrev pub lands : List LandmarkEntry → List ℕ

@@ -3,21 +3,21 @@ use Rattle.std.specs.Prelude.{◌≡◌, ℕ, ◌⊎◌, List, All, length, map}
 use Rattle.std.specs.declared.hash.RandomState.{RandomState}
 use Rattle.indexmap.specs.IndexMap.{IndexMap, IsUnique}
 use Rattle.tl_geom.specs.declared.point.Point.{Point}
-use Rattle.tl_key.specs.declared.key.PolyKey.{PolyKey}
+use Rattle.tl_record_key.specs.declared.key.PolyKey.{PolyKey}
 use Rattle.tl_record.specs.declared.record.Record.{Record}
-use Rattle.tl_county.specs.declared.polygons.Polygon.{Polygon}
-use Rattle.tl_county.specs.declared.sides.ChainSides.{ChainSides}
-use Rattle.tl_county.specs.declared.landmarks.LinkedLandmarks.{LinkedLandmarks}
-use Rattle.tl_county.specs.Chains.{ChainList, tlids}
-use Rattle.tl_county.specs.TheMap.{TheMap}
-use Rattle.tl_county.specs.Sides.{AreSidesAmong}
-use Rattle.tl_county.specs.Rows.{sided, polygon_in, landmarks_in}
-use Rattle.tl_drawn.specs.declared.entry.SidesEntry.{SidesEntry}
-use Rattle.tl_drawn.specs.declared.entry.LandmarkEntry.{LandmarkEntry}
-use Rattle.tl_drawn.specs.declared.entry.LinkEntry.{LinkEntry}
-use Rattle.tl_drawn.specs.declared.fault.MapStop.{MapStop}
-use Rattle.tl_drawn.specs.MapOf.{IsMapOf, keys, same_key, sides_in}
-use Rattle.tl_drawn.specs.Faults.{HaveNoFault}
+use Rattle.tl_map_county.specs.declared.polygons.Polygon.{Polygon}
+use Rattle.tl_map_county.specs.declared.sides.ChainSides.{ChainSides}
+use Rattle.tl_map_county.specs.declared.landmarks.LinkedLandmarks.{LinkedLandmarks}
+use Rattle.tl_map_county.specs.Chains.{ChainList, tlids}
+use Rattle.tl_map_county.specs.TheMap.{TheMap}
+use Rattle.tl_map_county.specs.Sides.{AreSidesAmong}
+use Rattle.tl_map_county.specs.Rows.{sided, polygon_in, landmarks_in}
+use Rattle.tl_map_rules.specs.declared.entry.SidesEntry.{SidesEntry}
+use Rattle.tl_map_rules.specs.declared.entry.LandmarkEntry.{LandmarkEntry}
+use Rattle.tl_map_rules.specs.declared.entry.LinkEntry.{LinkEntry}
+use Rattle.tl_map_rules.specs.declared.fault.MapStop.{MapStop}
+use Rattle.tl_map_rules.specs.MapOf.{IsMapOf, keys, same_key, sides_in}
+use Rattle.tl_map_rules.specs.Faults.{HaveNoFault}
 use Rattle.tl_map.specs.Keeping.Built.{AreBuilt}
 use Rattle.tl_map.specs.Keeping.Index.{entry_of, StopsIndex}
 use Rattle.tl_map.specs.Keeping.Sided.{ArePaired, sided_by, NamesKnown, StopsSides}

@@ -2,17 +2,17 @@
 use Rattle.std.specs.Prelude.{◌≡◌, ◌≢◌, ℕ, ◌+◌, ◌⊎◌, ◌<◌, ◌≤◌, if◌then◌else◌, List, [], ◌∷◌, ◌++◌, length, map, All, Any}
 use Rattle.std.specs.List.{dedup, flat_map}
 use Rattle.tl_geom.specs.declared.point.Point.{Point}
-use Rattle.tl_drawn.specs.declared.entry.ChainEntry.{ChainEntry}
-use Rattle.tl_drawn.specs.declared.entry.ShapeEntry.{ShapeEntry}
-use Rattle.tl_county.specs.declared.limits.TheConstants.{SEGMENT_LIMIT}
-use Rattle.tl_drawn.specs.declared.fault.Limited.TheVariants.{Segments}
-use Rattle.tl_drawn.specs.declared.fault.RecordFault.TheVariants.{DegenerateChain, TooMany}
-use Rattle.tl_drawn.specs.declared.fault.MapStop.{MapStop}
-use Rattle.tl_drawn.specs.declared.fault.MapStop.TheVariants.{Memory, Fault}
-use Rattle.tl_county.specs.declared.chains.ChainRow.{ChainRow}
-use Rattle.tl_county.specs.Chains.{CompleteChain, ChainList, segment_count}
-use Rattle.tl_county.specs.Rows.{IsTable, chains_in}
-use Rattle.tl_drawn.specs.ChainsOf.{same_point}
+use Rattle.tl_map_rules.specs.declared.entry.ChainEntry.{ChainEntry}
+use Rattle.tl_map_rules.specs.declared.entry.ShapeEntry.{ShapeEntry}
+use Rattle.tl_map_county.specs.declared.limits.TheConstants.{SEGMENT_LIMIT}
+use Rattle.tl_map_rules.specs.declared.fault.Limited.TheVariants.{Segments}
+use Rattle.tl_map_rules.specs.declared.fault.RecordFault.TheVariants.{DegenerateChain, TooMany}
+use Rattle.tl_map_rules.specs.declared.fault.MapStop.{MapStop}
+use Rattle.tl_map_rules.specs.declared.fault.MapStop.TheVariants.{Memory, Fault}
+use Rattle.tl_map_county.specs.declared.chains.ChainRow.{ChainRow}
+use Rattle.tl_map_county.specs.Chains.{CompleteChain, ChainList, segment_count}
+use Rattle.tl_map_county.specs.Rows.{IsTable, chains_in}
+use Rattle.tl_map_rules.specs.ChainsOf.{same_point}
 use Rattle.tl_map.specs.Keeping.Entries.{entry_points, joined}
 
 -- what dedup leaves of the points that follow p

@@ -1,16 +1,16 @@
 -- Kept on the way: type I records by TLID, and the sides that their keys name.
 use Rattle.std.specs.Prelude.{◌≡◌, ℕ, ◌≤◌, ◌==◌, Option, Some, List, ◌⊎◌, map, count_by, Any, Contains}
-use Rattle.tl_key.specs.declared.key.PolyKey.{PolyKey}
-use Rattle.tl_drawn.specs.declared.entry.SidesEntry.{SidesEntry}
-use Rattle.tl_county.specs.declared.sides.ChainSides.{ChainSides}
-use Rattle.tl_county.specs.declared.sides.Side.{Side}
-use Rattle.tl_drawn.specs.declared.fault.MapStop.{MapStop}
-use Rattle.tl_drawn.specs.declared.fault.MapStop.TheVariants.{Memory, Fault}
-use Rattle.tl_drawn.specs.declared.fault.RecordFault.{RecordFault}
-use Rattle.tl_drawn.specs.declared.fault.RecordFault.TheVariants.{SideWithoutPolygon, ChainWithoutSides, SidesWithoutChain, DuplicateSides}
+use Rattle.tl_record_key.specs.declared.key.PolyKey.{PolyKey}
+use Rattle.tl_map_rules.specs.declared.entry.SidesEntry.{SidesEntry}
+use Rattle.tl_map_county.specs.declared.sides.ChainSides.{ChainSides}
+use Rattle.tl_map_county.specs.declared.sides.Side.{Side}
+use Rattle.tl_map_rules.specs.declared.fault.MapStop.{MapStop}
+use Rattle.tl_map_rules.specs.declared.fault.MapStop.TheVariants.{Memory, Fault}
+use Rattle.tl_map_rules.specs.declared.fault.RecordFault.{RecordFault}
+use Rattle.tl_map_rules.specs.declared.fault.RecordFault.TheVariants.{SideWithoutPolygon, ChainWithoutSides, SidesWithoutChain, DuplicateSides}
 use Rattle.std.specs.List.Sorted.{IsPermutation}
-use Rattle.tl_drawn.specs.Faults.{Names}
-use Rattle.tl_drawn.specs.MapOf.{side_of}
+use Rattle.tl_map_rules.specs.Faults.{Names}
+use Rattle.tl_map_rules.specs.MapOf.{side_of}
 
 -- what lies on the sides of a record's chain
 abbrev pub sided_by : List PolyKey → SidesEntry → ChainSides

@@ -1,7 +1,7 @@
 -- The trees that boxed nodes are.
 use Rattle.tl_tree.specs.declared.branch.Branch.{Branch}
 use Rattle.tl_tree.specs.declared.branch.Branch.TheVariants.{End, Leaf', Inner'}
-use Rattle.tl_index.specs.Trees.{Forest, none, leaf, inner}
+use Rattle.tl_tree_index.specs.Trees.{Forest, none, leaf, inner}
 
 -- the trees, without the boxes
 abbrev pub forest_of : Branch → Forest

@@ -2,14 +2,14 @@
 use Rattle.std.specs.Prelude.{ℕ, Bool, ◌≤◌, ◌+◌, ◌-◌, ◌↔◌, List, length, Result, Ok, Err}
 use Rattle.tl_geom.specs.declared.rect.Rect.{Rect}
 use Rattle.tl_geom.specs.Rectangle.{Covers}
-use Rattle.tl_index.specs.declared.fault.TreeFault.{TreeFault}
-use Rattle.tl_index.specs.declared.fault.TreeFault.TheVariants.{UnknownIndex, IndexTwice, IndexMissing, RectTooSmall}
+use Rattle.tl_tree_index.specs.declared.fault.TreeFault.{TreeFault}
+use Rattle.tl_tree_index.specs.declared.fault.TreeFault.TheVariants.{UnknownIndex, IndexTwice, IndexMissing, RectTooSmall}
 use Rattle.tl_tree.specs.declared.walk.Below.{Below}
 use Rattle.tl_tree.specs.declared.walk.Below.TheVariants.{Items, Children}
-use Rattle.tl_index.specs.Fits.{CoversAll, CoversBelow, IsTooSmall}
-use Rattle.tl_index.specs.Hits.{times}
-use Rattle.tl_index.specs.Trees.{Forest, leaf_items}
-use Rattle.tl_index.specs.Keeping.Marked.{mark_at, AreMarked}
+use Rattle.tl_tree_index.specs.Fits.{CoversAll, CoversBelow, IsTooSmall}
+use Rattle.tl_tree_index.specs.Hits.{times}
+use Rattle.tl_tree_index.specs.Trees.{Forest, leaf_items}
+use Rattle.tl_tree_index.specs.Keeping.Marked.{mark_at, AreMarked}
 use Rattle.tl_tree.specs.Keeping.Walking.{items_below, CoveredBelow}
 
 -- the rectangle is covered exactly where the bounds of all items are

@@ -2,9 +2,9 @@
 use Rattle.std.specs.Prelude.{◌≡◌, ℕ, ◌+◌, ◌≤◌, List, [], ◌∷◌, ◌++◌, length, take, Option, None, Some}
 use Rattle.tl_geom.specs.declared.rect.Rect.{Rect}
 use Rattle.tl_tree.specs.declared.walk.Tree.{Tree}
-use Rattle.tl_index.specs.Pairs.{meeting, cross_sum, pair_sum, AllCross, AllPairs, AreFree}
-use Rattle.tl_index.specs.Fits.{AreBelow}
-use Rattle.tl_index.specs.Trees.{Forest, none, leaf, inner, leaf_items}
+use Rattle.tl_tree_index.specs.Pairs.{meeting, cross_sum, pair_sum, AllCross, AllPairs, AreFree}
+use Rattle.tl_tree_index.specs.Fits.{AreBelow}
+use Rattle.tl_tree_index.specs.Trees.{Forest, none, leaf, inner, leaf_items}
 use Rattle.tl_tree.specs.Keeping.Walking.{followed, AreSound}
 
 -- the items of the first tree

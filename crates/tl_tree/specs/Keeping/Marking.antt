@@ -5,7 +5,7 @@ use Rattle.tl_geom.specs.declared.rect.Rect.{Rect}
 use Rattle.tl_geom.specs.declared.rect8.Rect8.{Rect8}
 use Rattle.tl_geom.specs.EightRectangles.{lane}
 use Rattle.tl_geom.specs.Rectangle.{AreMeeting, nothing}
-use Rattle.tl_index.specs.Trees.{Forest, none, leaf, inner}
+use Rattle.tl_tree_index.specs.Trees.{Forest, none, leaf, inner}
 
 -- each of the first eight numbers of which P is true is marked
 abbrev pub Includes : ℕ → (ℕ → Type 0) → Type 0

@@ -4,7 +4,7 @@ use Rattle.std.specs.Prelude.{◌≡◌, ℕ, ◌+◌, ◌/◌, ◌%◌, ◌<◌
 use Rattle.std.specs.Int.{bit_at}
 use Rattle.tl_geom.specs.declared.rect.Rect.{Rect}
 use Rattle.tl_geom.specs.Rectangle.{AreMeeting}
-use Rattle.tl_index.specs.Pairs.{cross_sum, AllCross}
+use Rattle.tl_tree_index.specs.Pairs.{cross_sum, AllCross}
 
 -- where the other item of a cell stands
 abbrev pub partner : ℕ → ℕ

@@ -1,7 +1,7 @@
 -- The numbers of nodes of subtrees that a flat tree keeps.
 use Rattle.std.specs.Prelude.{◌≡◌, ℕ, ◌<◌, ◌≤◌, List, length, drop, slice_index}
-use Rattle.tl_index.specs.declared.node.TreeNode.{TreeNode}
-use Rattle.tl_index.specs.Trees.{trees_of, first_trees, node_count}
+use Rattle.tl_tree_index.specs.declared.node.TreeNode.{TreeNode}
+use Rattle.tl_tree_index.specs.Trees.{trees_of, first_trees, node_count}
 
 -- the number of nodes of the tree whose root is node k
 abbrev pub size_at : List TreeNode → ℕ → ℕ

@@ -4,15 +4,15 @@ use Rattle.tl_geom.specs.declared.rect.Rect.{Rect}
 use Rattle.tl_tree.specs.declared.walk.Tree.{Tree}
 use Rattle.tl_tree.specs.declared.walk.Below.{Below}
 use Rattle.tl_tree.specs.declared.walk.Below.TheVariants.{Items, Children}
-use Rattle.tl_index.specs.declared.items.Search.{Search}
-use Rattle.tl_index.specs.declared.items.Search.TheVariants.{Found, Clear, Budget}
-use Rattle.tl_index.specs.declared.items.Conflict.{Conflict}
+use Rattle.tl_tree_index.specs.declared.items.Search.{Search}
+use Rattle.tl_tree_index.specs.declared.items.Search.TheVariants.{Found, Clear, Budget}
+use Rattle.tl_tree_index.specs.declared.items.Conflict.{Conflict}
 use Rattle.tl_tree.specs.declared.search.Progress.{Progress}
-use Rattle.tl_index.specs.Pairs.{meeting}
-use Rattle.tl_index.specs.Searches.{IsConflict, IsFreePair}
-use Rattle.tl_index.specs.Hits.{times}
-use Rattle.tl_index.specs.Fits.{AreBelow, CoversAll, CoversBelow}
-use Rattle.tl_index.specs.Trees.{Forest, none, leaf, inner, leaf_items, node_count}
+use Rattle.tl_tree_index.specs.Pairs.{meeting}
+use Rattle.tl_tree_index.specs.Searches.{IsConflict, IsFreePair}
+use Rattle.tl_tree_index.specs.Hits.{times}
+use Rattle.tl_tree_index.specs.Fits.{AreBelow, CoversAll, CoversBelow}
+use Rattle.tl_tree_index.specs.Trees.{Forest, none, leaf, inner, leaf_items, node_count}
 
 -- a tree with this rectangle and others behind it, where trees of a kind W are seen as trees
 abbrev pub followed : {W : Type 0} → (W → Forest) → Rect → Below W → Forest → Forest

@@ -1,4 +1,4 @@
-use Rattle.tl_sides.specs.Keeping.Walked.{AreReady}
+use Rattle.tl_check_sides.specs.Keeping.Walked.{AreReady}
 use Rattle.bench.proofs.sides.follow.Given as goal
 
 -- there is room

@@ -1,5 +1,5 @@
 use Rattle.std.proofs.Common.{ℕ, List}
-use Rattle.tl_sides.specs.Keeping.Rounded.{AreSized, HaveTaken}
+use Rattle.tl_check_sides.specs.Keeping.Rounded.{AreSized, HaveTaken}
 use Rattle.bench.proofs.sides.next_of.Given as goal
 
 -- some rounds were taken

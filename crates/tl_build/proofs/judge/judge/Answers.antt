@@ -1,13 +1,13 @@
 use Rattle.std.proofs.Common.{length, refl, subst, Ok, arith, false}
 use Rattle.std.proofs.lemmas.Result.{err_from_is_err_and}
-use Rattle.tl_county.specs.Segments.{segments_before}
-use Rattle.tl_planar.specs.Planar.{IsPlanar}
-use Rattle.tl_planar.specs.Rectangles.{segment_rect}
-use Rattle.tl_verdict.specs.Verdicts.{OnSound, OnSoundButFaces, IfSound, IfMapFault, IfCertFault, IsReport}
-use Rattle.tl_verdict.specs.Sound.{IsSound}
-use Rattle.tl_verdict.specs.Valid.{IsValid}
-use Rattle.tl_verdict.specs.Truth.{IsTrueOfMap, IsTrueOfCert, IsOfDarts}
-use Rattle.tl_verdict.specs.declared.verdict.Verdict.{Verdict}
+use Rattle.tl_map_county.specs.Segments.{segments_before}
+use Rattle.tl_check_planar.specs.Planar.{IsPlanar}
+use Rattle.tl_check_planar.specs.Rectangles.{segment_rect}
+use Rattle.tl_check_verdict.specs.Verdicts.{OnSound, OnSoundButFaces, IfSound, IfMapFault, IfCertFault, IsReport}
+use Rattle.tl_check_verdict.specs.Sound.{IsSound}
+use Rattle.tl_check_verdict.specs.Valid.{IsValid}
+use Rattle.tl_check_verdict.specs.Truth.{IsTrueOfMap, IsTrueOfCert, IsOfDarts}
+use Rattle.tl_check_verdict.specs.declared.verdict.Verdict.{Verdict}
 use Rattle.tl_build.proofs.Budgets.{never_beyond, memory_alone}
 use Rattle.tl_build.proofs.Proposals.{no_fault}
 use Rattle.tl_build.proofs.judge.judge.Goals as goal

@@ -1,5 +1,5 @@
 use Rattle.std.proofs.Common.{◌↔◌, false}
-use Rattle.tl_verdict.specs.Sound.{IsSound, IsSoundFor}
+use Rattle.tl_check_verdict.specs.Sound.{IsSound, IsSoundFor}
 use Rattle.tl_build.specs.Building.{HasCert}
 use Rattle.tl_build.proofs.Decided.{cert_leads, built_leads, sound_alone}
 use Rattle.tl_build.proofs.of_map.build.Goals as goal

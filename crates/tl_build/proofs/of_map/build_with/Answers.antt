@@ -1,8 +1,8 @@
 use Rattle.std.proofs.Common.{◌≡◌, ◌≤◌}
-use Rattle.tl_index.specs.Trees.{depth, tree_of}
-use Rattle.tl_pack.specs.Packed.{IsEvenlySplit}
-use Rattle.tl_verdict.specs.Sound.{IsSoundFor}
-use Rattle.tl_verdict.specs.Valid.{IsValid}
+use Rattle.tl_tree_index.specs.Trees.{depth, tree_of}
+use Rattle.tl_tree_pack.specs.Packed.{IsEvenlySplit}
+use Rattle.tl_check_verdict.specs.Sound.{IsSoundFor}
+use Rattle.tl_check_verdict.specs.Valid.{IsValid}
 use Rattle.tl_build.proofs.Decided.{on_cert, if_cert, if_fault, built_exactly, built_stops}
 use Rattle.tl_build.proofs.of_map.build_with.Goals as goal
 

@@ -3,8 +3,8 @@ use Rattle.std.proofs.Common.{◌↔◌, false}
 use Rattle.std.proofs.lemmas.Option.{IfSome_then}
 use Rattle.tl_record.specs.Layout.{tiger_2006}
 use Rattle.tl_record.specs.Records.{records_of}
-use Rattle.tl_verdict.specs.Sound.{IsSoundFor}
-use Rattle.tl_verdict.specs.Records.{HaveMap}
+use Rattle.tl_check_verdict.specs.Sound.{IsSoundFor}
+use Rattle.tl_check_verdict.specs.Records.{HaveMap}
 use Rattle.tl_build.specs.Auditing.{SaysSound}
 use Rattle.tl_build.proofs.Decided.{sound_leads, audit_leads, have_alone, have_for}
 use Rattle.tl_build.proofs.of_records.audit.Goals as goal

@@ -1,8 +1,8 @@
 use Rattle.std.proofs.Common.{ℕ, List}
 use Rattle.tl_record.specs.Layout.{layout_with}
 use Rattle.tl_record.specs.Records.{records_of}
-use Rattle.tl_verdict.specs.Sound.{IsSoundFor}
-use Rattle.tl_verdict.specs.Verdicts.{IsReport}
+use Rattle.tl_check_verdict.specs.Sound.{IsSoundFor}
+use Rattle.tl_check_verdict.specs.Verdicts.{IsReport}
 use Rattle.tl_build.proofs.Recorded.{if_sound, faulty, exactly, stops, tells, unspent}
 use Rattle.tl_build.proofs.of_records.audit_with.Goals as goal
 

@@ -1,5 +1,5 @@
-use Rattle.tl_propose.specs.Keeping.Lists.{lists_in}
-use Rattle.tl_propose.proofs.Soundness.{sound_by}
+use Rattle.tl_build_propose.specs.Keeping.Lists.{lists_in}
+use Rattle.tl_build_propose.proofs.Soundness.{sound_by}
 use Rattle.tl_build.proofs.Decided.{none_found, sound_where}
 use Rattle.tl_build.proofs.planar.find_fault.Goals as goal
 

@@ -1,4 +1,4 @@
-use Rattle.tl_propose.proofs.Soundness.{sound_by}
+use Rattle.tl_build_propose.proofs.Soundness.{sound_by}
 use Rattle.tl_build.proofs.Decided.{none_found, sound_where}
 use Rattle.tl_build.proofs.planar.find_fault_beside.Goals as goal
 

@@ -1,6 +1,6 @@
 use Rattle.std.proofs.Common.{Ok, false, subst}
-use Rattle.tl_output.proofs.StopLemmas.{by_stop}
-use Rattle.tl_verdict.proofs.Denials.{not_sound_alone}
+use Rattle.tl_cert_output.proofs.StopLemmas.{by_stop}
+use Rattle.tl_check_verdict.proofs.Denials.{not_sound_alone}
 use Rattle.tl_build.specs.Auditing.{IsMemoryStop}
 use Rattle.tl_build.specs.Keeping.Deciding.{AuditsFor}
 use Rattle.tl_build.proofs.walks.find_walks.Goals as goal

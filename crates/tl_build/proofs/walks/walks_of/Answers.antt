@@ -1,5 +1,5 @@
-use Rattle.tl_output.specs.declared.stop.Stop.TheVariants.{Memory}
-use Rattle.tl_output.proofs.StopLemmas.{by_stop}
+use Rattle.tl_cert_output.specs.declared.stop.Stop.TheVariants.{Memory}
+use Rattle.tl_cert_output.proofs.StopLemmas.{by_stop}
 use Rattle.tl_build.specs.Auditing.{IsMemoryStop}
 use Rattle.tl_build.proofs.walks.walks_of.Goals as goal
 

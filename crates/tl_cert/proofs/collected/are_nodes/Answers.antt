@@ -1,6 +1,6 @@
 use Rattle.std.proofs.Common.{below_more, get_or, subst, sym, refl, ◌∙◌, arith}
 use Rattle.std.proofs.lemmas.List.{get_or_default}
-use Rattle.tl_index.specs.declared.node.TreeNode.{TreeNode}
+use Rattle.tl_tree_index.specs.declared.node.TreeNode.{TreeNode}
 use Rattle.tl_cert.specs.Certificates.{IsNode}
 use Rattle.tl_cert.proofs.collected.are_nodes.Goals as goal
 

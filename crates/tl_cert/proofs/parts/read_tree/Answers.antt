@@ -1,6 +1,6 @@
 use Rattle.std.proofs.Common.{◌≡◌, ◌∷◌, [], ◌+◌, ◌-◌, ℕ, suc, Vec, refl, sym, subst, ◌∙◌, length, arith}
 use Rattle.std.specs.Global.{Global}
-use Rattle.tl_index.specs.declared.node.TreeNode.{TreeNode}
+use Rattle.tl_tree_index.specs.declared.node.TreeNode.{TreeNode}
 use Rattle.tl_cert.specs.Text.{numbered_line, nodes_lines, tree_lines}
 use Rattle.tl_cert.specs.Keeping.Lines.{TakesLines}
 use Rattle.tl_cert.specs.Keeping.Parts.{IsTree, IsNodeRead, IsTreeSoFar}

@@ -1,5 +1,5 @@
 use Rattle.std.proofs.Common.{ℕ, ◌<◌, slice_index_or}
-use Rattle.tl_index.specs.declared.node.TreeNode.{TreeNode}
+use Rattle.tl_tree_index.specs.declared.node.TreeNode.{TreeNode}
 use Rattle.tl_cert.specs.Certificates.{IsNodeInRange}
 use Rattle.tl_cert.proofs.range.look_at_nodes.Given as goal
 

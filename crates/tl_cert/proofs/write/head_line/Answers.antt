@@ -1,5 +1,5 @@
 use Rattle.std.proofs.Common.{inl, inr, sym, ap, ◌∙◌}
-use Rattle.tl_output.specs.Writing.{line_of}
+use Rattle.tl_cert_output.specs.Writing.{line_of}
 use Rattle.tl_cert.specs.Text.{head_line}
 use Rattle.tl_cert.proofs.KindLemmas.{head_one, head_two}
 use Rattle.tl_cert.proofs.write.head_line.Goals as goal

@@ -1,5 +1,5 @@
 use Rattle.std.proofs.Common.{Ok, Err}
-use Rattle.tl_output.proofs.PrinterLemmas.{ends_text, some_text}
+use Rattle.tl_cert_output.proofs.PrinterLemmas.{ends_text, some_text}
 use Rattle.tl_cert.proofs.write.write_cert.Goals as goal
 
 pub returns-in-Ok-clause-writes : goal.returns-in-Ok-clause-writes

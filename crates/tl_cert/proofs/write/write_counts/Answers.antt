@@ -1,5 +1,5 @@
 use Rattle.std.proofs.Common.{refl, arith}
-use Rattle.tl_output.proofs.PrinterLemmas.{as_text}
+use Rattle.tl_cert_output.proofs.PrinterLemmas.{as_text}
 use Rattle.tl_cert.proofs.PutLemmas.{put_slice}
 use Rattle.tl_cert.proofs.write.write_counts.Goals as goal
 

@@ -1,5 +1,5 @@
 use Rattle.std.proofs.Common.{◌∷◌, []}
-use Rattle.tl_output.proofs.PrinterLemmas.{both, as_text}
+use Rattle.tl_cert_output.proofs.PrinterLemmas.{both, as_text}
 use Rattle.tl_cert.proofs.WriteLemmas.{lists_counted}
 use Rattle.tl_cert.proofs.write.write_dart_lists.Goals as goal
 

@@ -1,5 +1,5 @@
 use Rattle.std.proofs.Common.{◌∷◌, [], sym, arith}
-use Rattle.tl_output.proofs.PrinterLemmas.{both, as_text}
+use Rattle.tl_cert_output.proofs.PrinterLemmas.{both, as_text}
 use Rattle.tl_cert.proofs.WriteLemmas.{lists_text, lists_joins, list_alone, text_next, text_all}
 use Rattle.tl_cert.proofs.write.write_each_dart_list.Goals as goal
 

@@ -1,6 +1,6 @@
 use Rattle.std.proofs.Common.{◌++◌, ap, ◌∙◌}
-use Rattle.tl_output.specs.Writing.{line_of}
-use Rattle.tl_output.proofs.PrinterLemmas.{both, as_text}
+use Rattle.tl_cert_output.specs.Writing.{line_of}
+use Rattle.tl_cert_output.proofs.PrinterLemmas.{both, as_text}
 use Rattle.tl_cert.specs.Text.{head_line, counts_line}
 use Rattle.tl_cert.proofs.WriteLemmas.{line_last}
 use Rattle.tl_cert.proofs.write.write_head.Goals as goal

@@ -1,5 +1,5 @@
 use Rattle.std.proofs.Common.{sym, arith}
-use Rattle.tl_output.proofs.PrinterLemmas.{both, as_text}
+use Rattle.tl_cert_output.proofs.PrinterLemmas.{both, as_text}
 use Rattle.tl_cert.proofs.WriteLemmas.{nodes_text, nodes_joins, text_next, text_all}
 use Rattle.tl_cert.proofs.write.write_nodes.Goals as goal
 

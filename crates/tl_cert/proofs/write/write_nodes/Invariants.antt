@@ -1,5 +1,5 @@
 use Rattle.std.proofs.Common.{take}
-use Rattle.tl_output.specs.Printing.{Prints}
+use Rattle.tl_cert_output.specs.Printing.{Prints}
 use Rattle.tl_cert.proofs.WriteLemmas.{nodes_text}
 use Rattle.tl_cert.proofs.write.write_nodes.Given as goal
 

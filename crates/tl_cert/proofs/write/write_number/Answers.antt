@@ -1,6 +1,6 @@
 use Rattle.std.proofs.Common.{◌≡◌, length, arith, rules}
 use Rattle.std.proofs.lemmas.Fmt.{length-decimal-le}
-use Rattle.tl_output.proofs.PrinterLemmas.{as_text}
+use Rattle.tl_cert_output.proofs.PrinterLemmas.{as_text}
 use Rattle.tl_cert.proofs.WriteLemmas.{line_slice}
 use Rattle.tl_cert.proofs.write.write_number.Goals as goal
 

@@ -1,5 +1,5 @@
 use Rattle.std.proofs.Common.{◌∷◌, [], ◌≡◌, ◌+◌, ◌-◌, arith}
-use Rattle.tl_output.proofs.PrinterLemmas.{both, as_text}
+use Rattle.tl_cert_output.proofs.PrinterLemmas.{both, as_text}
 use Rattle.tl_cert.proofs.WriteLemmas.{numbers_text, text_all}
 use Rattle.tl_cert.proofs.PutLemmas.{numbers_more}
 use Rattle.tl_cert.proofs.write.write_numbers.Goals as goal

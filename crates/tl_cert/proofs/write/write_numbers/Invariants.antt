@@ -1,5 +1,5 @@
 use Rattle.std.proofs.Common.{◌∷◌, [], ◌≤◌, ◌-◌, take, length}
-use Rattle.tl_output.specs.Printing.{Prints}
+use Rattle.tl_cert_output.specs.Printing.{Prints}
 use Rattle.tl_cert.proofs.WriteLemmas.{numbers_text}
 use Rattle.tl_cert.proofs.write.write_numbers.Given as goal
 

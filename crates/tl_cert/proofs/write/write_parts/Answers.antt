@@ -1,4 +1,4 @@
-use Rattle.tl_output.proofs.PrinterLemmas.{both, as_text}
+use Rattle.tl_cert_output.proofs.PrinterLemmas.{both, as_text}
 use Rattle.tl_cert.proofs.WriteLemmas.{parts_of}
 use Rattle.tl_cert.proofs.write.write_parts.Goals as goal
 

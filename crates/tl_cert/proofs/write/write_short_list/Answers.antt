@@ -1,6 +1,6 @@
 use Rattle.std.proofs.Common.{◌≡◌, ◌*◌, ◌∷◌, [], length, rules, arith}
-use Rattle.tl_output.specs.Writing.{line_of}
-use Rattle.tl_output.proofs.PrinterLemmas.{as_text}
+use Rattle.tl_cert_output.specs.Writing.{line_of}
+use Rattle.tl_cert_output.proofs.PrinterLemmas.{as_text}
 use Rattle.tl_cert.specs.Text.{numbered_line, dart_lines}
 use Rattle.tl_record.specs.Lines.{joined_lines}
 use Rattle.tl_cert.proofs.WriteLemmas.{line_first}

@@ -1,5 +1,5 @@
 use Rattle.std.proofs.Common.{length, codes}
-use Rattle.tl_output.proofs.PrinterLemmas.{both, as_text}
+use Rattle.tl_cert_output.proofs.PrinterLemmas.{both, as_text}
 use Rattle.tl_cert.specs.Text.{numbered_line, nodes_lines}
 use Rattle.tl_cert.proofs.WriteLemmas.{line_first}
 use Rattle.tl_cert.proofs.write.write_tree.Goals as goal

@@ -3,7 +3,7 @@ use Rattle.tl_cert.specs.Given.{with_part}
 use Rattle.tl_cert.specs.Reading.{Gives, source_of, standing_of}
 use Rattle.tl_cert.proofs.CollectLemmas.{tells_here}
 use Rattle.tl_check.specs.Keeping.Answers.{answer_of, stop_of}
-use Rattle.tl_verdict.specs.Valid.{AreCounts, IsTree}
+use Rattle.tl_check_verdict.specs.Valid.{AreCounts, IsTree}
 use Rattle.tl_check.proofs.Searched.{stopped_searched, stopped_behind, stopped_within, answered_behind, answered_within, ended_searched, searched_so}
 use Rattle.tl_check.proofs.Streaming.{stop_decides, part_read, end_decides, no_device, fewer_left}
 use Rattle.tl_check.proofs.Stopping.{stopped_tells, answered_tells, ended_decides}

@@ -2,8 +2,8 @@ use Rattle.std.proofs.Common.{◌≡◌}
 use Rattle.std.specs.Option.{IfSome}
 use Rattle.tl_cert.specs.Reading.{source_of, standing_of, unread}
 use Rattle.tl_cert.specs.Keeping.Collecting.{left_of}
-use Rattle.tl_verdict.specs.Valid.{AllowsSearch}
-use Rattle.tl_verdict.specs.Texts.{TextAllowsSearch}
+use Rattle.tl_check_verdict.specs.Valid.{AllowsSearch}
+use Rattle.tl_check_verdict.specs.Texts.{TextAllowsSearch}
 use Rattle.tl_check.specs.Keeping.Parts.{IsSearched, IsBehindSearch}
 use Rattle.tl_check.specs.Keeping.Streams.{Stands}
 use Rattle.tl_check.proofs.Meeting.{PlanarBy}

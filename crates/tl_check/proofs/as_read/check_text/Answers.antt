@@ -1,9 +1,9 @@
 use Rattle.std.proofs.Common.{subst, false}
 use Rattle.std.specs.Option.{IfSome}
-use Rattle.tl_planar.specs.Planar.{IsPlanar}
-use Rattle.tl_verdict.specs.Texts.{IsTrueOfText, IsValidText, TextAllowsSearch}
-use Rattle.tl_verdict.specs.Verdicts.{OnSound, IfCertFault, UnlessMeet, OnSearched}
-use Rattle.tl_verdict.specs.Sound.{IsSoundFor}
+use Rattle.tl_check_planar.specs.Planar.{IsPlanar}
+use Rattle.tl_check_verdict.specs.Texts.{IsTrueOfText, IsValidText, TextAllowsSearch}
+use Rattle.tl_check_verdict.specs.Verdicts.{OnSound, IfCertFault, UnlessMeet, OnSearched}
+use Rattle.tl_check_verdict.specs.Sound.{IsSoundFor}
 use Rattle.tl_check.proofs.Deciding.{is_sound, valid, reported, map_fault, cert_fault, stops}
 use Rattle.tl_check.proofs.Facing.{alone, but, sound_so}
 use Rattle.tl_check.proofs.as_read.check_text.Goals as goal

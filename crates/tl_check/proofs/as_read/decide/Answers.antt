@@ -1,4 +1,4 @@
-use Rattle.tl_verdict.specs.Sound.{IsSound}
+use Rattle.tl_check_verdict.specs.Sound.{IsSound}
 use Rattle.tl_check.proofs.Facing.{decided, sound_so, told}
 use Rattle.tl_check.proofs.as_read.decide.Goals as goal
 

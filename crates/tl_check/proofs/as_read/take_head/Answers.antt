@@ -3,7 +3,7 @@ use Rattle.tl_cert.specs.declared.place.NextPart.TheVariants.{Start, Counted, Tr
 use Rattle.tl_cert.specs.declared.place.CertPart.TheVariants as part
 use Rattle.tl_cert.specs.Reading.{source_of, standing_of}
 use Rattle.tl_cert.proofs.CollectLemmas.{tells_here}
-use Rattle.tl_verdict.specs.Valid.{AreCounts, IsTree}
+use Rattle.tl_check_verdict.specs.Valid.{AreCounts, IsTree}
 use Rattle.tl_check.proofs.Searched.{stopped_searched, stopped_behind, stopped_within, answered_behind, answered_within, halted_searched, reads_allowed}
 use Rattle.tl_check.proofs.Streaming.{stop_decides, nothing, begun, counts_read, tree_read, gives_as}
 use Rattle.tl_check.proofs.Stopping.{stopped_tells, answered_tells, halted_decides}

@@ -1,7 +1,7 @@
 use Rattle.std.proofs.Common.{◌≡◌, Bool, true, false, subst, sym, refl}
 use Rattle.std.specs.Prelude.{IsTrue}
-use Rattle.tl_verdict.proofs.NodeCounts.{one_counts}
-use Rattle.tl_verdict.specs.Valid.{AreCounts}
+use Rattle.tl_check_verdict.proofs.NodeCounts.{one_counts}
+use Rattle.tl_check_verdict.specs.Valid.{AreCounts}
 use Rattle.tl_check.proofs.counts.are_counts.Goals as goal
 
 pub returns : goal.returns

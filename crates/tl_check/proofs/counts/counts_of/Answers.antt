@@ -1,4 +1,4 @@
-use Rattle.tl_verdict.proofs.NodeCounts.{of_each}
+use Rattle.tl_check_verdict.proofs.NodeCounts.{of_each}
 use Rattle.tl_check.proofs.counts.counts_of.Goals as goal
 
 pub returns : goal.returns

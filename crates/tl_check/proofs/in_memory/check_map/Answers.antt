@@ -1,4 +1,4 @@
-use Rattle.tl_verdict.specs.Sound.{IsSound}
+use Rattle.tl_check_verdict.specs.Sound.{IsSound}
 use Rattle.tl_check.proofs.Facing.{sound_so}
 use Rattle.tl_check.proofs.in_memory.check_map.Goals as goal
 

@@ -1,7 +1,7 @@
 use Rattle.std.proofs.Common.{◌≡◌, length, refl, sym, subst, arith}
-use Rattle.tl_verdict.specs.Valid.{AreCounts, IsTree}
+use Rattle.tl_check_verdict.specs.Valid.{AreCounts, IsTree}
 use Rattle.tl_check.specs.Keeping.Parts.{Holds, UnlessMemory}
-use Rattle.tl_sides.proofs.Lent.{list_is}
+use Rattle.tl_check_sides.proofs.Lent.{list_is}
 use Rattle.tl_check.proofs.Prefixes.{first_rounds, first_walks, all_rounds, all_walks, as_many, round_taken, walk_taken, has_some}
 use Rattle.tl_check.proofs.Halting.{halted, ended, allowed_rounds, allowed_walks, concluded_shows}
 use Rattle.tl_check.proofs.Meeting.{halted_meets, meets_so, rounds_planar, walks_planar}

@@ -1,5 +1,5 @@
 use Rattle.std.proofs.Common.{false}
-use Rattle.tl_verdict.specs.Sound.{IsSoundFor}
+use Rattle.tl_check_verdict.specs.Sound.{IsSoundFor}
 use Rattle.tl_check.specs.Keeping.Read.{IsOfCert}
 use Rattle.tl_check.proofs.Halting.{is_sound, valid, within, reported, map_fault, cert_fault, behind, stops, searched}
 use Rattle.tl_check.proofs.Facing.{alone, but, decided, sound_so}

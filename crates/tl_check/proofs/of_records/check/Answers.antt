@@ -1,6 +1,6 @@
 use Rattle.std.proofs.lemmas.Option.{IfSome_then}
-use Rattle.tl_verdict.specs.Sound.{IsSound}
-use Rattle.tl_verdict.proofs.OneMap.{weaker}
+use Rattle.tl_check_verdict.specs.Sound.{IsSound}
+use Rattle.tl_check_verdict.proofs.OneMap.{weaker}
 use Rattle.tl_check.proofs.Facing.{sound_so}
 use Rattle.tl_check.proofs.of_records.check.Goals as goal
 

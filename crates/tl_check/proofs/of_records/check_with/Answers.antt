@@ -2,11 +2,11 @@ use Rattle.std.proofs.Common.{◌≤◌, ℕ, List}
 use Rattle.std.specs.Option.{IfSome}
 use Rattle.tl_record.specs.Layout.{layout_with}
 use Rattle.tl_record.specs.Records.{records_of}
-use Rattle.tl_planar.specs.Planar.{IsPlanar}
-use Rattle.tl_planar.specs.Searching.{meeting_segments}
-use Rattle.tl_verdict.specs.Sound.{IsSoundFor}
-use Rattle.tl_verdict.specs.Verdicts.{IsReport}
-use Rattle.tl_verdict.specs.Texts.{IsTrueOfText, IsValidText, TextAllowsSearch}
+use Rattle.tl_check_planar.specs.Planar.{IsPlanar}
+use Rattle.tl_check_planar.specs.Searching.{meeting_segments}
+use Rattle.tl_check_verdict.specs.Sound.{IsSoundFor}
+use Rattle.tl_check_verdict.specs.Verdicts.{IsReport}
+use Rattle.tl_check_verdict.specs.Texts.{IsTrueOfText, IsValidText, TextAllowsSearch}
 use Rattle.tl_check.proofs.Reading.{read_on_sound, read_but_faces, read_on_text, read_if_sound, read_map_fault, read_cert_fault, read_behind, read_meets}
 use Rattle.tl_check.proofs.Reading.{read_searched, read_stops, read_unread, read_tells}
 use Rattle.tl_check.proofs.of_records.check_with.Goals as goal

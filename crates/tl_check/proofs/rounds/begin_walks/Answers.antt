@@ -1,8 +1,8 @@
 use Rattle.std.proofs.Common.{refl, sym, subst, ap, ◌∙◌}
 use Rattle.std.proofs.lemmas.Result.{err_from_is_err_and}
-use Rattle.tl_sides.specs.Keeping.Walked.{HaveWalked}
-use Rattle.tl_sides.proofs.Headings.{dart_within}
-use Rattle.tl_rings.specs.Rings.{TheRings}
+use Rattle.tl_check_sides.specs.Keeping.Walked.{HaveWalked}
+use Rattle.tl_check_sides.proofs.Headings.{dart_within}
+use Rattle.tl_check_points.specs.Rings.{TheRings}
 use Rattle.tl_check.proofs.Walking.{none_boxed}
 use Rattle.tl_check.proofs.rounds.begin_walks.Goals as goal
 

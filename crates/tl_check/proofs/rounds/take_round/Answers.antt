@@ -1,5 +1,5 @@
 use Rattle.std.proofs.Common.{sym, subst}
-use Rattle.tl_sides.specs.Rounds.{IsRoundFault}
+use Rattle.tl_check_sides.specs.Rounds.{IsRoundFault}
 use Rattle.tl_check.specs.Keeping.Parts.{Holds, AreRoundsSoFar, IsSearched, IsBehindSearch}
 use Rattle.tl_check.proofs.Rounding.{round_laid, round_passed}
 use Rattle.tl_check.proofs.rounds.take_round.Goals as goal

@@ -1,7 +1,7 @@
 use Rattle.std.proofs.Common.{refl, sym, subst}
 use Rattle.std.proofs.lemmas.Result.{err_from_is_err_and}
-use Rattle.tl_sides.specs.Keeping.Rounded.{HaveTaken}
-use Rattle.tl_verdict.specs.Valid.{IsTree}
+use Rattle.tl_check_sides.specs.Keeping.Rounded.{HaveTaken}
+use Rattle.tl_check_verdict.specs.Valid.{IsTree}
 use Rattle.tl_check.proofs.Halting.{may_halt, so_unless_memory}
 use Rattle.tl_check.proofs.Meeting.{met_so}
 use Rattle.tl_check.proofs.Treed.{tree_fits, tree_is, fault_stays}

@@ -1,6 +1,6 @@
 use Rattle.std.proofs.Common.{◌≤◌, sym, subst}
-use Rattle.tl_index.specs.Trees.{depth, tree_of}
-use Rattle.tl_verdict.specs.Valid.{AreCounts, IsTree}
+use Rattle.tl_tree_index.specs.Trees.{depth, tree_of}
+use Rattle.tl_check_verdict.specs.Valid.{AreCounts, IsTree}
 use Rattle.tl_check.specs.Keeping.Parts.{LeadsBehindTree}
 use Rattle.tl_check.proofs.Treed.{too_deep_stays}
 use Rattle.tl_check.proofs.tree.take_tree.Goals as goal

@@ -1,6 +1,6 @@
 use Rattle.std.proofs.Common.{length, sym, subst, ap, ◌<◌, ◌^◌, ◌∙◌}
-use Rattle.tl_sides.specs.Walks.{AreWalks}
-use Rattle.tl_verdict.specs.Valid.{IsTree}
+use Rattle.tl_check_sides.specs.Walks.{AreWalks}
+use Rattle.tl_check_verdict.specs.Valid.{IsTree}
 use Rattle.tl_check.specs.Keeping.Parts.{IsWalked}
 use Rattle.tl_check.proofs.Searched.{answered_behind, answered_within, ended_searched}
 use Rattle.tl_check.proofs.Stopping.{ended_concludes}

@@ -1,6 +1,6 @@
 use Rattle.std.proofs.Common.{sym, subst}
 use Rattle.std.proofs.lemmas.Result.{err_from_is_err_and}
-use Rattle.tl_sides.specs.Walks.{IsWalkFault}
+use Rattle.tl_check_sides.specs.Walks.{IsWalkFault}
 use Rattle.tl_check.specs.Keeping.Parts.{Holds, AreWalksSoFar, IsSearched, IsBehindSearch}
 use Rattle.tl_check.proofs.Walking.{darts_known, walk_laid, walk_passed}
 use Rattle.tl_check.proofs.walks.take_walk.Goals as goal

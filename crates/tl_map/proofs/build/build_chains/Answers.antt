@@ -1,7 +1,7 @@
 use Rattle.std.proofs.Common.{◌≤◌, length, arith}
 use Rattle.std.proofs.lemmas.List.Elements.{All-weaker}
 use Rattle.std.proofs.lemmas.Result.{err_from_is_err_and}
-use Rattle.tl_county.specs.declared.limits.TheConstants.{CHAIN_LIMIT}
+use Rattle.tl_map_county.specs.declared.limits.TheConstants.{CHAIN_LIMIT}
 use Rattle.tl_map.specs.Keeping.Entries.{IsInside, IsShapeEntry}
 use Rattle.tl_map.specs.Keeping.Built.{AreSound}
 use Rattle.tl_map.proofs.ChainLemmas.{built, stops_joining}

@@ -1,7 +1,7 @@
 use Rattle.std.proofs.Common.{◌≤◌, ap, length, arith}
 use Rattle.std.proofs.lemmas.Result.{err_from_is_err_and}
-use Rattle.tl_drawn.specs.MapOf.{keys}
-use Rattle.tl_county.specs.Limits.{most_polygons}
+use Rattle.tl_map_rules.specs.MapOf.{keys}
+use Rattle.tl_map_county.specs.Limits.{most_polygons}
 use Rattle.tl_map.proofs.IndexLemmas.{few_entries}
 use Rattle.tl_map.proofs.MappedLemmas.{stops_indexed, linked_all, as_many}
 use Rattle.tl_map.proofs.build_map.build_map.Goals as goal

@@ -1,8 +1,8 @@
 use Rattle.std.proofs.Common.{◌≡◌, inl, inr, length, arith}
 use Rattle.std.proofs.lemmas.List.{length-map}
 use Rattle.std.proofs.lemmas.Result.{err_from_is_err_and}
-use Rattle.tl_county.specs.declared.polygons.Polygon.{Polygon}
-use Rattle.tl_drawn.specs.MapOf.{keys}
+use Rattle.tl_map_county.specs.declared.polygons.Polygon.{Polygon}
+use Rattle.tl_map_rules.specs.MapOf.{keys}
 use Rattle.tl_map.proofs.IndexLemmas.{index_keys, few_entries}
 use Rattle.tl_map.proofs.SideLemmas.{all_among}
 use Rattle.tl_map.proofs.build_map.index_sides.Goals as goal

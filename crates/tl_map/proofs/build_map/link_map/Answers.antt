@@ -2,8 +2,8 @@ use Rattle.std.proofs.Common.{inl, refl, ap, length, arith}
 use Rattle.std.proofs.lemmas.List.{length-map}
 use Rattle.std.proofs.lemmas.Result.{err_from_is_err_and}
 use Rattle.tl_geom.specs.declared.point.Point.{Point}
-use Rattle.tl_key.specs.declared.key.PolyKey.{PolyKey}
-use Rattle.tl_county.specs.Rows.{polygon_in}
+use Rattle.tl_record_key.specs.declared.key.PolyKey.{PolyKey}
+use Rattle.tl_map_county.specs.Rows.{polygon_in}
 use Rattle.tl_map.proofs.MappedLemmas.{few_rows}
 use Rattle.tl_map.proofs.OnceLemmas.{rows_once}
 use Rattle.tl_map.proofs.build_map.link_map.Goals as goal

@@ -1,6 +1,6 @@
 use Rattle.std.proofs.Common.{◌≡◌, ◌-◌, ◌≤◌, ap, length, arith}
 use Rattle.std.proofs.lemmas.List.{length-append}
-use Rattle.tl_drawn.specs.ChainsOf.{used}
+use Rattle.tl_map_rules.specs.ChainsOf.{used}
 use Rattle.tl_map.proofs.CollectLemmas.{AreShapeEntries-push, length-used}
 use Rattle.tl_map.proofs.collect.add_shape.Goals as goal
 

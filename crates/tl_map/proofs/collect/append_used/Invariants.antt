@@ -1,5 +1,5 @@
 use Rattle.std.proofs.Common.{◌≡◌, ◌++◌, take}
-use Rattle.tl_drawn.specs.ChainsOf.{used, has_gap}
+use Rattle.tl_map_rules.specs.ChainsOf.{used, has_gap}
 use Rattle.tl_map.specs.Keeping.Entries.{some_unused}
 use Rattle.tl_map.proofs.collect.append_used.Given as goal
 

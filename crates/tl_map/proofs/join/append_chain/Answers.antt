@@ -1,7 +1,7 @@
 use Rattle.std.proofs.lemmas.Result.{err_from_is_err_and}
 use Rattle.std.proofs.Common.{get_or}
-use Rattle.tl_drawn.specs.declared.entry.ShapeEntry.{ShapeEntry}
-use Rattle.tl_drawn.specs.declared.entry.Fill.TheVariants.{Full}
+use Rattle.tl_map_rules.specs.declared.entry.ShapeEntry.{ShapeEntry}
+use Rattle.tl_map_rules.specs.declared.entry.Fill.TheVariants.{Full}
 use Rattle.tl_map.proofs.RowLemmas.{appended_run, appended_end, cut_points}
 use Rattle.tl_map.proofs.join.append_chain.Goals as goal
 

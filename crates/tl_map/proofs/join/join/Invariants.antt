@@ -1,9 +1,9 @@
 use Rattle.std.proofs.Common.{◌≡◌, ◌≢◌, ℕ, ◌+◌, ◌<◌, ◌≤◌, length, get_or, map, take}
-use Rattle.tl_drawn.specs.declared.entry.ChainEntry.{ChainEntry}
-use Rattle.tl_drawn.specs.declared.entry.ShapeEntry.{ShapeEntry}
-use Rattle.tl_county.specs.declared.limits.TheConstants.{SEGMENT_LIMIT}
+use Rattle.tl_map_rules.specs.declared.entry.ChainEntry.{ChainEntry}
+use Rattle.tl_map_rules.specs.declared.entry.ShapeEntry.{ShapeEntry}
+use Rattle.tl_map_county.specs.declared.limits.TheConstants.{SEGMENT_LIMIT}
 use Rattle.tl_map.specs.Keeping.Entries.{joined}
-use Rattle.tl_county.specs.Rows.{IsTable, chains_in}
+use Rattle.tl_map_county.specs.Rows.{IsTable, chains_in}
 use Rattle.tl_map.proofs.join.join.Given as goal
 
 abbrev pub invariant-loop-chain : goal.invariant-loop-chain

@@ -3,7 +3,7 @@ use Rattle.std.proofs.Common.{◌≡◌, ◌≢◌, ◌∙◌, ℕ, ◌-◌, ◌
 use Rattle.std.proofs.lemmas.Bool.{cases_lt}
 use Rattle.std.proofs.lemmas.List.{length-append}
 use Rattle.tl_map.specs.declared.landmarks.Link.{Link}
-use Rattle.tl_drawn.specs.MapOf.{firsts}
+use Rattle.tl_map_rules.specs.MapOf.{firsts}
 use Rattle.tl_map.specs.Keeping.Landmarks.{links_to}
 use Rattle.tl_map.proofs.ListedLemmas.{run_of, above_links, row_more, part_inside}
 use Rattle.tl_map.proofs.landmarks.append_rows.Goals as goal

@@ -3,10 +3,10 @@ use Rattle.std.specs.Prelude.{nat_eq}
 use Rattle.std.proofs.lemmas.List.{length-map}
 use Rattle.std.specs.Cmp.{nat_eq_equiv}
 use Rattle.tl_geom.specs.declared.point.Point.{Point}
-use Rattle.tl_key.specs.declared.key.PolyKey.{PolyKey}
+use Rattle.tl_record_key.specs.declared.key.PolyKey.{PolyKey}
 use Rattle.std.proofs.lemmas.Result.{err_from_is_err_and}
 use Rattle.indexmap.specs.IndexMap.{keys}
-use Rattle.tl_drawn.specs.MapOf.{same_key}
+use Rattle.tl_map_rules.specs.MapOf.{same_key}
 use Rattle.tl_map.proofs.IndexLemmas.{numbers_keys, key_laws, same_key-is}
 use Rattle.tl_map.proofs.LinkedLemmas.{links_inside}
 use Rattle.tl_map.proofs.landmarks.link_landmarks.Goals as goal

@@ -1,5 +1,5 @@
 use Rattle.std.proofs.Common.{◌≡◌, ℕ, List, length}
-use Rattle.tl_key.specs.declared.key.PolyKey.{PolyKey}
+use Rattle.tl_record_key.specs.declared.key.PolyKey.{PolyKey}
 use Rattle.tl_map.specs.Keeping.Index.{Indexes}
 use Rattle.tl_map.specs.Keeping.Landmarks.{IndexesLands, AreLinks}
 use Rattle.tl_map.proofs.landmarks.resolve_links.Given as goal

@@ -1,8 +1,8 @@
 use Rattle.std.proofs.Common.{◌≡◌, ℕ, ◌-◌, ◌<◌, get_or, List, false, take}
 use Rattle.tl_geom.specs.declared.point.Point.{Point}
 use Rattle.tl_record.specs.declared.record.Record.{Record}
-use Rattle.tl_drawn.specs.declared.entry.ShapeEntry.{ShapeEntry}
-use Rattle.tl_drawn.specs.ChainsOf.{has_gap, pairs_up_to}
+use Rattle.tl_map_rules.specs.declared.entry.ShapeEntry.{ShapeEntry}
+use Rattle.tl_map_rules.specs.ChainsOf.{has_gap, pairs_up_to}
 use Rattle.tl_map.specs.Keeping.Entries.{some_unused, shapes_with, AreShapeEntries}
 use Rattle.tl_map.proofs.passes.gap_tlid.Given as goal
 

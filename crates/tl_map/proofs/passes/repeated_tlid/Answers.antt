@@ -1,6 +1,6 @@
 use Rattle.std.proofs.Common.{◌∙◌, pos, sym, refl, arith}
-use Rattle.tl_drawn.specs.declared.entry.ChainEntry.{ChainEntry}
-use Rattle.tl_drawn.proofs.CountLemmas.{repeat_found, rising_pairs, last_key, rising_more}
+use Rattle.tl_map_rules.specs.declared.entry.ChainEntry.{ChainEntry}
+use Rattle.tl_map_rules.proofs.CountLemmas.{repeat_found, rising_pairs, last_key, rising_more}
 use Rattle.tl_map.proofs.passes.repeated_tlid.Goals as goal
 
 pub returns-then-eq : goal.returns-then-eq

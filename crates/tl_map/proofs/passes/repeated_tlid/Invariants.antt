@@ -1,6 +1,6 @@
 use Rattle.std.proofs.Common.{◌≡◌, ℕ, ◌+◌, ◌-◌, ◌<◌, get_or}
 use Rattle.std.specs.Prelude.{IfNone, IfSome}
-use Rattle.tl_drawn.specs.declared.entry.ChainEntry.{ChainEntry}
+use Rattle.tl_map_rules.specs.declared.entry.ChainEntry.{ChainEntry}
 use Rattle.tl_map.proofs.passes.repeated_tlid.Given as goal
 
 abbrev pub invariant-loop-chain : goal.invariant-loop-chain

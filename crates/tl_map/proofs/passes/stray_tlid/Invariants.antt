@@ -1,6 +1,6 @@
 use Rattle.std.proofs.Common.{ℕ, ◌-◌, ◌<◌, ◌≤◌, length, get_or}
-use Rattle.tl_drawn.specs.declared.entry.ChainEntry.{ChainEntry}
-use Rattle.tl_drawn.specs.declared.entry.ShapeEntry.{ShapeEntry}
+use Rattle.tl_map_rules.specs.declared.entry.ChainEntry.{ChainEntry}
+use Rattle.tl_map_rules.specs.declared.entry.ShapeEntry.{ShapeEntry}
 use Rattle.tl_map.specs.Keeping.Entries.{chains_with}
 use Rattle.tl_map.proofs.passes.stray_tlid.Given as goal
 

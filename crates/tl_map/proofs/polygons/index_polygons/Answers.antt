@@ -4,11 +4,11 @@ use Rattle.std.specs.Map.{lookup}
 use Rattle.std.proofs.lemmas.List.{map_more, take_all}
 use Rattle.indexmap.specs.IndexMap.{get}
 use Rattle.indexmap.proofs.CallerLemmas.{insert_entry-new}
-use Rattle.tl_county.specs.declared.polygons.Polygon.{Polygon}
-use Rattle.tl_drawn.specs.MapOf.{same_key}
+use Rattle.tl_map_county.specs.declared.polygons.Polygon.{Polygon}
+use Rattle.tl_map_rules.specs.MapOf.{same_key}
 use Rattle.tl_map.specs.Keeping.Index.{entry_of}
 use Rattle.tl_map.proofs.IndexLemmas.{twice_told, none_told}
-use Rattle.tl_county.proofs.PlaceLemmas.{slice_get-image}
+use Rattle.tl_map_county.proofs.PlaceLemmas.{slice_get-image}
 use Rattle.tl_map.proofs.polygons.index_polygons.Goals as goal
 
 pub returns-then-is_some-clause-stops : goal.returns-then-is_some-clause-stops

@@ -1,6 +1,6 @@
 use Rattle.std.proofs.Common.{◌≡◌, map, take}
 use Rattle.indexmap.specs.IndexMap.{IsUnique}
-use Rattle.tl_drawn.specs.MapOf.{same_key}
+use Rattle.tl_map_rules.specs.MapOf.{same_key}
 use Rattle.tl_map.specs.Keeping.Index.{entry_of}
 use Rattle.tl_map.proofs.polygons.index_polygons.Given as goal
 

@@ -2,8 +2,8 @@ use Rattle.std.proofs.Common.{◌∙◌, ◌++◌, ◌∷◌, [], pos, map, take
 use Rattle.std.proofs.lemmas.List.{map_more}
 use Rattle.std.proofs.lemmas.Option.{slice_get-get_or, get_or_from_slice_get}
 use Rattle.tl_geom.specs.declared.point.Point.{Point}
-use Rattle.tl_key.specs.declared.key.PolyKey.{PolyKey}
-use Rattle.tl_county.specs.Rows.{polygon_in}
+use Rattle.tl_record_key.specs.declared.key.PolyKey.{PolyKey}
+use Rattle.tl_map_county.specs.Rows.{polygon_in}
 use Rattle.tl_map.proofs.polygons.polygons_of.Goals as goal
 
 pub unreachable-requires : goal.unreachable-requires

@@ -1,5 +1,5 @@
 use Rattle.std.proofs.Common.{◌≡◌, map, take}
-use Rattle.tl_county.specs.Rows.{polygon_in}
+use Rattle.tl_map_county.specs.Rows.{polygon_in}
 use Rattle.tl_map.proofs.polygons.polygons_of.Given as goal
 
 abbrev pub invariant-loop-number : goal.invariant-loop-number

@@ -1,7 +1,7 @@
 use Rattle.std.proofs.lemmas.Result.{err_from_is_err_and}
 use Rattle.tl_record.specs.Layout.{layout_with}
 use Rattle.tl_record.specs.Records.{records_of}
-use Rattle.tl_drawn.specs.Faults.{IsFaultOfChains}
+use Rattle.tl_map_rules.specs.Faults.{IsFaultOfChains}
 use Rattle.tl_map.proofs.ReadLemmas.{stops_gathered, no_fault_gathered, stops_built, chains_read}
 use Rattle.tl_map.proofs.read.read_chains_with.Goals as goal
 

@@ -1,6 +1,6 @@
 use Rattle.std.proofs.lemmas.Result.{err_from_is_err_and}
 use Rattle.std.proofs.Common.{refl, inl, inr}
-use Rattle.tl_county.specs.Chains.{tlids}
+use Rattle.tl_map_county.specs.Chains.{tlids}
 use Rattle.tl_map.proofs.PairLemmas.{unpaired_moved, twice_moved}
 use Rattle.tl_map.proofs.sides.pair_sides.Goals as goal
 

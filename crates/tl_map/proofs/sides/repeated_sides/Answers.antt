@@ -1,7 +1,7 @@
 use Rattle.std.proofs.Common.{◌<◌, ◌∙◌, length, sym, arith}
-use Rattle.tl_drawn.specs.declared.entry.SidesEntry.{SidesEntry}
+use Rattle.tl_map_rules.specs.declared.entry.SidesEntry.{SidesEntry}
 use Rattle.tl_map.proofs.PairLemmas.{tlid_at, no_sides}
-use Rattle.tl_drawn.proofs.CountLemmas.{repeat_found, rising_keys, last_key, rising_more}
+use Rattle.tl_map_rules.proofs.CountLemmas.{repeat_found, rising_keys, last_key, rising_more}
 use Rattle.tl_map.proofs.sides.repeated_sides.Goals as goal
 
 pub returns-then-eq : goal.returns-then-eq

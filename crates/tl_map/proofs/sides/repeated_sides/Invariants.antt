@@ -1,6 +1,6 @@
 use Rattle.std.proofs.Common.{◌≡◌, ℕ, ◌+◌, ◌-◌, ◌<◌, get_or}
 use Rattle.std.specs.Prelude.{IfNone, IfSome}
-use Rattle.tl_drawn.specs.declared.entry.SidesEntry.{SidesEntry}
+use Rattle.tl_map_rules.specs.declared.entry.SidesEntry.{SidesEntry}
 use Rattle.tl_map.proofs.sides.repeated_sides.Given as goal
 
 abbrev pub invariant-loop-place : goal.invariant-loop-place

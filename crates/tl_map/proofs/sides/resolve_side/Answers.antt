@@ -1,5 +1,5 @@
 use Rattle.std.proofs.Common.{◌≡◌, ◌∙◌, None, Some, sym, ap, refl, arith}
-use Rattle.tl_county.specs.declared.sides.Side.TheVariants.{Polygon}
+use Rattle.tl_map_county.specs.declared.sides.Side.TheVariants.{Polygon}
 use Rattle.tl_map.proofs.IndexLemmas.{place_is, not_known, known_key}
 use Rattle.tl_map.proofs.sides.resolve_side.Goals as goal
 

@@ -1,6 +1,6 @@
 use Rattle.std.proofs.Common.{◌≡◌, ℕ, ◌<◌, List, map, take, get_or}
-use Rattle.tl_key.specs.declared.key.PolyKey.{PolyKey}
-use Rattle.tl_drawn.specs.declared.entry.SidesEntry.{SidesEntry}
+use Rattle.tl_record_key.specs.declared.key.PolyKey.{PolyKey}
+use Rattle.tl_map_rules.specs.declared.entry.SidesEntry.{SidesEntry}
 use Rattle.tl_map.specs.Keeping.Index.{Indexes}
 use Rattle.tl_map.specs.Keeping.Sided.{sided_by, NamesKnown}
 use Rattle.tl_map.proofs.sides.resolve_sides.Given as goal

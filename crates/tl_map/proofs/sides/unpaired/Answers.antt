@@ -1,7 +1,7 @@
 use Rattle.std.proofs.Common.{◌≡◌, ◌<◌, List, length, sym, refl, inl, inr, arith}
 use Rattle.std.proofs.lemmas.List.{length-map}
-use Rattle.tl_drawn.specs.declared.entry.SidesEntry.{SidesEntry}
-use Rattle.tl_county.specs.Chains.{CompleteChain, tlids}
+use Rattle.tl_map_rules.specs.declared.entry.SidesEntry.{SidesEntry}
+use Rattle.tl_map_county.specs.Chains.{CompleteChain, tlids}
 use Rattle.tl_map.specs.Keeping.Sided.{sides_tlids}
 use Rattle.tl_map.proofs.PairLemmas.{absent, present, told, same_lists, same_more}
 use Rattle.tl_map.proofs.sides.unpaired.Goals as goal

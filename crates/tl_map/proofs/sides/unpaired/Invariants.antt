@@ -1,5 +1,5 @@
 use Rattle.std.proofs.Common.{◌≡◌, ℕ, ◌<◌, ◌≤◌, length, get_or}
-use Rattle.tl_county.specs.Chains.{tlids}
+use Rattle.tl_map_county.specs.Chains.{tlids}
 use Rattle.tl_map.specs.Keeping.Sided.{sides_tlids}
 use Rattle.tl_map.proofs.sides.unpaired.Given as goal
 

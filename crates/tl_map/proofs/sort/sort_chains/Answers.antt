@@ -1,6 +1,6 @@
 use Rattle.std.proofs.Common.{◌∙◌, rules}
 use Rattle.std.proofs.lemmas.List.Sorted.{IsNonDecreasingBy-from_sort_by_key, IsPermutation-trans, length_permutation}
-use Rattle.tl_drawn.specs.declared.entry.ChainEntry.{ChainEntry}
+use Rattle.tl_map_rules.specs.declared.entry.ChainEntry.{ChainEntry}
 use Rattle.tl_map.proofs.CollectLemmas.{AreChainEntries-permutation}
 use Rattle.tl_map.proofs.sort.sort_chains.Goals as goal
 

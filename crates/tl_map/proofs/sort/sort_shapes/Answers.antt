@@ -1,7 +1,7 @@
 use Rattle.std.proofs.Common.{◌≡◌, rules}
 use Rattle.std.proofs.lemmas.Fn.{always_returns_same}
 use Rattle.std.proofs.lemmas.List.Sorted.{IsPermutation-trans}
-use Rattle.tl_drawn.specs.declared.entry.ShapeEntry.{ShapeEntry}
+use Rattle.tl_map_rules.specs.declared.entry.ShapeEntry.{ShapeEntry}
 use Rattle.tl_map.proofs.CollectLemmas.{AreShapeEntries-permutation}
 use Rattle.tl_map.proofs.OrderLemmas.{AreInOrder-from_sort}
 use Rattle.tl_map.proofs.sort.sort_shapes.Goals as goal

@@ -1,5 +1,5 @@
 use Rattle.std.proofs.Common.{◌+◌, ◌*◌}
-use Rattle.tl_index.specs.Trees.{node_count}
+use Rattle.tl_tree_index.specs.Trees.{node_count}
 use Rattle.tl_tree.proofs.branch.+copy.Given as goal
 
 -- twice the nodes of the trees

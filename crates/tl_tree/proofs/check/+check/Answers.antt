@@ -2,9 +2,9 @@ use Rattle.std.proofs.Common.{◌≡◌, ℕ, ◌+◌, Result, Ok, Err, ap, sym,
 use Rattle.std.proofs.lemmas.Bool.{false≢true}
 use Rattle.tl_tree.specs.declared.walk.Below.{Below}
 use Rattle.tl_geom.specs.declared.rect.Rect.{Rect}
-use Rattle.tl_index.specs.declared.fault.TreeFault.{TreeFault}
-use Rattle.tl_index.specs.Fits.{AreBelow}
-use Rattle.tl_index.specs.Trees.{node_count}
+use Rattle.tl_tree_index.specs.declared.fault.TreeFault.{TreeFault}
+use Rattle.tl_tree_index.specs.Fits.{AreBelow}
+use Rattle.tl_tree_index.specs.Trees.{node_count}
 use Rattle.tl_tree.specs.Keeping.Checking.{IsChecked, IsFaultBelow, IsTold}
 use Rattle.tl_tree.specs.Keeping.Walking.{size_of}
 use Rattle.tl_tree.proofs.Checks.{none-checked, checked-items, checked-children, fault-first, fault-others, too-small, checked-both}

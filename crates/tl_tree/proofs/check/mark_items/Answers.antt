@@ -1,5 +1,5 @@
 use Rattle.std.proofs.Common.{arith}
-use Rattle.tl_index.proofs.Marks.{times-at, marks-more, twice}
+use Rattle.tl_tree_index.proofs.Marks.{times-at, marks-more, twice}
 use Rattle.tl_tree.proofs.check.mark_items.Goals as goal
 
 pub returns-then-place-marks-clause-fault : goal.returns-then-place-marks-clause-fault

@@ -1,5 +1,5 @@
 use Rattle.std.proofs.Common.{take}
-use Rattle.tl_index.specs.Keeping.Marked.{AreMarked}
+use Rattle.tl_tree_index.specs.Keeping.Marked.{AreMarked}
 use Rattle.tl_tree.proofs.check.mark_items.Given as goal
 
 -- the items so far are marked

@@ -1,4 +1,4 @@
-use Rattle.tl_index.specs.Trees.{node_count}
+use Rattle.tl_tree_index.specs.Trees.{node_count}
 use Rattle.tl_tree.proofs.depth.+is_within_depth.Given as goal
 
 -- the nodes of the trees

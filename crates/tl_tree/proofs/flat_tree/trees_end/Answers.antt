@@ -1,5 +1,5 @@
 use Rattle.std.proofs.Common.{◌≡◌, ◌+◌, drop, arith}
-use Rattle.tl_index.specs.Trees.{trees_of, first_trees, node_count}
+use Rattle.tl_tree_index.specs.Trees.{trees_of, first_trees, node_count}
 use Rattle.tl_tree.proofs.Flat.{end-step, end-bound, size-past}
 use Rattle.tl_tree.proofs.flat_tree.trees_end.Goals as goal
 use Rattle.tl_tree.proofs.flat_tree.trees_end.Goals.{then-at-nodes, else-at-nodes}

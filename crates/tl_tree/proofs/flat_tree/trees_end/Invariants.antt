@@ -1,5 +1,5 @@
 use Rattle.std.proofs.Common.{◌≡◌, ◌≤◌, ◌+◌, length, drop}
-use Rattle.tl_index.specs.Trees.{trees_of, first_trees, node_count}
+use Rattle.tl_tree_index.specs.Trees.{trees_of, first_trees, node_count}
 use Rattle.tl_tree.proofs.flat_tree.trees_end.Given as goal
 
 -- where the first i trees end

@@ -3,9 +3,9 @@ use Rattle.std.proofs.lemmas.Bool.{false≢true}
 use Rattle.tl_geom.specs.Rectangle.{AreMeeting}
 use Rattle.std.specs.Result.{OnOk}
 use Rattle.tl_tree.specs.declared.walk.Below.{Below}
-use Rattle.tl_index.specs.Fits.{AreBelow}
-use Rattle.tl_index.specs.Hits.{times}
-use Rattle.tl_index.specs.Trees.{leaf_items, node_count}
+use Rattle.tl_tree_index.specs.Fits.{AreBelow}
+use Rattle.tl_tree_index.specs.Hits.{times}
+use Rattle.tl_tree_index.specs.Trees.{leaf_items, node_count}
 use Rattle.tl_tree.specs.Keeping.Walking.{items_below, size_of, AreSound, IsSound, Collects}
 use Rattle.tl_tree.proofs.Hitting.{collects-nothing, grows-nothing, grows-both, none-hit, when-ok}
 use Rattle.tl_tree.proofs.Roots.{first-root, includes-roots}

@@ -1,5 +1,5 @@
 use Rattle.std.proofs.Common.{ℕ, ◌+◌, ◌*◌, ◌≤◌, List}
-use Rattle.tl_index.specs.Trees.{leaf_items, node_count}
+use Rattle.tl_tree_index.specs.Trees.{leaf_items, node_count}
 use Rattle.tl_tree.specs.Keeping.Marking.{Includes, RootMeets}
 use Rattle.tl_tree.specs.Keeping.Walking.{size_of, AreSound, Grows, Collects}
 use Rattle.tl_tree.proofs.hits.+collect.Given as goal

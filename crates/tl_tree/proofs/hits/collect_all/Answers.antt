@@ -1,6 +1,6 @@
 use Rattle.std.proofs.Common.{arith}
 use Rattle.tl_tree.proofs.Hitting.{adds-collected, on-ok, on-err, no-ok, no-err, cut-back}
-use Rattle.tl_index.specs.Trees.{leaf_items}
+use Rattle.tl_tree_index.specs.Trees.{leaf_items}
 use Rattle.tl_tree.proofs.hits.collect_all.Goals as goal
 
 pub returns-else-is_err-clause-hits : goal.returns-else-is_err-clause-hits

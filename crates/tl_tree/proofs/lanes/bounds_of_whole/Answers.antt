@@ -1,6 +1,6 @@
 use Rattle.std.proofs.Common.{◌≡◌, ℕ, zero, suc, ◌<◌, List, length, get_or, ◌∙◌, lit<, arith}
 use Rattle.tl_geom.specs.EightRectangles.{lane}
-use Rattle.tl_index.specs.Fits.{AreBelow}
+use Rattle.tl_tree_index.specs.Fits.{AreBelow}
 use Rattle.tl_tree.proofs.Steps.{below-at}
 use Rattle.tl_tree.proofs.lanes.bounds_of_whole.Goals as goal
 

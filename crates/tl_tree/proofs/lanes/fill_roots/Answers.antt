@@ -1,7 +1,7 @@
 use Rattle.std.proofs.Common.{◌≡◌, ℕ, suc, ◌+◌, ◌<◌, ◌∷◌, length, get_or, set, sym, ap, ◌∙◌, subst, length-set, get_or-set_same, get_or-set_other, arith}
 use Rattle.tl_geom.specs.Rectangle.{nothing}
 use Rattle.tl_tree.specs.Keeping.Marking.{roots}
-use Rattle.tl_index.proofs.Times.{same_or}
+use Rattle.tl_tree_index.proofs.Times.{same_or}
 use Rattle.tl_tree.proofs.Roots.{roots-split}
 use Rattle.tl_tree.proofs.lanes.fill_roots.Goals as goal
 

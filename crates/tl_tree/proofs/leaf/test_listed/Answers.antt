@@ -1,5 +1,5 @@
 use Rattle.std.proofs.Common.{arith}
-use Rattle.tl_index.specs.Pairs.{meeting}
+use Rattle.tl_tree_index.specs.Pairs.{meeting}
 use Rattle.tl_tree.proofs.Leaving.{leaves_more}
 use Rattle.tl_tree.proofs.PairLemmas.{cross-nil}
 use Rattle.tl_tree.proofs.leaf.test_listed.Goals as goal

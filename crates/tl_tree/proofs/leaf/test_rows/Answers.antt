@@ -1,4 +1,4 @@
-use Rattle.tl_index.specs.Pairs.{AreFree}
+use Rattle.tl_tree_index.specs.Pairs.{AreFree}
 use Rattle.tl_tree.proofs.CellRows.{cells-of-lanes}
 use Rattle.tl_tree.proofs.Leaving.{leaves_same}
 use Rattle.tl_tree.proofs.PairLemmas.{cross-swap, all_cross-swap}

@@ -1,5 +1,5 @@
 use Rattle.std.proofs.Common.{[], ◌++◌, refl, arith}
-use Rattle.tl_index.specs.Trees.{leaf_items}
+use Rattle.tl_tree_index.specs.Trees.{leaf_items}
 use Rattle.tl_tree.specs.Keeping.Listing.{listed_items}
 use Rattle.tl_tree.specs.Keeping.Walking.{items_below}
 use Rattle.tl_tree.proofs.Listing.{then-listed}

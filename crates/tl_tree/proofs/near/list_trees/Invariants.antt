@@ -1,6 +1,6 @@
 use Rattle.std.proofs.Common.{◌≡◌, ℕ, ◌+◌, ◌≤◌, length, take}
-use Rattle.tl_index.specs.Pairs.{meeting, AreFree, cross_sum, AllCross}
-use Rattle.tl_index.specs.Trees.{leaf_items, node_count}
+use Rattle.tl_tree_index.specs.Pairs.{meeting, AreFree, cross_sum, AllCross}
+use Rattle.tl_tree_index.specs.Trees.{leaf_items, node_count}
 use Rattle.tl_tree.specs.Keeping.Listing.{listed_items, AllSound}
 use Rattle.tl_tree.specs.Keeping.Walking.{items_below, AreSound}
 use Rattle.tl_tree.proofs.near.list_trees.Given as goal

@@ -2,8 +2,8 @@ use Rattle.std.proofs.Common.{◌≡◌, refl, ◌++◌, ap, take, sym, ◌∙�
 use Rattle.std.proofs.lemmas.Bool.{false≢true}
 use Rattle.tl_geom.specs.Rectangle.{AreMeeting}
 use Rattle.tl_tree.specs.declared.walk.Below.{Below}
-use Rattle.tl_index.specs.Fits.{AreBelow}
-use Rattle.tl_index.specs.Trees.{leaf_items}
+use Rattle.tl_tree_index.specs.Fits.{AreBelow}
+use Rattle.tl_tree_index.specs.Trees.{leaf_items}
 use Rattle.tl_tree.specs.Keeping.Listing.{MayListItems}
 use Rattle.tl_tree.specs.Keeping.Walking.{items_below, size_of}
 use Rattle.tl_tree.proofs.Listing.{none-items, items-apart, then-items}

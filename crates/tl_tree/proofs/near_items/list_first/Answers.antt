@@ -1,5 +1,5 @@
 use Rattle.std.proofs.Common.{ℕ, List, refl, ap, sym, subst, take, ◌∙◌}
-use Rattle.tl_index.specs.Fits.{AreBelow}
+use Rattle.tl_tree_index.specs.Fits.{AreBelow}
 use Rattle.tl_tree.specs.declared.walk.Below.{Below}
 use Rattle.tl_tree.specs.Keeping.Listing.{first_items, MayListItems}
 use Rattle.tl_tree.specs.Keeping.Walking.{items_below}

@@ -2,7 +2,7 @@ use Rattle.std.proofs.Common.{◌≡◌, ℕ, ◌+◌, ◌<◌, true, List, get_
 use Rattle.std.proofs.lemmas.Bool.{false≢true}
 use Rattle.std.proofs.lemmas.List.{length-set, take-set, take_more_set, at_drop_all}
 use Rattle.tl_geom.specs.Rectangle.{AreMeeting}
-use Rattle.tl_index.specs.Pairs.{meeting, cross_sum, AreFree, AllCross}
+use Rattle.tl_tree_index.specs.Pairs.{meeting, cross_sum, AreFree, AllCross}
 use Rattle.tl_tree.proofs.Listing.{Lists, by_Bool, item-listed, item-apart, item-sum, item-most, item-free}
 use Rattle.tl_tree.proofs.PairLemmas.{cross-nil, all_cross-nil}
 use Rattle.tl_tree.proofs.Steps.{below-at}

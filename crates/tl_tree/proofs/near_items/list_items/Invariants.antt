@@ -1,6 +1,6 @@
 use Rattle.std.proofs.Common.{◌≡◌, ℕ, ◌+◌, ◌≤◌, length, take, drop}
-use Rattle.tl_index.specs.Fits.{AreBelow}
-use Rattle.tl_index.specs.Pairs.{meeting, AreFree, cross_sum, AllCross}
+use Rattle.tl_tree_index.specs.Fits.{AreBelow}
+use Rattle.tl_tree_index.specs.Pairs.{meeting, AreFree, cross_sum, AllCross}
 use Rattle.tl_tree.proofs.near_items.list_items.Given as goal
 
 -- the listed ones stand for those so far

@@ -1,5 +1,5 @@
 use Rattle.std.proofs.Common.{◌≤◌, ◌%◌, ◌⊎◌, length, get_or, sym, inl, inr, arith}
-use Rattle.tl_index.specs.Pairs.{meeting, AreFree}
+use Rattle.tl_tree_index.specs.Pairs.{meeting, AreFree}
 use Rattle.tl_tree.specs.Keeping.OwnPairs.{partner, AreThere}
 use Rattle.tl_tree.proofs.Leaving.{enough_all, leaves_same}
 use Rattle.tl_tree.proofs.OwnPairs.{own-in, own-out, all-own-in, all-own-out}

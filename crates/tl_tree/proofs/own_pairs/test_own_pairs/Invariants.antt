@@ -1,6 +1,6 @@
 use Rattle.std.proofs.Common.{None, ◌≡◌, ℕ, ◌+◌, ◌-◌, ◌≤◌}
 use Rattle.std.specs.Int.{bit_at}
-use Rattle.tl_index.specs.Pairs.{meeting, AreFree}
+use Rattle.tl_tree_index.specs.Pairs.{meeting, AreFree}
 use Rattle.tl_tree.specs.Keeping.Walking.{Enough}
 use Rattle.tl_tree.proofs.OwnPairs.{own_sums, AllOwns}
 use Rattle.tl_tree.proofs.own_pairs.test_own_pairs.Given as goal

@@ -1,5 +1,5 @@
 use Rattle.std.proofs.Common.{◌+◌, arith}
-use Rattle.tl_index.specs.Pairs.{meeting, AreFree}
+use Rattle.tl_tree_index.specs.Pairs.{meeting, AreFree}
 use Rattle.tl_tree.proofs.Leaving.{enough_all, enough_both, stops_after, goes}
 use Rattle.tl_tree.proofs.Indices.{row-0, row-more, row-grows, all_row-0, all_row-more}
 use Rattle.tl_tree.proofs.plain_list.test_below.Goals as goal

@@ -1,5 +1,5 @@
 use Rattle.std.proofs.Common.{None, ◌≡◌, ◌+◌, ◌≤◌}
-use Rattle.tl_index.specs.Pairs.{meeting, row_sum, AreFree, AllRow, indices}
+use Rattle.tl_tree_index.specs.Pairs.{meeting, row_sum, AreFree, AllRow, indices}
 use Rattle.tl_tree.specs.Keeping.Walking.{Enough}
 use Rattle.tl_tree.proofs.plain_list.test_below.Given as goal
 

@@ -1,11 +1,11 @@
 use Rattle.std.proofs.Common.{◌≡◌, ap, subst, lit<, arith, sym, ◌∙◌, IsFalse}
 use Rattle.std.proofs.lemmas.Bool.{false≢true}
 use Rattle.tl_geom.specs.Rectangle.{AreMeeting}
-use Rattle.tl_index.specs.Fits.{AreBelow}
-use Rattle.tl_index.specs.Pairs.{meeting, cross_sum, AreFree, AllCross}
+use Rattle.tl_tree_index.specs.Fits.{AreBelow}
+use Rattle.tl_tree_index.specs.Pairs.{meeting, cross_sum, AreFree, AllCross}
 use Rattle.tl_tree.specs.declared.walk.Below.{Below}
 use Rattle.tl_tree.specs.declared.walk.Below.TheVariants.{Items}
-use Rattle.tl_index.specs.Trees.{leaf_items}
+use Rattle.tl_tree_index.specs.Trees.{leaf_items}
 use Rattle.tl_tree.specs.Keeping.Walking.{items_below, size_of, MayLeave}
 use Rattle.tl_tree.proofs.PairLemmas.{cross-swap, all_cross-swap}
 use Rattle.tl_tree.proofs.PairTests.{free-turned}

@@ -1,5 +1,5 @@
 use Rattle.std.proofs.Common.{◌+◌, ◌*◌}
-use Rattle.tl_index.specs.Trees.{node_count}
+use Rattle.tl_tree_index.specs.Trees.{node_count}
 use Rattle.tl_tree.specs.Keeping.Walking.{size_of}
 use Rattle.tl_tree.proofs.search.+between.Given as goal
 

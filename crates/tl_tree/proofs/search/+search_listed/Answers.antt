@@ -1,5 +1,5 @@
 use Rattle.std.proofs.Common.{◌≡◌, ap, length, sym, subst, List, ℕ, ◌++◌, arith}
-use Rattle.tl_index.specs.Pairs.{meeting, cross_sum, AllCross, AreFree}
+use Rattle.tl_tree_index.specs.Pairs.{meeting, cross_sum, AllCross, AreFree}
 use Rattle.tl_tree.specs.Keeping.Listing.{first_items, listed_items, AllSound}
 use Rattle.tl_tree.specs.Keeping.Walking.{items_below}
 use Rattle.tl_tree.proofs.Leaving.{enough_all, stops, goes, leaves_same, leaves_both}

@@ -1,8 +1,8 @@
 use Rattle.std.proofs.Common.{◌≡◌, ℕ, ◌+◌, ◌++◌, List, [], ap, arith, sym, subst, ◌∙◌}
 use Rattle.tl_tree.specs.declared.walk.Below.{Below}
-use Rattle.tl_index.specs.Fits.{AreBelow, CoversAll}
-use Rattle.tl_index.specs.Pairs.{meeting, AreFree, AllCross, cross_sum}
-use Rattle.tl_index.specs.Trees.{Forest, leaf_items}
+use Rattle.tl_tree_index.specs.Fits.{AreBelow, CoversAll}
+use Rattle.tl_tree_index.specs.Pairs.{meeting, AreFree, AllCross, cross_sum}
+use Rattle.tl_tree_index.specs.Trees.{Forest, leaf_items}
 use Rattle.tl_tree.specs.Keeping.Listing.{listed_items, sum_beside, AllBeside}
 use Rattle.tl_tree.specs.Keeping.Walking.{items_below, size_of, MayLeave}
 use Rattle.tl_tree.proofs.Leaving.{enough_all, enough_both, stops, stops_after, goes, leaves_same, leaves_more, leaves_both}

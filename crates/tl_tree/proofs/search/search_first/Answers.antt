@@ -1,5 +1,5 @@
 use Rattle.std.proofs.Common.{ap, sym, subst, List, ℕ, arith}
-use Rattle.tl_index.specs.Pairs.{meeting, cross_sum, AllCross, AreFree}
+use Rattle.tl_tree_index.specs.Pairs.{meeting, cross_sum, AllCross, AreFree}
 use Rattle.tl_tree.specs.Keeping.Listing.{first_items}
 use Rattle.tl_tree.specs.Keeping.Walking.{items_below, MayLeave}
 use Rattle.tl_tree.proofs.PairLemmas.{cross-nil, all_cross-nil}

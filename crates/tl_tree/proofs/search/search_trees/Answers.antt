@@ -1,5 +1,5 @@
 use Rattle.std.proofs.Common.{refl, arith}
-use Rattle.tl_index.specs.Trees.{leaf_items}
+use Rattle.tl_tree_index.specs.Trees.{leaf_items}
 use Rattle.tl_tree.proofs.Finishing.{answer-whole, sum-of, free-of}
 use Rattle.tl_tree.proofs.PairLemmas.{cross-nil}
 use Rattle.tl_tree.proofs.search.search_trees.Goals as goal

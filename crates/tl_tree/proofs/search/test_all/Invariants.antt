@@ -1,5 +1,5 @@
 use Rattle.std.proofs.Common.{None, ◌≡◌, ◌+◌, ◌≤◌, ℕ, List, drop}
-use Rattle.tl_index.specs.Pairs.{meeting, AreFree, cross_sum, AllCross}
+use Rattle.tl_tree_index.specs.Pairs.{meeting, AreFree, cross_sum, AllCross}
 use Rattle.tl_tree.specs.Keeping.Walking.{Enough}
 use Rattle.tl_tree.proofs.search.test_all.Given as goal
 

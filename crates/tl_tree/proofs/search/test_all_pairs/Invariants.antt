@@ -1,5 +1,5 @@
 use Rattle.std.proofs.Common.{None, ◌≡◌, ◌+◌, ◌≤◌, drop}
-use Rattle.tl_index.specs.Pairs.{meeting, AreFree, pair_sum, AllPairs}
+use Rattle.tl_tree_index.specs.Pairs.{meeting, AreFree, pair_sum, AllPairs}
 use Rattle.tl_tree.specs.Keeping.Walking.{Enough}
 use Rattle.tl_tree.proofs.search.test_all_pairs.Given as goal
 

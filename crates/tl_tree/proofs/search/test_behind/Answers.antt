@@ -1,5 +1,5 @@
 use Rattle.std.proofs.Common.{◌+◌, ℕ, List, get_or, subst}
-use Rattle.tl_index.specs.Pairs.{row_sum, AllRow, AreFree}
+use Rattle.tl_tree_index.specs.Pairs.{row_sum, AllRow, AreFree}
 use Rattle.tl_tree.specs.Keeping.Walking.{MayLeave}
 use Rattle.tl_tree.proofs.Steps.{below-at, below-drop, rest-of}
 use Rattle.tl_tree.proofs.search.test_behind.Goals as goal

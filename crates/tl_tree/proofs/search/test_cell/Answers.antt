@@ -1,6 +1,6 @@
 use Rattle.std.proofs.Common.{ℕ, List, get_or, take, sym, subst, arith}
 use Rattle.std.proofs.lemmas.List.{at_drop_more, at_drop_all}
-use Rattle.tl_index.specs.Pairs.{meeting, row_sum, AllRow, AreFree}
+use Rattle.tl_tree_index.specs.Pairs.{meeting, row_sum, AllRow, AreFree}
 use Rattle.tl_tree.proofs.Leaving.{enough_all, leaves_same}
 use Rattle.tl_tree.proofs.Steps.{below-at}
 use Rattle.tl_tree.proofs.search.test_cell.Goals as goal

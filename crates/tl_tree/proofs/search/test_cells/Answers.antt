@@ -1,7 +1,7 @@
 use Rattle.std.proofs.Common.{◌≡◌, ℕ, suc, ◌+◌, ◌/◌, ◌^◌, ◌<◌, ◌≤◌, length, w64, sym, ap, ◌∙◌, arith}
 use Rattle.std.specs.Int.{bit_at, trailing_zeros}
 use Rattle.std.proofs.lemmas.Nat.Bits.{bit_at-suc, bit_at-zero, bit_at-trailing_zeros}
-use Rattle.tl_index.specs.Pairs.{meeting, AreFree}
+use Rattle.tl_tree_index.specs.Pairs.{meeting, AreFree}
 use Rattle.tl_tree.proofs.CellRows.{bit-behind, rest-start, rest-end, cell-step, all-rest-start, all-rest-end, all-cell-step, marked-meets, skip-unmarked, skip-least, free-skip}
 use Rattle.tl_tree.proofs.Leaving.{enough_all, enough_from, enough_both, stops_after, goes}
 use Rattle.tl_tree.proofs.Steps.{below-at}

@@ -1,6 +1,6 @@
 use Rattle.std.proofs.Common.{None, ◌≡◌, ℕ, ◌+◌, ◌-◌, ◌≤◌}
 use Rattle.std.specs.Int.{bit_at}
-use Rattle.tl_index.specs.Pairs.{meeting, cross_sum, AllCross, AreFree}
+use Rattle.tl_tree_index.specs.Pairs.{meeting, cross_sum, AllCross, AreFree}
 use Rattle.tl_tree.specs.Keeping.Walking.{Enough}
 use Rattle.tl_tree.proofs.CellRows.{rest, RestAll}
 use Rattle.tl_tree.proofs.search.test_cells.Given as goal

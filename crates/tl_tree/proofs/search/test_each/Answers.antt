@@ -1,5 +1,5 @@
 use Rattle.std.proofs.Common.{arith}
-use Rattle.tl_index.specs.Pairs.{meeting, AreFree}
+use Rattle.tl_tree_index.specs.Pairs.{meeting, AreFree}
 use Rattle.tl_tree.proofs.Leaving.{enough_all, enough_from, enough_both, stops_after, goes}
 use Rattle.tl_tree.proofs.Steps.{row-step, row-end, all_row-step, all_row-end, below-at}
 use Rattle.tl_tree.proofs.search.test_each.Goals as goal

@@ -1,5 +1,5 @@
 use Rattle.std.proofs.Common.{None, ◌≡◌, ◌+◌, ◌≤◌, drop}
-use Rattle.tl_index.specs.Pairs.{meeting, AreFree, row_sum, AllRow}
+use Rattle.tl_tree_index.specs.Pairs.{meeting, AreFree, row_sum, AllRow}
 use Rattle.tl_tree.specs.Keeping.Walking.{Enough}
 use Rattle.tl_tree.proofs.search.test_each.Given as goal
 

@@ -1,5 +1,5 @@
 use Rattle.std.proofs.Common.{◌≡◌, arith}
-use Rattle.tl_index.specs.Pairs.{meeting}
+use Rattle.tl_tree_index.specs.Pairs.{meeting}
 use Rattle.tl_tree.proofs.PairTests.{meeting-equal, meeting-1, free-equal, free-told}
 use Rattle.tl_tree.proofs.Apart.{turned}
 use Rattle.tl_tree.proofs.Choosing.{enough_pair}

@@ -1,7 +1,7 @@
 use Rattle.std.proofs.Common.{◌≡◌, ◌∷◌, [], ◌++◌, refl, inl, inr}
 use Rattle.std.proofs.lemmas.Result.{on_ok_weaker}
 use Rattle.tl_record.specs.declared.record.Record.TheVariants.{Chain, Shape, Sides, PolyPoint, Landmark, AreaLink}
-use Rattle.tl_drawn.specs.MapOf.{sides_at, polygon_at, landmark_at, link_at}
+use Rattle.tl_map_rules.specs.MapOf.{sides_at, polygon_at, landmark_at, link_at}
 use Rattle.tl_map.proofs.AreaLemmas.{kept, added, kept_all}
 use Rattle.tl_map.proofs.areas.AreaRecords.add.Goals as goal
 

@@ -1,7 +1,7 @@
 use Rattle.std.proofs.Common.{inl, inr, ◌∷◌, [], ◌++◌, ap, length, arith}
 use Rattle.std.proofs.lemmas.Bool.{true≢false}
 use Rattle.std.proofs.lemmas.List.{length_push}
-use Rattle.tl_drawn.specs.declared.entry.ChainEntry.{ChainEntry}
+use Rattle.tl_map_rules.specs.declared.entry.ChainEntry.{ChainEntry}
 use Rattle.std.proofs.lemmas.Result.{on_ok_weaker}
 use Rattle.tl_record.specs.declared.record.Record.TheVariants.{Shape}
 use Rattle.tl_map.specs.Keeping.Entries.{AreShapeEntries}

@@ -1,6 +1,6 @@
 use Rattle.std.proofs.Common.{drop, arith}
 use Rattle.std.proofs.lemmas.Bool.Decides.{nat_tests}
-use Rattle.tl_index.specs.Trees.{trees_of}
+use Rattle.tl_tree_index.specs.Trees.{trees_of}
 use Rattle.tl_tree.proofs.Roots.{roots-first}
 use Rattle.tl_tree.proofs.cursor.CursorTrees.are_few.Goals as goal
 

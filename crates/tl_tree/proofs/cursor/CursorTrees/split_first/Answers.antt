@@ -1,5 +1,5 @@
 use Rattle.std.proofs.Common.{◌+◌, ◌-◌, inl, inr, get_or, drop, ap, sym, ◌∙◌, arith}
-use Rattle.tl_index.specs.Trees.{leaf, first_trees, trees_of}
+use Rattle.tl_tree_index.specs.Trees.{leaf, first_trees, trees_of}
 use Rattle.tl_tree.proofs.Flat.{no-tree, split-inner, split-leaf}
 use Rattle.tl_tree.proofs.cursor.CursorTrees.split_first.Goals as goal
 use Rattle.tl_tree.proofs.cursor.CursorTrees.split_first.Goals.{then-self-eq0-via-then-self-eq0, then-self-eq0-via-else-self-eq0+then-self-lists}

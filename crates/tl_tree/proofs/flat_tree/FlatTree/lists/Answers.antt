@@ -1,6 +1,6 @@
 use Rattle.std.proofs.Common.{List, ap, arith}
-use Rattle.tl_index.specs.declared.node.TreeNode.{TreeNode}
-use Rattle.tl_index.specs.Trees.{node_count, tree_of}
+use Rattle.tl_tree_index.specs.declared.node.TreeNode.{TreeNode}
+use Rattle.tl_tree_index.specs.Trees.{node_count, tree_of}
 use Rattle.tl_tree.proofs.Flat.{end-bound}
 use Rattle.tl_tree.proofs.flat_tree.FlatTree.lists.Goals as goal
 

@@ -1,6 +1,6 @@
 use Rattle.std.proofs.Common.{◌≡◌, ◌++◌, ◌∷◌, [], cond, not, is_ok, true, append-nil, refl, ap, sym, subst, ◌∙◌, arith}
 use Rattle.std.proofs.lemmas.Bool.{false≢true}
-use Rattle.tl_index.specs.Hits.{Adds}
+use Rattle.tl_tree_index.specs.Hits.{Adds}
 use Rattle.tl_tree.proofs.Hitting.{adds-hit, adds-miss, cut-back}
 use Rattle.tl_tree.proofs.plain_list.PlainListBoxIndex.collect_hits.Goals as goal
 use Rattle.tl_tree.proofs.plain_list.PlainListBoxIndex.collect_hits.Goals.{else-hits-via-then-hits+else-is_err, else-hits-via-else-hits}

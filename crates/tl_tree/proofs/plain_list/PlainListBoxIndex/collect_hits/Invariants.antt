@@ -1,4 +1,4 @@
-use Rattle.tl_index.specs.Hits.{Adds}
+use Rattle.tl_tree_index.specs.Hits.{Adds}
 use Rattle.tl_tree.proofs.plain_list.PlainListBoxIndex.collect_hits.Given as goal
 
 -- the hits among the items so far are appended

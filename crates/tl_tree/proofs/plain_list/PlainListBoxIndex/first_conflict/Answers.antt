@@ -1,5 +1,5 @@
 use Rattle.std.proofs.Common.{◌≡◌, ℕ, ◌+◌, refl, ap, subst, arith}
-use Rattle.tl_index.specs.Pairs.{meeting, pair_sum, AreFree, AllPairs, indices}
+use Rattle.tl_tree_index.specs.Pairs.{meeting, pair_sum, AreFree, AllPairs, indices}
 use Rattle.tl_tree.proofs.Finishing.{clear, answer-stopped, answer-clear}
 use Rattle.tl_tree.proofs.Leaving.{enough_all, enough_both, stops_after, goes}
 use Rattle.tl_tree.proofs.Indices.{pair-0, pair-more, pair-grows, all_pairs-0, all_pairs-more}

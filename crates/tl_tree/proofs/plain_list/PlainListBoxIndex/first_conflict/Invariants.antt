@@ -1,5 +1,5 @@
 use Rattle.std.proofs.Common.{None, ◌≡◌, ◌+◌, ◌≤◌}
-use Rattle.tl_index.specs.Pairs.{meeting, pair_sum, AreFree, AllPairs, indices}
+use Rattle.tl_tree_index.specs.Pairs.{meeting, pair_sum, AreFree, AllPairs, indices}
 use Rattle.tl_tree.specs.Keeping.Walking.{Enough}
 use Rattle.tl_tree.proofs.plain_list.PlainListBoxIndex.first_conflict.Given as goal
 

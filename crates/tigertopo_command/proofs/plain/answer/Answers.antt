@@ -1,0 +1,29 @@
+use Rattle.tigertopo_files.specs.World.{world}
+use Rattle.tigertopo_words.specs.declared.asked.Asked.TheVariants.{Show, Landmarks, Locate, Audit, Build, Check}
+use Rattle.tigertopo_command.proofs.CommandLemmas.{by_asked, makes_none}
+use Rattle.tigertopo_command.proofs.plain.answer.Goals as goal
+
+pub returns-in-Show : goal.returns-in-Show
+returns-in-Show g c =
+    by_asked c.args.command.now Show c.in-Show.is (world g.F.FileSystem.under g.F.FileSystem.log g.F.FileSystem.knows c.args.files.now c.show.new.files) c.show.result (rw c.as_slice-names.ensures.value at c.show.ensures)
+
+pub returns-in-Landmarks : goal.returns-in-Landmarks
+returns-in-Landmarks g c =
+    by_asked c.args.command.now Landmarks c.in-Landmarks.is (world g.F.FileSystem.under g.F.FileSystem.log g.F.FileSystem.knows c.args.files.now c.landmarks.new.files) c.landmarks.result (rw c.as_slice-names.ensures.value at c.landmarks.ensures)
+
+pub returns-in-Locate : goal.returns-in-Locate
+returns-in-Locate g c =
+    by_asked c.args.command.now (Locate c.in-Locate.point) c.in-Locate.is (world g.F.FileSystem.under g.F.FileSystem.log g.F.FileSystem.knows c.args.files.now c.locate.new.files) c.locate.result (rw c.as_slice-names.ensures.value at c.locate.ensures)
+
+pub returns-in-Build : goal.returns-in-Build
+returns-in-Build g c =
+    by_asked c.args.command.now (Build c.in-Build.made) c.in-Build.is (world g.F.FileSystem.under g.F.FileSystem.log g.F.FileSystem.knows c.args.files.now c.build.new.files) c.build.result (rw c.as_slice-names.ensures.value at c.build.ensures)
+
+pub returns-in-Check : goal.returns-in-Check
+returns-in-Check g c =
+    by_asked c.args.command.now (Check c.in-Check.cert c.in-Check.budget) c.in-Check.is (world g.F.FileSystem.under g.F.FileSystem.log g.F.FileSystem.knows c.args.files.now c.check.new.files) c.check.result (rw c.as_slice-names.ensures.value at c.check.ensures)
+
+pub returns-in-Audit : goal.returns-in-Audit
+returns-in-Audit g c =
+    by_asked c.args.command.now (Audit c.in-Audit.told c.in-Audit.places c.in-Audit.made) c.in-Audit.is (world g.F.FileSystem.under g.F.FileSystem.log g.F.FileSystem.knows c.args.files.now c.audit.new.files) c.audit.result
+    (rw (makes_none c.in-Audit.told c.in-Audit.places c.in-Audit.made (rw c.in-Audit.is at c.requires.plain)) (rw c.as_slice-names.ensures.value at c.audit.ensures))

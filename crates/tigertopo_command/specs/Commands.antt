@@ -1,0 +1,75 @@
+-- What a command reads and makes, and what it answers.
+use Rattle.std.specs.Prelude.{ℕ, Bool, true, false, List, [], ◌∷◌, ◌++◌, None, map, string_bytes, ⊤}
+use Rattle.tl_record.specs.declared.options.Options.{Options}
+use Rattle.tl_record.specs.Layout.{layout_with}
+use Rattle.tl_cert_output.specs.declared.stop.Stop.{Stop}
+use Rattle.tigertopo_words.specs.declared.asked.Asked.{Asked}
+use Rattle.tigertopo_words.specs.declared.asked.Asked.TheVariants.{Show, Landmarks, Locate, Audit, Build, Check, Convert, Export, Draw}
+use Rattle.tigertopo_words.specs.declared.asked.Command.{Command}
+use Rattle.tigertopo_words.specs.declared.budget.Told.TheVariants.{One}
+use Rattle.tigertopo_files.specs.Files.{bytes_under}
+use Rattle.tigertopo_files.specs.World.{World}
+use Rattle.tigertopo_files.specs.declared.beginning.FileKind.{FileKind}
+use Rattle.tigertopo_files.specs.declared.beginning.FileKind.TheVariants.{Certificate, Collection, Picture}
+use Rattle.tigertopo_outcome.specs.Answers.{ShowAnswers, LandmarksAnswers, LocateAnswers, AuditAnswers, CheckAnswers, ConvertAnswers}
+use Rattle.tigertopo_files.specs.Reading.{text_under}
+use Rattle.tigertopo_outcome.specs.Records.{StopsRecords, StopsCheck, StopsNever}
+use Rattle.tigertopo_decide.specs.Building.{BuildAnswers}
+
+-- the names of the files that are read, in their order, where those of the records are `names`: the certificate's is the last
+abbrev pub names_with : Asked → (names : List (List ℕ)) → List (List ℕ)
+names_with (Check cert budget) names = names ++ string_bytes cert ∷ []
+names_with (Convert cert made) names = string_bytes cert ∷ []
+names_with other names = names
+
+abbrev pub names_read : Command → List (List ℕ)
+names_read command = names_with command.asked (map string_bytes command.files.items)
+
+-- the names of the files that are read where one is made
+abbrev pub inputs_with : Asked → (names : List (List ℕ)) → List (List ℕ)
+inputs_with (Convert cert made) names = string_bytes cert ∷ []
+inputs_with other names = names
+
+abbrev pub inputs_of : Command → List (List ℕ)
+inputs_of command = inputs_with command.asked (map string_bytes command.files.items)
+
+-- the kind of the file that is made, where one is
+abbrev pub kind_of : Asked → FileKind
+kind_of (Audit told places made) = Collection
+kind_of (Export made) = Collection
+kind_of (Draw made view faults) = Picture
+kind_of other = Certificate
+
+-- what is answered, where the records are in the files of these names: of the commands that make no list of faults, no export and no
+-- picture
+abbrev pub PlainAnswers : Asked → Options → (names : List (List ℕ)) → World → ℕ → List ℕ → Type 0
+PlainAnswers Show options names w = ShowAnswers (layout_with options) (text_under w.before names)
+PlainAnswers Landmarks options names w = LandmarksAnswers (layout_with options) (text_under w.before names)
+PlainAnswers (Locate point) options names w = LocateAnswers (layout_with options) point (text_under w.before names)
+PlainAnswers (Audit told places made) options names w = AuditAnswers options (text_under w.before names)
+PlainAnswers (Build made) options names w = BuildAnswers w options (text_under w.before names) (string_bytes made)
+PlainAnswers (Check cert budget) options names w = CheckAnswers options budget (text_under w.before names) (bytes_under w.before (string_bytes cert))
+PlainAnswers (Convert cert made) options names w = ConvertAnswers w (bytes_under w.before (string_bytes cert)) (string_bytes made)
+PlainAnswers other options names w = λ status text. ⊥
+
+-- why nothing is, but for want of memory and for a device that failed
+abbrev pub PlainStops : Asked → Options → (names : List (List ℕ)) → World → Stop → Type 0
+PlainStops (Check cert budget) options names w = StopsCheck options budget (text_under w.before names) (bytes_under w.before (string_bytes cert))
+PlainStops (Convert cert made) options names w = StopsNever
+PlainStops other options names w = StopsRecords (layout_with options) (text_under w.before names)
+
+-- one of these commands
+abbrev pub IsPlain : Asked → Type 0
+IsPlain (Audit One false None) = ⊤
+IsPlain (Audit told places made) = ⊥
+IsPlain (Export made) = ⊥
+IsPlain (Draw made view faults) = ⊥
+IsPlain other = ⊤
+
+-- is it one of these
+abbrev pub is_plain : Asked → Bool
+is_plain (Audit One false None) = true
+is_plain (Audit told places made) = false
+is_plain (Export made) = false
+is_plain (Draw made view faults) = false
+is_plain other = true

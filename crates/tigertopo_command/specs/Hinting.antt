@@ -1,0 +1,45 @@
+-- What is said behind a stop of a command.
+use Rattle.std.specs.Prelude.{◌≡◌, true, Option, Some, None, Result, Ok, Err}
+use Rattle.tl_record.specs.Layout.{layout_with}
+use Rattle.tl_cert_output.specs.declared.stop.Stop.{Stop}
+use Rattle.tl_cert_output.specs.Stops.{StopsFor}
+use Rattle.tigertopo_words.specs.declared.asked.Command.{Command}
+use Rattle.tigertopo_files.specs.Log.{LogsAgain}
+use Rattle.tigertopo_files.specs.World.{World}
+use Rattle.tigertopo_hint.specs.Again.{FailsAgain}
+use Rattle.tigertopo_hint.specs.Telling.{TellsHint}
+use Rattle.tl_cert_output.specs.Streams.{Stream, Tries}
+use Rattle.tigertopo_command.specs.declared.run.Outcome.{Outcome}
+use Rattle.tigertopo_command.specs.Commands.{names_read}
+use Rattle.tigertopo_command.specs.Running.{Untouched}
+
+-- what is done behind an outcome that was told: with files, and with the error output
+pub record Behind : Type 1 where
+  pub files : World
+  pub err : Stream
+
+abbrev pub behind : World → Stream → Behind
+behind files err = record { files = files; err = err }
+
+-- nothing is
+pub record NothingBehind (b : Behind) : Type 0 where
+  pub same : b.err.same
+  pub untouched : Untouched b.files
+
+-- what helps was said behind a stop, of the files as they stand; or nothing was, since memory was refused for it or a file can't be read
+-- again. Where there is no stop nothing is said
+abbrev pub Says : Behind → Command → Option Stop → Result (Unit {0}) Stop → Type 0
+Says b command None (Ok done) = b.err.same
+Says b command None (Err why) = ⊥
+Says b command (Some stop) (Ok done) = TellsHint stop (layout_with command.options) b.files.before (names_read command) (Tries b.err)
+Says b command (Some stop) (Err why) = b.err.same × StopsFor (FailsAgain b.files (names_read command)) why
+
+-- the same, and files were read for it at most
+pub record Hints (b : Behind) (command : Command) (stop : Option Stop) (result : Result (Unit {0}) Stop) : Type 0 where
+  pub says : Says b command stop result
+  pub stays : b.files.after ≡ b.files.before
+  pub logged : b.files.knows ≡ true → LogsAgain b.files.log b.files.logged result
+
+-- the same of an outcome, whatever came of the hint
+abbrev pub HintsBy : Behind → Command → Outcome → Type 0
+HintsBy b command outcome = (result : Result (Unit {0}) Stop) × Hints b command outcome.stop result

@@ -1,0 +1,44 @@
+//! What helps who reads that a line is refused, or that a device failed.
+
+ghost use Rattle.std.specs.Prelude.{◌≡◌, IfOk, map, string_bytes};
+ghost use Rattle.tigertopo_files.specs.World.{world};
+ghost use Rattle.tl_cert_output.specs.Streams.{stream};
+ghost use Rattle.tigertopo_command.specs.Commands.{names_read};
+ghost use Rattle.tigertopo_command.specs.Hinting.{Hints, behind};
+
+use std::alloc::{AllocError, Global};
+use tigertopo_files::{FileSystem, all_names};
+use tigertopo_hint::say_hint;
+use tigertopo_words::{Asked, Command};
+use tl_cert_output::Stop;
+use tl_record::Sink;
+
+/// Says what helps behind a stop of the command, of its files as they stand now: behind a refused line where it stands, and behind a
+/// device that failed which file did. The error says why nothing is said: memory was refused for it, or a file can't be read again.
+pub fn hint<F: FileSystem, E: Sink>(
+    files: &mut F,
+    alloc: Global,
+    command: &Command,
+    stop: &Option<Stop>,
+    err: &mut E,
+) -> Result<(), Stop>
+    ensures { Hints (behind (world F.under F.log F.knows files.old files.new) (stream E.contents E.failure_count err.old err.new))
+        command.now stop.now result }
+{
+    let Some(stop) = stop else {
+        return Ok(());
+    };
+    let names = names_of(alloc, command)?;
+    say_hint(files, alloc, names.as_slice(), command.options, stop, err)
+}
+
+// The names of the files that are read.
+fn names_of(alloc: Global, command: &Command) -> Result<Vec<String>, AllocError>
+    ensures { IfOk result (λ names. map string_bytes names.items ≡ names_read command.now) }
+{
+    match &command.asked {
+        Asked::Check { cert, .. } => all_names(alloc, command.files.as_slice(), Some(cert)),
+        Asked::Convert { cert, .. } => all_names(alloc, &[], Some(cert)),
+        _ => all_names(alloc, command.files.as_slice(), None),
+    }
+}

@@ -1,0 +1,112 @@
+//! The commands that make no list of faults, no export and no picture: `show`, `landmarks`, `locate`, `audit` for one line, `build`,
+//! `check` and `convert`.
+
+ghost use Rattle.std.specs.Prelude.{◌≡◌, map, string_bytes};
+ghost use Rattle.tigertopo_words.specs.Asked.{made_of};
+ghost use Rattle.tigertopo_files.specs.World.{Does, MayMake, world};
+ghost use Rattle.tigertopo_outcome.specs.Answers.{IsSaid};
+ghost use Rattle.tl_cert_output.specs.Streams.{Tries, stream};
+ghost use Rattle.tigertopo_command.specs.Commands.{IsPlain, PlainAnswers, PlainStops, names_read, kind_of, is_plain};
+ghost use Rattle.tigertopo_command.specs.Running.{not_here};
+
+use crate::run::{Outcome, Program, tell_answer};
+use std::alloc::Global;
+use std::hash::RandomState;
+use tigertopo_decide::auditing::audit;
+use tigertopo_decide::building::build;
+use tigertopo_decide::deciding::check;
+use tigertopo_files::FileSystem;
+use tigertopo_outcome::convert::convert;
+use tigertopo_outcome::records::{landmarks, locate, show};
+use tigertopo_outcome::said::{Answer, Said};
+use tigertopo_outcome::stop::{USAGE, try_to_write};
+use tigertopo_words::{Asked, Command, Told};
+use tl_cert_output::Stop;
+use tl_record::Sink;
+
+/// A program that has these commands alone.
+#[derive(Clone, Copy)]
+pub struct Plain;
+
+impl Program for Plain {
+    ghost answers = { λ command. PlainAnswers command.asked command.options (map string_bytes command.files.items) };
+
+    ghost stops = { λ command. PlainStops command.asked command.options (map string_bytes command.files.items) };
+
+    ghost lacks = { λ command. ¬ IsPlain command.asked };
+
+    fn perform<F: FileSystem, W: Sink, E: Sink>(
+        &self,
+        files: &mut F,
+        alloc: Global,
+        hasher: RandomState,
+        command: &Command,
+        out: &mut W,
+        err: &mut E,
+    ) -> Outcome {
+        if is_plain(&command.asked) {
+            let answer = answer(files, alloc, hasher, command);
+            tell_answer(alloc, answer, out, err)
+        } else {
+            say_not_here(err)
+        }
+    }
+}
+
+// Says that the program lacks what is asked for.
+fn say_not_here<E: Sink>(err: &mut E) -> Outcome
+    ensures told { Tries (stream E.contents E.failure_count err.old err.new) not_here }
+    ensures outcome { result ≡ record { status = 64; stop = None } }
+{
+    try_to_write(
+        b"error: the program that has this isn't built: run `make`\n",
+        err,
+    );
+    Outcome {
+        status: USAGE,
+        stop: None,
+    }
+}
+
+/// Whether the command is one of these.
+pub fn is_plain(asked: &Asked) -> bool
+    ensures { result ≡ is_plain asked.now }
+{
+    match asked {
+        Asked::Audit { told, places, made } => matches!(told, Told::One)
+            && !*places
+            && made.is_none(),
+        Asked::Export { .. } | Asked::Draw { .. } => false,
+        _ => true,
+    }
+}
+
+/// The answer to one of these commands, whose file may be made.
+pub fn answer<F: FileSystem>(
+    files: &mut F,
+    alloc: Global,
+    hasher: RandomState,
+    command: &Command,
+) -> Result<Answer<Said>, Stop>
+    requires plain { IsPlain command.now.asked }
+    requires free { MayMake (F.under files.old) (made_of command.now.asked) (names_read command.now) (kind_of command.now.asked) }
+    ensures { let w = world F.under F.log F.knows files.old files.new in
+        let names = map string_bytes command.now.files.items in
+        Does w (names_read command.now) (made_of command.now.asked)
+        (IsSaid (PlainAnswers command.now.asked command.now.options names w)) (PlainStops command.now.asked command.now.options names w) result }
+{
+    let options = command.options;
+    let names = command.files.as_slice();
+    match &command.asked {
+        Asked::Show => show(files, alloc, hasher, options, names),
+        Asked::Landmarks => landmarks(files, alloc, hasher, options, names),
+        Asked::Locate { point } => locate(files, alloc, hasher, options, names, *point),
+        Asked::Audit { .. } => audit(files, alloc, hasher, options, names),
+        Asked::Build { made } => build(files, alloc, hasher, options, names, made),
+        Asked::Check { cert, budget } => {
+            check(files, alloc, hasher, options, names, cert, *budget)
+        }
+        Asked::Convert { cert, made } => convert(files, alloc, cert, made),
+        Asked::Export { .. } | Asked::Draw { .. } => unreachable!(),
+    }
+}

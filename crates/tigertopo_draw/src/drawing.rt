@@ -1,0 +1,124 @@
+//! Pictures that are made over files: each takes its name when it is whole.
+
+ghost use Rattle.std.specs.Prelude.{◌≡◌, [], Some, map, string_bytes};
+ghost use Rattle.tl_record.specs.Layout.{layout_with};
+ghost use Rattle.tigertopo_files.specs.Files.{IsFree};
+ghost use Rattle.tigertopo_files.specs.World.{Does, world};
+ghost use Rattle.tigertopo_files.specs.declared.beginning.FileKind.TheVariants.{Picture as PictureKind};
+ghost use Rattle.tigertopo_outcome.specs.Answers.{IsSaid};
+ghost use Rattle.tigertopo_files.specs.Reading.{text_under};
+ghost use Rattle.tigertopo_outcome.specs.Records.{StopsNever, StopsRecords};
+ghost use Rattle.tigertopo_svg.specs.Texts.{picture_text};
+ghost use Rattle.tigertopo_draw.specs.Drawing.{DrawAnswers, IsDrawnOf, drawn_of, picture_by};
+
+use crate::subject::{Subject, SubjectOf};
+use std::alloc::Global;
+use std::hash::RandomState;
+use tigertopo_files::{FileKind, FileSystem, make_file};
+use tigertopo_outcome::outcome::{Drawn, Outcome};
+use tigertopo_outcome::reading::over_records;
+use tigertopo_outcome::said::{Answer, Said};
+use tigertopo_svg::{Frame, Picture, chain_count, fault_count, picture_of, print_picture};
+use tigertopo_words::View;
+use tl_cert_output::{Stop, Text};
+use tl_check_verdict::MapFault;
+use tl_map_county::Map;
+use tl_record::{Options, Sink};
+
+// A picture of a map with faults, as a text.
+#[derive(Clone, Copy)]
+struct PictureText<'a> {
+    map: &'a Map,
+    picture: Picture,
+    faults: &'a [MapFault],
+}
+
+impl Text for PictureText<'_> {
+    ghost use Rattle.std.specs.Prelude.{⊤};
+
+    ghost text = { λ text. picture_text text.map.now text.picture text.faults.now };
+
+    ghost is_ready = { λ text. ⊤ };
+
+    fn print<S: Sink>(&self, _alloc: Global, out: &mut S) -> Result<(), Stop> {
+        print_picture(self.map, self.picture, self.faults, out)
+    }
+}
+
+/// Draws the map of the records of these files, fitted to it or the place that is given, and its faults where they are to be shown, into
+/// a new file of the name `made`, which it may take, and answers how much the picture shows. The file takes its name when it is whole.
+pub fn draw<F: FileSystem>(
+    files: &mut F,
+    alloc: Global,
+    hasher: RandomState,
+    options: Options,
+    names: &[String],
+    made: &String,
+    view: Option<View>,
+    shows_faults: bool,
+) -> Result<Answer<Said>, Stop>
+    requires { IsFree (F.under files.old) (string_bytes made.now) (map string_bytes names.now) PictureKind }
+    ensures { let w = world F.under F.log F.knows files.old files.new in
+        let known = text_under (F.under files.old) (map string_bytes names.now) in
+        Does w (map string_bytes names.now) (Some (string_bytes made.now))
+        (IsSaid (DrawAnswers w options known (record { name = string_bytes made.now; view = view; shows = shows_faults })))
+        (StopsRecords (layout_with options) known) result }
+{
+    let asked = SubjectOf {
+        options,
+        shows_faults,
+    };
+    match over_records(files, alloc, hasher, names, &asked)? {
+        Ok(subject) => draw_subject(files, alloc, names, made, view, shows_faults, &subject),
+        Err(fault) => Ok(Answer::of(Outcome::fault(fault))),
+    }
+}
+
+// Draws a map with its faults into a new file.
+fn draw_subject<F: FileSystem>(
+    files: &mut F,
+    alloc: Global,
+    names: &[String],
+    made: &String,
+    view: Option<View>,
+    shows_faults: bool,
+    subject: &Subject,
+) -> Result<Answer<Said>, Stop>
+    requires { IsFree (F.under files.old) (string_bytes made.now) (map string_bytes names.now) PictureKind }
+    ensures { let w = world F.under F.log F.knows files.old files.new in
+        Does w [] (Some (string_bytes made.now))
+        (IsDrawnOf w (record { name = string_bytes made.now; view = view; shows = shows_faults }) subject.now) StopsNever result }
+{
+    let picture = picture_by(view, &subject.map);
+    let text = PictureText {
+        map: &subject.map,
+        picture,
+        faults: subject.faults.as_slice(),
+    };
+    make_file(files, alloc, made.as_str(), names, FileKind::Picture, &text)?;
+    Ok(Answer::of(Outcome::Drawn(drawn_of(picture, shows_faults, subject))))
+}
+
+// How a map is drawn: about a place, or fitted to it.
+fn picture_by(view: Option<View>, map: &Map) -> Picture
+    ensures { result ≡ picture_by view map.now }
+{
+    let frame = match view {
+        Some(view) => Frame::at(view.center, view.width),
+        None => Frame::fitted(map),
+    };
+    picture_of(frame, map)
+}
+
+// How much a picture shows.
+fn drawn_of(picture: Picture, shows_faults: bool, subject: &Subject) -> Drawn
+    ensures { result ≡ drawn_of picture shows_faults subject.now }
+{
+    let chains = chain_count(picture, &subject.map);
+    let faults = if shows_faults {
+        Some(fault_count(picture.frame, &subject.map, subject.faults.as_slice()))
+    } else {
+        None
+    };
+    Drawn { chains, faults }
+}

@@ -1,0 +1,125 @@
+//! What a picture is drawn of.
+
+ghost use Rattle.std.specs.Prelude.{◌≡◌, ℕ, List, Option, true, IfOk, IfErr, IfSome};
+ghost use Rattle.tl_record.specs.declared.options.Options.{Options};
+ghost use Rattle.tl_record.specs.Layout.{layout_with};
+ghost use Rattle.tl_list.specs.Findings.{AreFindingsOf};
+ghost use Rattle.tigertopo_files.specs.World.{MayStop};
+ghost use Rattle.tl_cert_output.specs.declared.stop.Stop.TheVariants.{Device};
+ghost use Rattle.tigertopo_outcome.specs.Records.{StopsRecords};
+ghost use Rattle.tigertopo_draw.specs.Keeping.{listed_faults, first_refused, first_fault, first_listed};
+ghost use Rattle.tigertopo_draw.specs.Subjects.{IsSubjectOf};
+
+use std::alloc::Global;
+use std::hash::RandomState;
+use tigertopo_outcome::reading::Question;
+use tl_cert_output::Stop;
+use tl_check_verdict::{MapFault, fault_of_records};
+use tl_list::{Findings, list_with_map};
+use tl_list_text::Listing;
+use tl_map::read_map_with;
+use tl_map_county::Map;
+use tl_record::{Options, Refusal, Source};
+
+/// A map, and the faults of it that are to be shown.
+#[derive(Drop)]
+pub struct Subject {
+    pub map: Map,
+    pub faults: Vec<MapFault>,
+}
+
+/// The map of the records, and where they are to be shown all its faults, or the fault of records that have none, as a question.
+#[derive(Clone, Copy)]
+pub struct SubjectOf {
+    pub options: Options,
+    pub shows_faults: bool,
+}
+
+impl Question for SubjectOf {
+    type Answer = Result<Subject, MapFault>;
+
+    ghost answers = { λ asked known. IsSubjectOf asked.options known asked.shows_faults };
+
+    ghost stops = { λ asked known. StopsRecords (layout_with asked.options) known };
+
+    fn ask<R: Source>(
+        &self,
+        alloc: Global,
+        hasher: RandomState,
+        records: &mut R,
+    ) -> Result<Result<Subject, MapFault>, Stop> {
+        if self.shows_faults {
+            let found = list_with_map(alloc, hasher, records, self.options)?;
+            return subject_of(alloc, found);
+        }
+        match read_map_with(alloc, hasher, records, self.options) {
+            Ok(map) => Ok(Ok(Subject {
+                map,
+                faults: Vec::new(alloc),
+            })),
+            Err(stop) => Ok(Err(fault_of_records(stop)?)),
+        }
+    }
+}
+
+// The map that was found with its faults, or why there is none.
+fn subject_of(alloc: Global, found: Findings) -> Result<Result<Subject, MapFault>, Stop>
+    ensures found { (options : Options) (known : Option (List ℕ)) → IfSome known (λ text. AreFindingsOf options text found) →
+        IfOk result (IsSubjectOf options known true) }
+    ensures stopped { (options : Options) (known : Option (List ℕ)) → IfSome known (λ text. AreFindingsOf options text found) →
+        IfErr result (MayStop (StopsRecords (layout_with options) known)) }
+    ensures no_device { IfErr result (λ stop. ¬ (stop ≡ Device)) }
+{
+    let Findings { listing, map } = found;
+    match map {
+        Some(map) => Ok(Ok(Subject {
+            map,
+            faults: faults_of(alloc, listing),
+        })),
+        None => Ok(Err(first_of(&listing)?)),
+    }
+}
+
+// The faults that are listed.
+fn faults_of(alloc: Global, listing: Listing) -> Vec<MapFault>
+    ensures { result.items ≡ listed_faults listing }
+{
+    match listing {
+        Listing::Faults { faults, .. } => faults,
+        Listing::Sound(_) | Listing::Refused(_) => Vec::new(alloc),
+    }
+}
+
+// The first of what is listed of records that have no map.
+fn first_of(listing: &Listing) -> Result<MapFault, Stop>
+    ensures { result ≡ first_listed listing.now }
+{
+    match listing {
+        Listing::Sound(_) => Err(Stop::Memory),
+        Listing::Refused(list) => Err(first_refused(list.as_slice())),
+        Listing::Faults { faults, .. } => first_fault(faults.as_slice()),
+    }
+}
+
+// The first of refusals.
+fn first_refused(list: &[Refusal]) -> Stop
+    ensures { result ≡ first_refused list.now }
+{
+    match list {
+        [refusal, ..] => Stop::Record {
+            line: refusal.line,
+            cause: refusal.cause,
+        },
+        [] => Stop::Memory,
+    }
+}
+
+// The first of faults, where it's one of records.
+fn first_fault(list: &[MapFault]) -> Result<MapFault, Stop>
+    ensures { result ≡ first_fault list.now }
+{
+    match list {
+        [MapFault::Records(fault), ..] => Ok(MapFault::Records(*fault)),
+        _ => Err(Stop::Memory),
+    }
+}

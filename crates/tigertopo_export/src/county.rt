@@ -1,0 +1,130 @@
+//! Counties that are exported.
+
+ghost use Rattle.std.specs.Prelude.{◌≡◌, ◌<◌, ◌^◌, [], Some, length, map as map_list, string_bytes};
+ghost use Rattle.tl_record.specs.Layout.{layout_with};
+ghost use Rattle.tigertopo_files.specs.Files.{IsFree};
+ghost use Rattle.tigertopo_files.specs.World.{Does, world};
+ghost use Rattle.tigertopo_files.specs.declared.beginning.FileKind.TheVariants.{Collection};
+ghost use Rattle.tl_check_verdict.specs.Sound.{IsSound};
+ghost use Rattle.tl_check_sides.specs.Walks.{AreWalks};
+ghost use Rattle.tigertopo_outcome.specs.Answers.{IsSaid};
+ghost use Rattle.tigertopo_files.specs.Reading.{text_under};
+ghost use Rattle.tigertopo_outcome.specs.Records.{StopsNever, StopsRecords};
+ghost use Rattle.tigertopo_export.specs.Exports.{ExportAnswers, IsExportedOf, counts_of};
+
+use std::alloc::Global;
+use std::hash::RandomState;
+use tigertopo_files::{FileKind, FileSystem, make_file};
+use tigertopo_geojson::{CountyText, CountyTextWith};
+use tigertopo_outcome::outcome::{Exported, Outcome};
+use tigertopo_outcome::reading::over_records;
+use tigertopo_outcome::records::MapOf;
+use tigertopo_outcome::said::{Answer, Said};
+use tl_build::find_walks;
+use tl_cert_output::Stop;
+use tl_map_county::Map;
+use tl_record::Options;
+
+/// Exports the map of the records in the files of these names as GeoJSON, to a file of the name `made`, which it may take. The map need
+/// not be sound: of one that isn't there are no boundaries. The file takes its name when it is whole.
+pub fn export<F: FileSystem>(
+    files: &mut F,
+    alloc: Global,
+    hasher: RandomState,
+    options: Options,
+    names: &[String],
+    made: &String,
+) -> Result<Answer<Said>, Stop>
+    requires { IsFree (F.under files.old) (string_bytes made.now) (map_list string_bytes names.now) Collection }
+    ensures { let w = world F.under F.log F.knows files.old files.new in
+        let known = text_under (F.under files.old) (map_list string_bytes names.now) in
+        Does w (map_list string_bytes names.now) (Some (string_bytes made.now))
+        (IsSaid (ExportAnswers w (layout_with options) known (string_bytes made.now))) (StopsRecords (layout_with options) known) result }
+{
+    match over_records(files, alloc, hasher, names, &MapOf { options })? {
+        Ok(map) => export_map(files, alloc, names, made, &map),
+        Err(fault) => Ok(Answer::of(Outcome::fault(fault))),
+    }
+}
+
+// Exports a map, with its polygons' boundaries where it is sound.
+fn export_map<F: FileSystem>(
+    files: &mut F,
+    alloc: Global,
+    names: &[String],
+    made: &String,
+    map: &Map,
+) -> Result<Answer<Said>, Stop>
+    requires { IsFree (F.under files.old) (string_bytes made.now) (map_list string_bytes names.now) Collection }
+    ensures { let w = world F.under F.log F.knows files.old files.new in
+        Does w [] (Some (string_bytes made.now)) (IsExportedOf w (string_bytes made.now) map.now) StopsNever result }
+{
+    match find_walks(alloc, map)? {
+        Some(walks) => export_sound(files, alloc, names, made, map, &walks),
+        None => export_faulty(files, alloc, names, made, map),
+    }
+}
+
+// Exports a sound map, whose walks these are.
+fn export_sound<F: FileSystem>(
+    files: &mut F,
+    alloc: Global,
+    names: &[String],
+    made: &String,
+    map: &Map,
+    walks: &[Vec<u32>],
+) -> Result<Answer<Said>, Stop>
+    requires free { IsFree (F.under files.old) (string_bytes made.now) (map_list string_bytes names.now) Collection }
+    requires sound { IsSound map.now }
+    requires walks { AreWalks map.now.chains (map_list (λ w. w.items) walks.now) }
+    requires counted { length walks.now < 2 ^ 32 }
+    ensures { let w = world F.under F.log F.knows files.old files.new in
+        Does w [] (Some (string_bytes made.now)) (IsExportedOf w (string_bytes made.now) map.now) StopsNever result }
+{
+    let text = CountyTextWith { map, walks };
+    make_file(
+        files,
+        alloc,
+        made.as_str(),
+        names,
+        FileKind::Collection,
+        &text,
+    )?;
+    Ok(Answer::of(Outcome::Exported(counts(map, Some(walks.len() as u32)))))
+}
+
+// Exports a map that isn't sound.
+fn export_faulty<F: FileSystem>(
+    files: &mut F,
+    alloc: Global,
+    names: &[String],
+    made: &String,
+    map: &Map,
+) -> Result<Answer<Said>, Stop>
+    requires free { IsFree (F.under files.old) (string_bytes made.now) (map_list string_bytes names.now) Collection }
+    requires faulty { ¬ IsSound map.now }
+    ensures { let w = world F.under F.log F.knows files.old files.new in
+        Does w [] (Some (string_bytes made.now)) (IsExportedOf w (string_bytes made.now) map.now) StopsNever result }
+{
+    let text = CountyText { map };
+    make_file(
+        files,
+        alloc,
+        made.as_str(),
+        names,
+        FileKind::Collection,
+        &text,
+    )?;
+    Ok(Answer::of(Outcome::Exported(counts(map, None))))
+}
+
+// The numbers of a map that was exported, with so many rings.
+fn counts(map: &Map, rings: Option<u32>) -> Exported
+    ensures { result ≡ counts_of map.now rings }
+{
+    Exported {
+        chains: map.chains(),
+        polygons: map.polygons(),
+        rings,
+    }
+}

@@ -1,0 +1,12 @@
+use Rattle.tigertopo_files.specs.Looking.{may_at}
+use Rattle.tigertopo_files.specs.declared.looking.Spot.TheVariants as spot
+use Rattle.tigertopo_files.proofs.LookLemmas.{whole_told}
+use Rattle.tigertopo_files.proofs.looking.goes.Goals as goal
+
+pub returns-in-Name : goal.returns-in-Name
+returns-in-Name g c =
+    rw c.in-Name.is (whole_told (may_at spot.Name c.args.kind) c.is_of_kind.result (g.L.Lookup.held c.args.files.now) (g.L.File.Read.remaining c.in_ok-file.file) c.args.name.now c.args.size c.in_ok-file.ensures c.is_of_kind.ensures)
+
+pub returns : goal.returns
+returns g c =
+    rw c.in-Beside.is (whole_told (may_at spot.Beside c.args.kind) c.is_unfinished.result (g.L.Lookup.held c.args.files.now) (g.L.File.Read.remaining c.in_ok-file.file) c.args.name.now c.args.size c.in_ok-file.ensures c.is_unfinished.ensures)

@@ -1,0 +1,12 @@
+use Rattle.std.proofs.Common.{◌≡◌, ◌*◌, arith, length}
+use Rattle.tigertopo_geojson.proofs.areas.doubled_areas.Goals as goal
+
+pub returns : goal.returns
+returns c =
+    let chains = c.args.map.now.chains in
+    let all : c.loop-dart.dart ≡ 2 * length chains = omega (arith, c.darts-dart-end.ensures, c.loop-dart-test.false, c.loop-dart.auto.dart-end) in
+    record {
+      long = c.loop-dart.invariant.long;
+      each = λ p within. rw (← all) (c.loop-dart.invariant.areas p within);
+      small = λ p within. omega (arith, (rw all at c.loop-dart.invariant.bound p within), c.darts-dart-end.ensures, c.darts-dart-end.type_inv);
+    }

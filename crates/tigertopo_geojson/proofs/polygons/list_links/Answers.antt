@@ -1,0 +1,16 @@
+use Rattle.std.proofs.Common.{◌++◌, ◌∷◌, [], Some, sym, ap, ◌∙◌}
+use Rattle.std.specs.List.{flat_map}
+use Rattle.tl_map_county.specs.TheMap.{MapLandmark}
+use Rattle.tigertopo_geojson.proofs.TextLemmas.{each_next}
+use Rattle.tigertopo_geojson.proofs.polygons.list_links.Goals as goal
+
+pub loop-number-preserved : goal.loop-number-preserved
+loop-number-preserved c =
+    let m = c.args.map.now in
+    let n = c.loop-number.number in
+    let landmark = c.landmark.ensures.landmark in (
+      c.in_ok-add_links.ensures.lands ∙ ap (λ l. l ++ flat_map (λ p. c.landmark.result.land ∷ []) c.landmark.result.polygons.now) c.loop-number.invariant.0
+          ∙ sym (each_next (λ (l : MapLandmark). flat_map (λ p. l.land ∷ []) l.polygons) m.landmarks n _ landmark),
+      c.in_ok-add_links.ensures.polygons ∙ ap (λ l. l ++ flat_map (λ p. Some p ∷ []) c.landmark.result.polygons.now) c.loop-number.invariant.1
+          ∙ sym (each_next (λ (l : MapLandmark). flat_map (λ p. Some p ∷ []) l.polygons) m.landmarks n _ landmark),
+    )

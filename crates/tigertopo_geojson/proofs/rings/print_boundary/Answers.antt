@@ -1,0 +1,16 @@
+use Rattle.std.proofs.Common.{refl, to_z-of_z}
+use Rattle.std.specs.Int.{w128}
+use Rattle.std.proofs.lemmas.Int.{fits_signed_from_abs}
+use Rattle.tigertopo_geojson.specs.Areas.{doubled_area}
+use Rattle.tigertopo_geojson.specs.Rings.{boundary_text}
+use Rattle.tl_cert_output.proofs.PrinterLemmas.{both, as_text}
+use Rattle.tigertopo_geojson.proofs.rings.print_boundary.Goals as goal
+
+pub returns : goal.returns
+unfolding boundary_text
+returns g c =
+    let rings = c.print_rings.ensures _ (c.requires.groups.each c.args.number c.requires.number) in
+    let area = c.requires.areas.each c.args.number c.requires.number in
+    let back = to_z-of_z {z = doubled_area c.args.map.now.chains c.args.number} (fits_signed_from_abs w128 _ (c.requires.areas.small c.args.number c.requires.number)) in
+    as_text (both (both (both (both (both (both c.add.ensures rings) c.add-2.ensures) c.print_key.ensures) c.add-3.ensures) c.print_half.ensures) c.add-4.ensures)
+    (rw (c.polygon.ensures, area, back) refl)

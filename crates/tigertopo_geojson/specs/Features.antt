@@ -1,0 +1,73 @@
+-- The features of chains and of polygons' points, and collections of features.
+use Rattle.std.specs.Prelude.{ℕ, zero, suc, ◌+◌, List, [], ◌∷◌, ◌++◌, slice_get, slice_index_or, Option, Some, codes, decimal}
+use Rattle.std.specs.Option.{option_map_or}
+use Rattle.tl_geom.specs.declared.point.Point.{Point}
+use Rattle.tl_map_county.specs.declared.polygons.Polygon.{Polygon}
+use Rattle.tl_map_county.specs.declared.sides.Side.{Side}
+use Rattle.tl_map_county.specs.declared.sides.Side.TheVariants as side
+use Rattle.tl_map_county.specs.TheMap.{TheMap, MapChain, MapLandmark}
+use Rattle.std.specs.List.{flat_map}
+use Rattle.tigertopo_geojson.specs.Strings.{key_string}
+use Rattle.tigertopo_geojson.specs.Positions.{position_text, positions_text}
+use Rattle.tigertopo_geojson.specs.Groups.{places}
+
+-- what stands before feature n: a line feed, and a comma before that where it isn't the first one
+abbrev pub lead : ℕ → List ℕ
+lead zero = codes "\n"
+lead (suc n) = codes ",\n"
+
+-- the features that `feature` gives below n, where k features stand before them
+abbrev pub features_below : ℕ → (ℕ → List ℕ) → ℕ → List ℕ
+features_below k feature zero = []
+features_below k feature (suc n) = features_below k feature n ++ lead (k + n) ++ feature n
+
+-- the texts of a list's items with a comma between two
+abbrev pub separated : {X : Type 0} → (X → List ℕ) → List X → List ℕ
+separated text [] = []
+separated text (x ∷ rest) = text x ++ flat_map (λ y. codes "," ++ text y) rest
+
+-- what lies on a side: the key of its polygon, or null outside
+abbrev pub side_text : List Polygon → Side → List ℕ
+side_text polygons side.Outside = codes "null"
+side_text polygons (side.Polygon p) = option_map_or (λ (polygon : Polygon). key_string polygon.key) (slice_get polygons p) (codes "null")
+
+-- a chain: a line from its start to its end, its TLID and what lies on both sides
+unfoldable pub chain_text : List Polygon → (tlid : ℕ) → List Point → (left right : Side) → List ℕ
+chain_text polygons tlid points left right =
+    codes "{\"type\":\"Feature\",\"geometry\":{\"type\":\"LineString\",\"coordinates\":[" ++ positions_text points
+    ++ codes "]},\"properties\":{\"tlid\":" ++ decimal tlid
+    ++ codes ",\"left\":" ++ side_text polygons left
+    ++ codes ",\"right\":" ++ side_text polygons right ++ codes "}}"
+
+-- the chain with this number
+abbrev pub chain_feature : TheMap → ℕ → List ℕ
+chain_feature m c = option_map_or (λ (chain : MapChain). chain_text m.polygons chain.tlid chain.points chain.left chain.right) (slice_get m.chains c) []
+
+-- of each link of a landmark with a polygon the landmark's LAND, and beside it the polygon
+abbrev pub linked_lands : List MapLandmark → List ℕ
+linked_lands landmarks = flat_map (λ (landmark : MapLandmark). flat_map (λ p. landmark.land ∷ []) landmark.polygons) landmarks
+
+abbrev pub linked_polygons : List MapLandmark → List (Option ℕ)
+linked_polygons landmarks = flat_map (λ (landmark : MapLandmark). flat_map (λ p. Some p ∷ []) landmark.polygons) landmarks
+
+-- the LANDs of the landmarks that polygon p is linked to, in the landmarks' order
+abbrev pub lands_text : List MapLandmark → ℕ → List ℕ
+lands_text landmarks p = separated (λ n. decimal (slice_index_or (linked_lands landmarks) n 0)) (places p (linked_polygons landmarks))
+
+-- a polygon: its point, its key and the LANDs
+unfoldable pub polygon_text : Polygon → List ℕ → List ℕ
+polygon_text polygon lands =
+    codes "{\"type\":\"Feature\",\"geometry\":{\"type\":\"Point\",\"coordinates\":" ++ position_text polygon.point
+    ++ codes "},\"properties\":{\"polygon\":" ++ key_string polygon.key
+    ++ codes ",\"landmarks\":[" ++ lands ++ codes "]}}"
+
+-- the polygon with this number
+abbrev pub polygon_feature : TheMap → ℕ → List ℕ
+polygon_feature m p = option_map_or (λ (polygon : Polygon). polygon_text polygon (lands_text m.landmarks p)) (slice_get m.polygons p) []
+
+-- how a collection begins and ends
+abbrev pub collection_opening : List ℕ
+collection_opening = codes "{\"type\":\"FeatureCollection\",\"name\":\"tigertopo\",\"features\":["
+
+abbrev pub collection_closing : List ℕ
+collection_closing = codes "\n]}\n"

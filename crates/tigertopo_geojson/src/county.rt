@@ -1,0 +1,86 @@
+//! A county as one FeatureCollection.
+
+ghost use Rattle.std.specs.Prelude.{◌≡◌, ◌++◌, IfOk, length, map as map_list};
+ghost use Rattle.tl_check_sides.specs.Walks.{AreWalks};
+ghost use Rattle.tl_cert_output.specs.Printing.{Prints};
+ghost use Rattle.tl_cert_output.specs.Texts.{PrintsText};
+ghost use Rattle.tigertopo_geojson.specs.Features.{linked_lands, linked_polygons, collection_opening};
+ghost use Rattle.tigertopo_geojson.specs.Groups.{AreGroups};
+ghost use Rattle.tigertopo_geojson.specs.Rings.{chains_and_points, county_text, county_text_with};
+
+use crate::areas::doubled_areas;
+use crate::features::print_chains;
+use crate::groups::Groups;
+use crate::polygons::{list_links, print_polygons};
+use crate::rings::{list_walk_polygons, print_boundaries};
+use std::alloc::{AllocError, Global};
+use tl_cert_output::{Printer, Stop};
+use tl_map_county::Map;
+use tl_record::Sink;
+
+/// Prints a county: each chain with its TLID and its sides, and each polygon's point with its key and its landmarks.
+pub fn print_county<S: Sink>(alloc: Global, map: &Map, out: &mut S) -> Result<(), Stop>
+    ensures { PrintsText S.contents S.failure_count out.old out.new (county_text map.now) result }
+{
+    let links = Links::new(alloc, map)?;
+    let mut printer = Printer::new();
+    print_front(map, &links, &mut printer, out);
+    printer.add(b"\n]}\n", out);
+    printer.finish(out)
+}
+
+/// Prints a county with the boundary of each polygon, which is of these walks: its rings and its area.
+pub fn print_county_with<S: Sink>(
+    alloc: Global,
+    map: &Map,
+    walks: &[Vec<u32>],
+    out: &mut S,
+) -> Result<(), Stop>
+    requires { AreWalks map.now.chains (map_list (λ w. w.items) walks.now) }
+    ensures { PrintsText S.contents S.failure_count out.old out.new
+        (county_text_with map.now (map_list (λ w. w.items) walks.now)) result }
+{
+    let links = Links::new(alloc, map)?;
+    let polygons = list_walk_polygons(alloc, map, walks)?;
+    let groups = Groups::new(alloc, polygons.as_slice(), map.polygons())?;
+    let areas = doubled_areas(alloc, map)?;
+    let mut printer = Printer::new();
+    print_front(map, &links, &mut printer, out);
+    print_boundaries(map, walks, &groups, areas.as_slice(), &mut printer, out);
+    printer.add(b"\n]}\n", out);
+    printer.finish(out)
+}
+
+// The links of landmarks with polygons: their LANDs, and the links of each polygon.
+#[derive(Drop)]
+struct Links {
+    lands: Vec<u64>,
+    polygons: Groups,
+}
+
+impl Links {
+    fn new(alloc: Global, map: &Map) -> Result<Links, AllocError>
+        ensures lands { IfOk result (λ links. links.lands.items ≡ linked_lands map.now.landmarks) }
+        ensures polygons { IfOk result (λ links.
+            AreGroups (length map.now.polygons) (linked_polygons map.now.landmarks) links.polygons) }
+    {
+        let (lands, polygons) = list_links(alloc, map)?;
+        let polygons = Groups::new(alloc, polygons.as_slice(), map.polygons())?;
+        Ok(Links { lands, polygons })
+    }
+}
+
+// Prints how a county begins: all but the boundaries and the end.
+fn print_front<S: Sink>(map: &Map, links: &Links, printer: &mut Printer, out: &mut S)
+    requires lands { links.now.lands.items ≡ linked_lands map.now.landmarks }
+    requires polygons { AreGroups (length map.now.polygons) (linked_polygons map.now.landmarks) links.now.polygons }
+    ensures { Prints S.contents S.failure_count (out.old, printer.old) (out.new, printer.new)
+        (collection_opening ++ chains_and_points map.now) }
+{
+    printer.add(
+        b"{\"type\":\"FeatureCollection\",\"name\":\"tigertopo\",\"features\":[",
+        out,
+    );
+    print_chains(map, printer, out);
+    print_polygons(map, links.lands.as_slice(), &links.polygons, printer, out);
+}

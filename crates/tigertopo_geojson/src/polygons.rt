@@ -1,0 +1,137 @@
+//! Features of polygons' points, and the landmarks of polygons.
+
+ghost use Rattle.std.specs.Prelude.{◌≡◌, ◌+◌, ◌<◌, ◌++◌, [], ◌∷◌, ℕ, List};
+ghost use Rattle.std.specs.Prelude.{IfOk, OnOk, Some, codes, decimal, length, slice_index, slice_index_or};
+ghost use Rattle.tl_cert_output.specs.Printing.{Prints};
+ghost use Rattle.std.specs.List.{flat_map};
+ghost use Rattle.tigertopo_geojson.specs.Groups.{GoesThrough, AreGroups};
+ghost use Rattle.tigertopo_geojson.specs.Features.{features_below, separated, linked_lands, linked_polygons, polygon_feature};
+
+use crate::features::print_lead;
+use crate::groups::Groups;
+use crate::positions::print_position;
+use crate::strings::print_key;
+use std::alloc::{AllocError, Global};
+use tl_cert_output::Printer;
+use tl_map_county::{Landmark, Map};
+use tl_record::Sink;
+
+/// Of each link of a landmark with a polygon the LAND, and the polygon.
+pub fn list_links(alloc: Global, map: &Map) -> Result<(Vec<u64>, Vec<Option<u32>>), AllocError>
+    ensures lands { IfOk result (λ links. links.0.items ≡ linked_lands map.now.landmarks) }
+    ensures polygons { IfOk result (λ links. links.1.items ≡ linked_polygons map.now.landmarks) }
+{
+    let mut lands = Vec::new(alloc);
+    let mut polygons = Vec::new(alloc);
+    for number in 0..map.landmarks() {
+        add_links(&map.landmark(number), &mut lands, &mut polygons)?;
+    }
+    Ok((lands, polygons))
+}
+
+// Adds the links of a landmark.
+fn add_links(
+    landmark: &Landmark<'_>,
+    lands: &mut Vec<u64>,
+    polygons: &mut Vec<Option<u32>>,
+) -> Result<(), AllocError>
+    ensures lands { OnOk result (lands.new.items ≡ lands.old.items ++ flat_map (λ p. landmark.now.land ∷ []) landmark.now.polygons.now) }
+    ensures polygons { OnOk result (polygons.new.items ≡ polygons.old.items ++ flat_map (λ p. Some p ∷ []) landmark.now.polygons.now) }
+{
+    for polygon in landmark.polygons {
+        lands.push(landmark.land)?;
+        polygons.push(Some(*polygon))?;
+    }
+    Ok(())
+}
+
+/// Prints the polygons of a map: their points, keys and landmarks.
+pub fn print_polygons<S: Sink>(
+    map: &Map,
+    lands: &[u64],
+    links: &Groups,
+    printer: &mut Printer,
+    out: &mut S,
+)
+    requires lands { lands.now ≡ linked_lands map.now.landmarks }
+    requires links { AreGroups (length map.now.polygons) (linked_polygons map.now.landmarks) links.now }
+    requires beside { length lands.now ≡ length links.now.next }
+    ensures { Prints S.contents S.failure_count (out.old, printer.old) (out.new, printer.new)
+        (features_below (length map.now.chains) (polygon_feature map.now) (length map.now.polygons)) }
+{
+    let before = u64::from(map.chains());
+    for number in 0..map.polygons() {
+        print_lead(before + u64::from(number), printer, out);
+        print_polygon(map, number, lands, links, printer, out);
+    }
+}
+
+// Prints the polygon of this number.
+fn print_polygon<S: Sink>(
+    map: &Map,
+    number: u32,
+    lands: &[u64],
+    links: &Groups,
+    printer: &mut Printer,
+    out: &mut S,
+)
+    requires number { number < length map.now.polygons }
+    requires lands { lands.now ≡ linked_lands map.now.landmarks }
+    requires links { AreGroups (length map.now.polygons) (linked_polygons map.now.landmarks) links.now }
+    requires beside { length lands.now ≡ length links.now.next }
+    ensures { Prints S.contents S.failure_count (out.old, printer.old) (out.new, printer.new) (polygon_feature map.now number) }
+{
+    let polygon = map.polygon(number);
+    printer.add(
+        b"{\"type\":\"Feature\",\"geometry\":{\"type\":\"Point\",\"coordinates\":",
+        out,
+    );
+    print_position(polygon.point, printer, out);
+    printer.add(b"},\"properties\":{\"polygon\":", out);
+    print_key(polygon.key, printer, out);
+    printer.add(b",\"landmarks\":[", out);
+    print_lands(lands, links, number, printer, out);
+    printer.add(b"]}}", out);
+}
+
+// Prints the LANDs of a polygon.
+fn print_lands<S: Sink>(
+    lands: &[u64],
+    links: &Groups,
+    polygon: u32,
+    printer: &mut Printer,
+    out: &mut S,
+)
+    requires polygon { polygon < length links.now.first }
+    requires beside { length lands.now ≡ length links.now.next }
+    ensures { (ns : List ℕ) → GoesThrough links.now.next (slice_index links.now.first polygon) ns →
+        Prints S.contents S.failure_count (out.old, printer.old) (out.new, printer.new)
+        (separated (λ n. decimal (slice_index_or lands.now n 0)) ns) }
+{
+    let first = links.first(polygon);
+    if first < links.items() {
+        printer.number(lands[first], out);
+        print_more_lands(lands, links, links.next(first), printer, out);
+    }
+}
+
+// Prints the LANDs of these links, each behind a comma.
+fn print_more_lands<S: Sink>(
+    lands: &[u64],
+    links: &Groups,
+    start: usize,
+    printer: &mut Printer,
+    out: &mut S,
+)
+    requires { length lands.now ≡ length links.now.next }
+    ensures { (ns : List ℕ) → GoesThrough links.now.next start ns →
+        Prints S.contents S.failure_count (out.old, printer.old) (out.new, printer.new)
+        (flat_map (λ n. codes "," ++ decimal (slice_index_or lands.now n 0)) ns) }
+{
+    let mut at = start;
+    while at < links.items() {
+        printer.add(b",", out);
+        printer.number(lands[at], out);
+        at = links.next(at);
+    }
+}

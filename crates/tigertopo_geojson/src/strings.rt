@@ -1,0 +1,104 @@
+//! Strings of JSON.
+
+ghost use Rattle.std.specs.Prelude.{◌≡◌, ◌+◌, ◌<◌, ◌≤◌, ◌++◌, encode_utf8};
+ghost use Rattle.arrayvec.specs.ArrayString.{array_string_len};
+ghost use Rattle.tl_record_key.specs.KeyText.{key_text};
+ghost use Rattle.tl_cert_output.specs.Printing.{Prints};
+ghost use Rattle.std.specs.List.{flat_map};
+ghost use Rattle.tigertopo_geojson.specs.Strings.{hex_digit, control_text, escaped_byte, string_text, key_string};
+
+use arrayvec::ArrayString;
+use itoa::Buffer;
+use tl_cert_output::Printer;
+use tl_record::Sink;
+use tl_record_key::PolyKey;
+
+// Five characters of up to four bytes each, a slash, and twenty digits.
+const LONGEST_KEY: usize = 41;
+
+/// Prints a text as a string.
+pub fn print_string<S: Sink>(text: &[u8], printer: &mut Printer, out: &mut S)
+    ensures { Prints S.contents S.failure_count (out.old, printer.old) (out.new, printer.new) (string_text text.now) }
+{
+    printer.add(b"\"", out);
+    print_escaped(text, printer, out);
+    printer.add(b"\"", out);
+}
+
+// Prints the bytes of a string.
+fn print_escaped<S: Sink>(text: &[u8], printer: &mut Printer, out: &mut S)
+    ensures { Prints S.contents S.failure_count (out.old, printer.old) (out.new, printer.new) (flat_map escaped_byte text.now) }
+{
+    for byte in text {
+        print_byte(*byte, printer, out);
+    }
+}
+
+fn print_byte<S: Sink>(byte: u8, printer: &mut Printer, out: &mut S)
+    ensures { Prints S.contents S.failure_count (out.old, printer.old) (out.new, printer.new) (escaped_byte byte) }
+{
+    if byte == b'"' {
+        printer.add(b"\\\"", out);
+    } else if byte == b'\\' {
+        printer.add(b"\\\\", out);
+    } else if byte < 32 {
+        print_control(byte, printer, out);
+    } else {
+        printer.add(&[byte], out);
+    }
+}
+
+// Prints a control character by its number.
+fn print_control<S: Sink>(byte: u8, printer: &mut Printer, out: &mut S)
+    ensures { Prints S.contents S.failure_count (out.old, printer.old) (out.new, printer.new) (control_text byte) }
+{
+    printer.add(b"\\u00", out);
+    printer.add(&[digit(byte / 16), digit(byte % 16)], out);
+}
+
+// A hexadecimal digit.
+fn digit(number: u8) -> u8
+    requires { number < 16 }
+    ensures { result ≡ hex_digit number }
+{
+    if number < 10 {
+        b'0' + number
+    } else {
+        b'a' - 10 + number
+    }
+}
+
+/// Prints the key of a polygon as a string.
+pub fn print_key<S: Sink>(key: PolyKey, printer: &mut Printer, out: &mut S)
+    ensures { Prints S.contents S.failure_count (out.old, printer.old) (out.new, printer.new) (key_string key) }
+{
+    let text = text_of_key(key);
+    print_string(text.as_str().as_bytes(), printer, out);
+}
+
+// The key of a polygon, put together before it is printed.
+fn text_of_key(key: PolyKey) -> ArrayString<LONGEST_KEY>
+    ensures { result.bytes ≡ key_text key }
+{
+    let [first, second, third, fourth, fifth] = key.shown_cenid();
+    let mut text = ArrayString::new();
+    push_char(&mut text, first);
+    push_char(&mut text, second);
+    push_char(&mut text, third);
+    push_char(&mut text, fourth);
+    push_char(&mut text, fifth);
+    let mut digits = Buffer::new();
+    text.push_str("/");
+    text.push_str(digits.format(key.polyid));
+    text
+}
+
+// Puts a character behind the text.
+fn push_char(text: &mut ArrayString<LONGEST_KEY>, c: char)
+    requires { array_string_len text.old ≤ 16 }
+    ensures bytes { text.new.bytes ≡ text.old.bytes ++ encode_utf8 c }
+    ensures room { array_string_len text.new ≤ array_string_len text.old + 4 }
+{
+    let mut bytes = [0; 4];
+    text.push_str(c.encode_utf8(&mut bytes));
+}

@@ -1,0 +1,234 @@
+-- What is answered of what was found.
+use Rattle.std.proofs.Common.{◌≡◌, ◌⊎◌, inl, inr, ℕ, ◌+◌, Bool, true, List, [], ◌∷◌, ◌++◌, map, Some, None, Option, Result, Ok, Err, refl, sym, ap, subst, ◌∙◌, arith, append-nil}
+use Rattle.std.specs.Prelude.{slice_get, Vec}
+use Rattle.std.specs.Global.{Global}
+use Rattle.std.specs.Option.{IfSome}
+use Rattle.std.specs.Result.{IsErrAnd}
+use Rattle.std.proofs.lemmas.Option.{IfSome_then}
+use Rattle.tl_record.specs.declared.layout.Layout.{Layout}
+use Rattle.tl_record.specs.declared.options.Options.{Options}
+use Rattle.tl_record.specs.declared.refusal.Refusal.{Refusal}
+use Rattle.tl_record.specs.Layout.{layout_with}
+use Rattle.tl_record.specs.Records.{records_of, judgements}
+use Rattle.tl_record.specs.Lines.{raw_lines}
+use Rattle.tl_record.specs.Refusals.{refusals_of}
+use Rattle.tl_record.specs.Searching.{pair_of}
+use Rattle.tl_record.proofs.RefusalLemmas.{first_refusal as first_of_judged}
+use Rattle.tl_map_county.specs.TheMap.{TheMap, MapChain}
+use Rattle.tigertopo_files.specs.Files.{Under}
+use Rattle.tigertopo_files.specs.Log.{Log, LogsAgain}
+use Rattle.tigertopo_files.specs.World.{World, Does, Failed, MayStop, Made}
+use Rattle.tigertopo_hint.specs.Again.{FailsAgain, SomeUnread}
+use Rattle.tigertopo_files.proofs.WorldLemmas.{all_kept, none_made, unmade_from, may_stop, does_then}
+use Rattle.tigertopo_words.specs.declared.budget.Told.{Told}
+use Rattle.tigertopo_words.specs.declared.budget.Told.TheVariants.{One, All}
+use Rattle.tl_cert_output.specs.declared.stop.Stop.{Stop}
+use Rattle.tl_cert_output.specs.declared.stop.Stop.TheVariants.{Record, Memory, Device, Budget}
+use Rattle.tl_cert_output.specs.Stops.{StopsFor}
+use Rattle.tl_check_verdict.specs.declared.fault.MapFault.{MapFault}
+use Rattle.tl_check_verdict.specs.declared.verdict.Report.{Report}
+use Rattle.tl_check_verdict.proofs.OneMap.{weaker}
+use Rattle.tl_list_text.specs.declared.listing.Listing.TheVariants.{Sound, Refused, Faults}
+use Rattle.tl_list_text.specs.Listings.{IsListingOf}
+use Rattle.tl_list.specs.Findings.{AreFindingsOf}
+use Rattle.tl_list.proofs.Listed.{sound_alone}
+use Rattle.tigertopo_fault_records.specs.SpokenOf.{chains_of}
+use Rattle.tigertopo_fault_records.specs.Keeping.{held}
+use Rattle.tigertopo_fault_lines.specs.declared.again.Spoken.{Spoken}
+use Rattle.tigertopo_fault_lines.specs.Again.{AreSpoken}
+use Rattle.tigertopo_fault_map.specs.Texts.{faults_text}
+use Rattle.tigertopo_outcome.specs.Records.{StopsNever}
+use Rattle.tigertopo_outcome.specs.declared.said.Answer.{Answer}
+use Rattle.tigertopo_lists.specs.declared.listed.Listed.{Listed}
+use Rattle.tigertopo_lists.specs.Listed.{Asked, ListAnswers, IsSoundList, IsFaultList, StopsList, StopsAgain, listed_text, told_text, featured, reads_again}
+use Rattle.tigertopo_lists.specs.Keeping.{IsPrepared, first_stop, refused_list, faults_answer}
+
+-- ---- what is done with files
+
+module _ {T : Type 0} (w : World) (same : w.after ≡ w.before) (logs : w.knows ≡ true → w.logged ≡ w.log) (made : Option (List ℕ)) (P : T → Type 0) (S : Stop → Type 0) where
+  none_opened : w.log ≡ record w.log { opened = w.log.opened ++ [] }
+  none_opened = ap (λ xs. record w.log { opened = xs }) (sym (append-nil w.log.opened))
+
+  none_failed : w.log ≡ record w.log { opened = w.log.opened ++ []; failures = w.log.failures + 0 }
+  none_failed =
+      let same : w.log.failures ≡ w.log.failures + 0 = omega arith in
+      none_opened ∙ ap (λ n. record w.log { opened = w.log.opened ++ []; failures = n }) same
+
+  -- nothing is done with files
+  pub does_nothing : (t : T) → P t → Does w [] made P S (Ok t)
+  does_nothing t so = record { answered = so; stopped = tt; device = λ e. absurd (cc); keeps = all_kept w made same; unmade = tt; logged = λ known. logs known ∙ none_opened }
+
+  -- nothing is, and nothing is answered
+  pub stops_still : (stop : Stop) → MayStop S stop → (stop ≡ Device → S Device) → Does {T = T} w [] made P S (Err stop)
+  stops_still (Record line cause) why device =
+      record { answered = tt; stopped = why; device = λ e. absurd (cc); keeps = all_kept w made same; unmade = none_made w made same; logged = λ known. (0, logs known ∙ none_opened) }
+  stops_still Memory why device =
+      record { answered = tt; stopped = tt; device = λ e. absurd (cc); keeps = all_kept w made same; unmade = none_made w made same; logged = λ known. (0, logs known ∙ none_opened) }
+  stops_still Device why device =
+      record { answered = tt; stopped = tt; device = λ e. inr (device refl); keeps = all_kept w made same; unmade = none_made w made same; logged = λ known. (0, 0, logs known ∙ none_failed) }
+  stops_still Budget why device =
+      record { answered = tt; stopped = why; device = λ e. absurd (cc); keeps = all_kept w made same; unmade = none_made w made same; logged = λ known. (0, logs known ∙ none_opened) }
+
+  -- the same of what `?` passes on
+  pub does_not : (failed : Type 0) (stop : Stop) → StopsFor failed stop → (failed → S Device) → (r : Result T Stop) → IsErrAnd r (λ told. told ≡ stop) → Does w [] made P S r
+  does_not failed stop why device (Ok t) is = absurd is
+  does_not failed stop why device (Err other) is = subst (λ s. Does {T = T} w [] made P S (Err s)) (sym is) (stops_still stop (may_stop failed S stop why) (λ e. device (subst (StopsFor failed) e why)))
+
+-- files were read again for the records, and that failed
+fails_again : (w : World) (asked : Asked) → FailsAgain w asked.names → reads_again asked.places asked.made ≡ true → Failed w [] ⊎ StopsAgain w asked Device
+fails_again w asked (inl (inl missing)) again = inr (again, inl missing)
+fails_again w asked (inl (inr failed)) again = inl (inr failed)
+fails_again w asked (inr endless) again = inr (again, inr endless)
+
+module _ (A : Type 0) {T : Type 0} (w : World) (asked : Asked) (same : w.after ≡ w.before) (P : T → Type 0) where
+  stops_behind : (stop : Stop) → StopsFor ((reads_again asked.places asked.made ≡ true) × FailsAgain w asked.names) stop → (w.knows ≡ true → LogsAgain {T = A} w.log w.logged (Err stop))
+      → Does {T = T} w [] asked.made P (StopsAgain w asked) (Err stop)
+  stops_behind (Record line cause) why logs = absurd why
+  stops_behind Memory why logs = stops_still w same logs asked.made P (StopsAgain w asked) Memory tt (λ e. absurd (cc))
+  stops_behind Device why logs = record {
+    answered = tt;
+    stopped = tt;
+    device = λ e. fails_again w asked why.1 why.0;
+    keeps = all_kept w asked.made same;
+    unmade = none_made w asked.made same;
+    logged = λ known. let some = logs known in (0, some.0, some.1 ∙ ap (λ xs. record w.log { opened = xs; failures = w.log.failures + some.0 }) (sym (append-nil w.log.opened)));
+  }
+  stops_behind Budget why logs = absurd why
+
+  pub does_not_read_again : (stop : Stop) → StopsFor ((reads_again asked.places asked.made ≡ true) × FailsAgain w asked.names) stop → (w.knows ≡ true → LogsAgain {T = A} w.log w.logged (Err stop))
+      → (r : Result T Stop) → IsErrAnd r (λ told. told ≡ stop) → Does w [] asked.made P (StopsAgain w asked) r
+  does_not_read_again stop why logs (Ok t) is = absurd is
+  does_not_read_again stop why logs (Err other) is = subst (λ s. Does {T = T} w [] asked.made P (StopsAgain w asked) (Err s)) (sym is) (stops_behind stop why logs)
+
+-- what is made stands there, whatever was done before
+made_from : (u v after : Under) (l m q : Log) (k : Bool) (made : Option (List ℕ)) (text : List ℕ) → Made (record { before = v; after = after; log = m; logged = q; knows = k }) made text
+    → Made (record { before = u; after = after; log = l; logged = q; knows = k }) made text
+made_from u v after l m q k None text made = tt
+made_from u v after l m q k (Some name) text made = made
+
+-- a file was made, or none, behind files that were read again
+pub made_behind : {T : Type 0} (u v after : Under) (l m q : Log) (k : Bool) (asked : Asked) → v ≡ u → (k ≡ true → m ≡ l) → (text : List ℕ) (r : Result T Stop)
+    → Does (record { before = v; after = after; log = m; logged = q; knows = k }) [] asked.made (λ done. Made (record { before = v; after = after; log = m; logged = q; knows = k }) asked.made text) StopsNever r
+    → Does (record { before = u; after = after; log = l; logged = q; knows = k }) [] asked.made (λ done. Made (record { before = u; after = after; log = l; logged = q; knows = k }) asked.made text)
+    (StopsAgain (record { before = u; after = after; log = l; logged = q; knows = k }) asked) r
+made_behind u v after l m q k asked same logs text r makes =
+    does_then {A = Unit {0}} u v after l m q k [] asked.made (λ _. Unit {0}) _ tt (does_nothing (record { before = u; after = v; log = l; logged = m; knows = k }) same logs None _ _ tt tt) _ _ StopsNever r makes
+    (λ t so. made_from u v after l m q k asked.made text so) (λ s never. absurd never)
+
+-- ---- what is answered of what was found
+
+first_is : (layout : Layout) (text : List ℕ) → slice_get (refusals_of layout text) 0 ≡ (records_of layout text).refusal
+first_is layout text = first_of_judged (judgements layout 0 (raw_lines text))
+
+module _ (options : Options) (known : Option (List ℕ)) (asked : Asked) where
+  -- a map is sound
+  pub sound_answers : (w : World) (report : Report) → IfSome known (λ text. IsListingOf options text (Sound report)) → (answer : Answer Listed) → IsSoundList w asked report answer
+      → ListAnswers w options known asked answer.status (listed_text answer.text)
+  sound_answers w report are answer so = inl (record {
+    report = report;
+    sound = IfSome_then known are (λ text have. weaker (records_of (layout_with options) text) _ _ (λ m is. record { sound = is.0; reported = is.1 }) have);
+    kept = so.kept;
+    is = ap (λ (a : Answer Listed). a.status) so.is;
+    line = ap (λ (a : Answer Listed). listed_text a.text) so.is;
+  })
+
+  -- it has faults
+  pub fault_answers : (w : World) (map : Option TheMap) (faults : Vec MapFault Global) (points_left : Bool)
+      → IfSome known (λ text. AreFindingsOf options text (record { listing = Faults faults points_left; map = map })) → (answer : Answer Listed)
+      → IsFaultList w (layout_with options) asked map (record { faults = faults; points_left = points_left }) answer → ListAnswers w options known asked answer.status (listed_text answer.text)
+  fault_answers w map faults points_left are answer so = inr (inl (record {
+    map = map;
+    faults = faults;
+    points_left = points_left;
+    are = are;
+    unsound = IfSome_then known are (λ text is sound. (sound_alone options text (Faults faults points_left) is.told).1 sound);
+    spoken = so.spoken;
+    speak = so.speak;
+    kept = so.kept;
+    is = so.is;
+    lines = so.lines;
+  }))
+
+  pub fault_stops : (w : World) (stop : Stop) → StopsAgain w asked stop → StopsList w options known asked stop
+  fault_stops w (Record line cause) why = absurd why
+  fault_stops w Memory why = why
+  fault_stops w Device why = why
+  fault_stops w Budget why = why
+
+  -- lines are refused
+  module _ (w : World) (list : Vec Refusal Global) (are : IfSome known (λ text. IsListingOf options text (Refused list))) where
+    first_stops : (refusals : List Refusal) → asked.told ≡ One → list.items ≡ refusals → MayStop (StopsList w options known asked) (first_stop refusals)
+    first_stops [] one is = tt
+    first_stops (refusal ∷ rest) one is = (
+      one,
+      IfSome_then known are (λ text lists. sym (first_is (layout_with options) text) ∙ sym (ap (λ rs. slice_get rs 0) (ap (map pair_of) (sym is) ∙ lists.1))),
+    )
+
+    no_device : (refusals : List Refusal) → first_stop refusals ≡ Device → StopsList w options known asked Device
+    no_device [] is = absurd (cc)
+    no_device (refusal ∷ rest) is = absurd (cc)
+
+    pub refused_answers : (same : w.after ≡ w.before) (logs : w.knows ≡ true → w.logged ≡ w.log) (told : Told) → asked.told ≡ told
+        → Does w [] asked.made (λ answer. ListAnswers w options known asked answer.status (listed_text answer.text)) (StopsList w options known asked) (refused_list told list)
+    refused_answers same logs One is = stops_still w same logs asked.made _ (StopsList w options known asked) (first_stop list.items) (first_stops list.items is refl) (no_device list.items)
+    refused_answers same logs (All most) is = does_nothing w same logs asked.made _ (StopsList w options known asked) _ (inr (inr (record {
+      most = most;
+      all = is;
+      list = list;
+      are_all = are;
+      unmade = none_made w asked.made same;
+      is = refl;
+      lines = refl;
+    })))
+
+-- ---- the same behind reading
+
+pub answers_from : (u v after : Under) (l m q : Log) (k : Bool) (options : Options) (known : Option (List ℕ)) (asked : Asked) (status : ℕ) (text : List ℕ) → v ≡ u
+    → ListAnswers (record { before = v; after = after; log = m; logged = q; knows = k }) options known asked status text
+    → ListAnswers (record { before = u; after = after; log = l; logged = q; knows = k }) options known asked status text
+answers_from u v after l m q k options known asked status text same (inl sound) =
+    inl (record { report = sound.report; sound = sound.sound; kept = made_from u v after l m q k asked.made _ sound.kept; is = sound.is; line = sound.line })
+answers_from u v after l m q k options known asked status text same (inr (inl faults)) = inr (inl (record {
+  map = faults.map;
+  faults = faults.faults;
+  points_left = faults.points_left;
+  are = faults.are;
+  unsound = faults.unsound;
+  spoken = faults.spoken;
+  speak = λ again. subst (λ x. AreSpoken (layout_with options) x asked.names (chains_of faults.map) (featured asked.told faults.faults.items) faults.spoken) same (faults.speak again);
+  kept = made_from u v after l m q k asked.made _ faults.kept;
+  is = faults.is;
+  lines = faults.lines;
+}))
+answers_from u v after l m q k options known asked status text same (inr (inr refused)) = inr (inr (record {
+  most = refused.most;
+  all = refused.all;
+  list = refused.list;
+  are_all = refused.are_all;
+  unmade = unmade_from u v after m q k asked.made same refused.unmade l;
+  is = refused.is;
+  lines = refused.lines;
+}))
+
+pub stops_from : (u v after : Under) (l m q : Log) (k : Bool) (options : Options) (known : Option (List ℕ)) (asked : Asked) → v ≡ u → (stop : Stop)
+    → StopsList (record { before = v; after = after; log = m; logged = q; knows = k }) options known asked stop → StopsList (record { before = u; after = after; log = l; logged = q; knows = k }) options known asked stop
+stops_from u v after l m q k options known asked same (Record line cause) why = why
+stops_from u v after l m q k options known asked same Memory why = why
+stops_from u v after l m q k options known asked same Device why = (why.0, subst (λ x. SomeUnread x asked.names) same why.1)
+stops_from u v after l m q k options known asked same Budget why = why
+
+-- ---- what is printed of faults, and what stands in the file
+
+pub answer_text : (names : List (List ℕ)) (chains : List MapChain) (spoken : Spoken) (places : Bool) (told : Told) (faults : Vec MapFault Global) (points_left : Bool) (text : Option (Vec ℕ Global))
+    → IsPrepared names chains spoken places told faults.items points_left text → listed_text (faults_answer text faults points_left told).text ≡ told_text names chains spoken places told faults.items points_left
+answer_text names chains spoken places told faults points_left (Some text) is = is
+answer_text names chains spoken places told faults points_left None is = rw (is.0, is.1.1) refl
+
+pub answer_status : (told : Told) (faults : Vec MapFault Global) (points_left : Bool) (text : Option (Vec ℕ Global)) → (faults_answer text faults points_left told).status ≡ 1
+answer_status told faults points_left (Some text) = refl
+answer_status told faults points_left None = refl
+
+-- the collection of no fault
+pub no_features : (names : List (List ℕ)) (spoken : Spoken) → faults_text names spoken.counts.items None (held spoken.lines) [] ≡ faults_text names [] None (λ s. []) []
+unfolding faults_text
+no_features names spoken = refl

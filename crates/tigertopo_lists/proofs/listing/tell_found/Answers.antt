@@ -1,0 +1,30 @@
+use Rattle.std.proofs.Common.{[], map, string_bytes, refl, subst}
+use Rattle.std.proofs.lemmas.Option.{IfSome_then}
+use Rattle.tl_list_text.specs.Listings.{IsListingOf}
+use Rattle.tigertopo_files.specs.World.{world}
+use Rattle.tigertopo_files.proofs.WorldLemmas.{does_so}
+use Rattle.tigertopo_outcome.specs.Records.{StopsNever}
+use Rattle.tigertopo_lists.specs.Listed.{wanted_of}
+use Rattle.tigertopo_lists.proofs.ListLemmas.{sound_answers, fault_answers, fault_stops, refused_answers}
+use Rattle.tigertopo_lists.proofs.listing.tell_found.Goals as goal
+
+pub returns-in-Sound : goal.returns-in-Sound
+returns-in-Sound g c = λ known are.
+    let asked = wanted_of (map string_bytes c.args.names.now) c.args.wanted in
+    does_so _ [] _ _ _ StopsNever _ (sound_answers c.args.options known asked _ c.in-Sound.report (IfSome_then known are (λ text is. subst (IsListingOf c.args.options text) c.in-Sound.is is.told)))
+    (λ s never. absurd never) _ c.tell_sound.ensures
+
+pub returns-in-Refused : goal.returns-in-Refused
+returns-in-Refused g c = λ known are.
+    let asked = wanted_of (map string_bytes c.args.names.now) c.args.wanted in
+    let w = world g.F.FileSystem.under g.F.FileSystem.log g.F.FileSystem.knows c.args.files.now c.args.files.now in
+    rw c.tell_refused.ensures (refused_answers c.args.options known asked w c.in-Refused.list
+    (IfSome_then known are (λ text is. subst (IsListingOf c.args.options text) c.in-Refused.is is.told)) refl (λ knows. refl) c.args.wanted.told refl)
+
+pub returns-in-Faults : goal.returns-in-Faults
+returns-in-Faults g c = λ known are.
+    let asked = wanted_of (map string_bytes c.args.names.now) c.args.wanted in
+    let w = world g.F.FileSystem.under g.F.FileSystem.log g.F.FileSystem.knows c.args.files.now c.tell_faults.new.files in
+    does_so _ [] _ _ _ _ _ (fault_answers c.args.options known asked _ c.args.found.map c.in-Faults.faults c.in-Faults.points_left
+    (IfSome_then known are (λ text is. record { told = subst (IsListingOf c.args.options text) c.in-Faults.is is.told; drawn = is.drawn })))
+    (fault_stops c.args.options known asked w) _ c.tell_faults.ensures

@@ -1,0 +1,41 @@
+-- Kept on the way: what is prepared before it is told. No public contract cites this file.
+use Rattle.std.specs.Prelude.{◌≡◌, ℕ, Bool, false, List, [], ◌∷◌, Option, Some, None, Result, Ok, Err, Vec}
+use Rattle.std.specs.Global.{Global}
+use Rattle.tl_map_county.specs.TheMap.{MapChain}
+use Rattle.tigertopo_words.specs.declared.budget.Told.{Told}
+use Rattle.tigertopo_words.specs.declared.budget.Told.TheVariants.{One, All}
+use Rattle.tl_check_verdict.specs.declared.fault.MapFault.{MapFault}
+use Rattle.tl_record.specs.declared.refusal.Refusal.{Refusal}
+use Rattle.tl_cert_output.specs.declared.stop.Stop.{Stop}
+use Rattle.tl_cert_output.specs.declared.stop.Stop.TheVariants.{Record, Memory}
+use Rattle.tl_list_text.specs.declared.listing.Listing.TheVariants as listing
+use Rattle.tigertopo_fault_lines.specs.declared.again.Spoken.{Spoken}
+use Rattle.tigertopo_outcome.specs.declared.said.Answer.{Answer}
+use Rattle.tigertopo_lists.specs.declared.listed.Listed.{Listed}
+use Rattle.tigertopo_lists.specs.declared.listed.Listed.TheVariants.{Listing, Lines}
+use Rattle.tigertopo_lists.specs.Listed.{told_text}
+
+-- the text of faults, or nothing where they are printed as they are listed
+abbrev pub IsPrepared : List (List ℕ) → List MapChain → Spoken → Bool → Told → List MapFault → Bool → Option (Vec ℕ Global) → Type 0
+IsPrepared names chains spoken places told faults points_left (Some text) = text.items ≡ told_text names chains spoken places told faults points_left
+IsPrepared names chains spoken places told faults points_left None = (places ≡ false) × ((most : Option ℕ) × (told ≡ All most))
+
+-- why there is no answer, where these lines are refused: the first of them
+abbrev pub first_stop : List Refusal → Stop
+first_stop [] = Memory
+first_stop (refusal ∷ rest) = Record refusal.line refusal.cause
+
+-- how many of a list are told, where not each is
+abbrev pub most_of : Told → Option ℕ
+most_of One = Some 1
+most_of (All most) = most
+
+-- what is answered of refused lines
+abbrev pub refused_list : Told → Vec Refusal Global → Result (Answer Listed) Stop
+refused_list One list = Err (first_stop list.items)
+refused_list (All most) list = Ok (record { status = 3; text = Listing (listing.Refused list) most })
+
+-- what was prepared of faults, or the listing of them
+abbrev pub faults_answer : Option (Vec ℕ Global) → Vec MapFault Global → Bool → Told → Answer Listed
+faults_answer (Some text) faults points_left told = record { status = 1; text = Lines text }
+faults_answer None faults points_left told = record { status = 1; text = Listing (listing.Faults faults points_left) (most_of told) }

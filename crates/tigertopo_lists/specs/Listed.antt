@@ -1,0 +1,140 @@
+-- What is answered where all that is wrong is asked for, or the records that faults speak of, or a file that is made of them.
+--
+-- `w` is what became of files, `known` the text of the records, where it is known, and `asked` what is asked.
+use Rattle.std.specs.Prelude.{◌≡◌, ◌⊎◌, ℕ, Bool, true, false, List, [], ◌++◌, length, take, Option, Some, None, IfSome, option_map, string_bytes, Vec}
+use Rattle.std.specs.Global.{Global}
+use Rattle.tl_record.specs.declared.options.Options.{Options}
+use Rattle.tl_record.specs.declared.layout.Layout.{Layout}
+use Rattle.tl_record.specs.declared.refusal.Refusal.{Refusal}
+use Rattle.tl_record.specs.Layout.{layout_with}
+use Rattle.tl_record.specs.Records.{records_of}
+use Rattle.tl_map_county.specs.TheMap.{TheMap, MapChain}
+use Rattle.tigertopo_files.specs.World.{World, Made, Unmade}
+use Rattle.tigertopo_hint.specs.Again.{SomeUnread}
+use Rattle.tigertopo_words.specs.declared.budget.Told.{Told}
+use Rattle.tigertopo_words.specs.declared.budget.Told.TheVariants.{One, All}
+use Rattle.tl_cert_output.specs.declared.stop.Stop.{Stop}
+use Rattle.tl_cert_output.specs.declared.stop.Stop.TheVariants.{Record, Device}
+use Rattle.tl_check_verdict.specs.declared.fault.MapFault.{MapFault}
+use Rattle.tl_check_verdict.specs.declared.verdict.Report.{Report}
+use Rattle.tl_check_verdict.specs.Messages.{map_fault_text}
+use Rattle.tl_check_verdict.specs.Records.{HaveMap}
+use Rattle.tl_check_verdict.specs.Sound.{IsSoundFor}
+use Rattle.tl_list_text.specs.declared.listing.Listing.TheVariants as listing
+use Rattle.tl_list_text.specs.Listings.{IsListingOf}
+use Rattle.tl_list_text.specs.Texts.{lines, listing_text}
+use Rattle.tl_list.specs.Findings.{AreFindingsOf}
+use Rattle.tigertopo_fault_records.specs.SpokenOf.{chains_of}
+use Rattle.tigertopo_fault_records.specs.Keeping.{held}
+use Rattle.tigertopo_fault_lines.specs.declared.again.Spoken.{Spoken}
+use Rattle.tigertopo_fault_lines.specs.Again.{AreSpoken}
+use Rattle.tigertopo_fault_lines.specs.Texts.{placed_text, chosen, end_text}
+use Rattle.tigertopo_fault_map.specs.Texts.{faults_text}
+use Rattle.tigertopo_outcome.specs.declared.said.Answer.{Answer}
+use Rattle.tigertopo_outcome.specs.Records.{IsSoundWith, OfMap, StopsRecords}
+use Rattle.tigertopo_lists.specs.declared.listed.Listed.{Listed}
+use Rattle.tigertopo_lists.specs.declared.listed.Listed.TheVariants.{Listing, Lines}
+use Rattle.tigertopo_lists.specs.declared.listing.Wanted.{Wanted as TheWanted}
+
+-- the text that is answered
+abbrev pub listed_text : Listed → List ℕ
+listed_text (Listing list most) = listing_text most list
+listed_text (Lines text) = text.items
+
+-- what is asked: of which files, which faults are told, the first or all or so many from the front, whether with the records that they
+-- speak of, and the name of the file that is made of them, if one is
+pub record Asked : Type 0 where
+  pub names : List (List ℕ)
+  pub told : Told
+  pub places : Bool
+  pub made : Option (List ℕ)
+
+abbrev pub wanted_of : List (List ℕ) → TheWanted → Asked
+wanted_of names wanted = record { names = names; told = wanted.told; places = wanted.places; made = option_map string_bytes wanted.made.now }
+
+-- what is printed of faults without their records: the first line, or all, or so many from the front, and where all are told,
+-- how many there are
+abbrev pub plain_text : Told → List MapFault → Bool → List ℕ
+plain_text told faults points_left = lines map_fault_text (chosen told faults) ++ end_text told (length faults) points_left
+
+-- what is printed of faults, with the records that they speak of or without
+abbrev pub told_text : List (List ℕ) → List MapChain → Spoken → Bool → Told → List MapFault → Bool → List ℕ
+told_text names chains spoken false told faults points_left = plain_text told faults points_left
+told_text names chains spoken true told faults points_left =
+    placed_text names spoken.counts.items chains (held spoken.lines) told faults points_left
+
+-- the faults that the file is made of: the first, or all, however many are printed
+abbrev pub featured : Told → List MapFault → List MapFault
+featured One faults = take 1 faults
+featured (All most) faults = faults
+
+-- are the files read again for the records that faults speak of
+abbrev pub reads_again : Bool → Option (List ℕ) → Bool
+reads_again places None = places
+reads_again places (Some name) = true
+
+-- the report of a sound map is answered, and no fault stands in the file
+pub record IsSoundList (w : World) (asked : Asked) (report : Report) (answer : Answer Listed) : Type 0 where
+  pub kept : Made w asked.made (faults_text asked.names [] None (λ s. []) [])
+  pub is : answer ≡ record { status = 0; text = Listing (listing.Sound report) None }
+
+-- faults that are listed, and whether the polygons' points weren't looked at
+pub record Faults : Type 0 where
+  pub faults : Vec MapFault Global
+  pub points_left : Bool
+
+-- faults are answered, with the records that they speak of where these are asked for, and those that are told stand in the file
+pub record IsFaultList (w : World) (layout : Layout) (asked : Asked) (map : Option TheMap) (list : Faults) (answer : Answer Listed) : Type 0 where
+  pub spoken : Spoken
+  pub speak : reads_again asked.places asked.made ≡ true → AreSpoken layout w.before asked.names (chains_of map) (featured asked.told list.faults.items) spoken
+  pub kept : Made w asked.made (faults_text asked.names spoken.counts.items map (held spoken.lines) (featured asked.told list.faults.items))
+  pub is : answer.status ≡ 1
+  pub lines : listed_text answer.text ≡ told_text asked.names (chains_of map) spoken asked.places asked.told list.faults.items list.points_left
+
+-- why that isn't: where files are read again for the records, one of them may not be read
+abbrev pub StopsAgain : World → Asked → Stop → Type 0
+StopsAgain w asked Device = (reads_again asked.places asked.made ≡ true) × SomeUnread w.before asked.names
+StopsAgain w asked other = ⊥
+
+-- why nothing is answered: the same, or the first line that is refused, where one fault is asked for
+abbrev pub StopsList : World → Options → (known : Option (List ℕ)) → Asked → Stop → Type 0
+StopsList w options known asked (Record line cause) = (asked.told ≡ One) × StopsRecords (layout_with options) known (Record line cause)
+StopsList w options known asked other = StopsAgain w asked other
+
+-- with the status 0 the report of a map that is sound, of which no fault stands in the file
+pub record TellsSound (w : World) (options : Options) (known : Option (List ℕ)) (asked : Asked) (status : ℕ) (text : List ℕ) : Type 0 where
+  pub report : Report
+  pub sound : OfMap (layout_with options) known (IsSoundWith options.faces report)
+  pub kept : Made w asked.made (faults_text asked.names [] None (λ s. []) [])
+  pub is : status ≡ 0
+  pub line : text ≡ listing_text None (listing.Sound report)
+
+-- with the status 1 faults: those of the records and of no other, and all of them, where the text of the records is known; and where
+-- those of all files are, the records behind them are those of the files that they speak of
+pub record TellsFaults (w : World) (options : Options) (known : Option (List ℕ)) (asked : Asked) (status : ℕ) (text : List ℕ) : Type 0 where
+  pub map : Option TheMap
+  pub faults : Vec MapFault Global
+  pub points_left : Bool
+  pub are : IfSome known (λ held. AreFindingsOf options held (record { listing = listing.Faults faults points_left; map = map }))
+  pub unsound : IfSome known (λ held. ¬ HaveMap (records_of (layout_with options) held) (IsSoundFor options.faces))
+  pub spoken : Spoken
+  pub speak : reads_again asked.places asked.made ≡ true → AreSpoken (layout_with options) w.before asked.names (chains_of map) (featured asked.told faults.items) spoken
+  pub kept : Made w asked.made (faults_text asked.names spoken.counts.items map (held spoken.lines) (featured asked.told faults.items))
+  pub is : status ≡ 1
+  pub lines : text ≡ told_text asked.names (chains_of map) spoken asked.places asked.told faults.items points_left
+
+-- with the status 3 lines that are refused, where all that is wrong is asked for: each of the records', and no other; no file is made
+pub record TellsRefusals (w : World) (options : Options) (known : Option (List ℕ)) (asked : Asked) (status : ℕ) (text : List ℕ) : Type 0 where
+  pub most : Option ℕ
+  pub all : asked.told ≡ All most
+  pub list : Vec Refusal Global
+  pub are_all : IfSome known (λ held. IsListingOf options held (listing.Refused list))
+  pub unmade : Unmade w asked.made
+  pub is : status ≡ 3
+  pub lines : text ≡ listing_text most (listing.Refused list)
+
+-- what a list answers
+abbrev pub ListAnswers : World → Options → (known : Option (List ℕ)) → Asked → ℕ → List ℕ → Type 0
+ListAnswers w options known asked status text =
+    TellsSound w options known asked status text
+    ⊎ (TellsFaults w options known asked status text ⊎ TellsRefusals w options known asked status text)

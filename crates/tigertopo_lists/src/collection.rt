@@ -1,0 +1,52 @@
+//! The file of GeoJSON.
+
+ghost use Rattle.std.specs.Prelude.{[], map, option_map, option_copied, string_bytes};
+ghost use Rattle.tigertopo_fault_map.specs.Texts.{faults_text};
+ghost use Rattle.tigertopo_files.specs.World.{Does, Made, MayMake, world};
+ghost use Rattle.tigertopo_files.specs.declared.beginning.FileKind.TheVariants.{Collection};
+ghost use Rattle.tigertopo_fault_records.specs.Keeping.{held};
+ghost use Rattle.tigertopo_outcome.specs.Records.{StopsNever};
+
+use std::alloc::Global;
+use tigertopo_fault_lines::Spoken;
+use tigertopo_fault_map::FaultsText;
+use tigertopo_files::{FileKind, FileSystem, make_file};
+use tl_cert_output::Stop;
+use tl_check_verdict::MapFault;
+use tl_map_county::Map;
+
+/// Makes the file of these faults, where one is asked for.
+pub(crate) fn make_collection<F: FileSystem>(
+    files: &mut F,
+    alloc: Global,
+    made: &Option<String>,
+    names: &[String],
+    drawn: Option<&Map>,
+    spoken: &Spoken,
+    faults: &[MapFault],
+) -> Result<(), Stop>
+    requires { MayMake (F.under files.old) (option_map string_bytes made.now) (map string_bytes names.now) Collection }
+    ensures { let w = world F.under F.log F.knows files.old files.new in
+        let text = faults_text (map string_bytes names.now) spoken.now.counts.items (option_copied drawn.entry)
+        (held spoken.now.lines) faults.now in
+        Does w [] (option_map string_bytes made.now) (λ done. Made w (option_map string_bytes made.now) text) StopsNever result }
+{
+    let Some(name) = made else {
+        return Ok(());
+    };
+    let text = FaultsText {
+        names,
+        counts: spoken.counts.as_slice(),
+        drawn,
+        lines: &spoken.lines,
+        faults,
+    };
+    make_file(
+        files,
+        alloc,
+        name.as_str(),
+        names,
+        FileKind::Collection,
+        &text,
+    )
+}

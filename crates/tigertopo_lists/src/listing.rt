@@ -1,0 +1,244 @@
+//! Lists over files: what is found is answered, and the file is made.
+
+ghost use Rattle.std.specs.Prelude.{◌≡◌, [], ℕ, List, Option, true, IfSome, map as map_list, option_map, string_bytes};
+ghost use Rattle.tl_record.specs.declared.options.Options.{Options};
+ghost use Rattle.tl_record.specs.Layout.{layout_with};
+ghost use Rattle.tl_list.specs.Findings.{AreFindingsOf};
+ghost use Rattle.tigertopo_files.specs.World.{Does, MayMake, world};
+ghost use Rattle.tigertopo_files.specs.declared.beginning.FileKind.TheVariants.{Collection};
+ghost use Rattle.tigertopo_files.specs.Reading.{text_under};
+ghost use Rattle.tigertopo_outcome.specs.Records.{StopsNever};
+ghost use Rattle.tigertopo_lists.specs.Listed.{ListAnswers, IsSoundList, IsFaultList, StopsList, StopsAgain, listed_text, reads_again, wanted_of};
+ghost use Rattle.tigertopo_lists.specs.Keeping.{first_stop, faults_answer, most_of, refused_list};
+
+use crate::collection::make_collection;
+use crate::found::FindingsIn;
+use crate::listed::Listed;
+use crate::prepared::prepare;
+use crate::speaking::{featured, speak_of};
+use std::alloc::Global;
+use std::hash::RandomState;
+use tigertopo_fault_lines::Spoken;
+use tigertopo_files::FileSystem;
+use tigertopo_outcome::reading::over_records;
+use tigertopo_outcome::said::Answer;
+use tigertopo_outcome::stop::{DONE, MAP_FAULT, REFUSED};
+use tigertopo_words::Told;
+use tl_cert_output::Stop;
+use tl_check_verdict::{MapFault, Report};
+use tl_list::Findings;
+use tl_list_text::Listing;
+use tl_map_county::Map;
+use tl_record::{Options, Refusal};
+
+/// What is asked of a list: which faults are told, the first or all or so many from the front, whether with the records that they
+/// speak of, and the name of the file of GeoJSON that is made of them, if one is.
+#[derive(Clone, Copy)]
+pub struct Wanted<'a> {
+    pub told: Told,
+    pub places: bool,
+    pub made: &'a Option<String>,
+}
+
+/// Answers what is wrong with the county of the files of these names, and makes the file that is wanted, which it may; that takes its
+/// name when it is whole.
+pub fn list<F: FileSystem>(
+    files: &mut F,
+    alloc: Global,
+    hasher: RandomState,
+    options: Options,
+    names: &[String],
+    wanted: Wanted<'_>,
+) -> Result<Answer<Listed>, Stop>
+    requires { MayMake (F.under files.old) (option_map string_bytes wanted.made.now) (map_list string_bytes names.now) Collection }
+    ensures { let w = world F.under F.log F.knows files.old files.new in
+        let known = text_under (F.under files.old) (map_list string_bytes names.now) in
+        let asked = wanted_of (map_list string_bytes names.now) wanted.entry in
+        Does w asked.names asked.made (λ answer. ListAnswers w options known asked answer.status (listed_text answer.text))
+        (StopsList w options known asked) result }
+{
+    let found = over_records(files, alloc, hasher, names, &FindingsIn { options })?;
+    tell_found(files, alloc, hasher, options, names, wanted, found)
+}
+
+// Answers what was found in files of these names, and makes the file that is wanted.
+fn tell_found<F: FileSystem>(
+    files: &mut F,
+    alloc: Global,
+    hasher: RandomState,
+    options: Options,
+    names: &[String],
+    wanted: Wanted<'_>,
+    found: Findings,
+) -> Result<Answer<Listed>, Stop>
+    requires { MayMake (F.under files.old) (option_map string_bytes wanted.made.now) (map_list string_bytes names.now) Collection }
+    ensures { (known : Option (List ℕ)) → IfSome known (λ text. AreFindingsOf options text found) →
+        let w = world F.under F.log F.knows files.old files.new in
+        let asked = wanted_of (map_list string_bytes names.now) wanted.entry in
+        Does w [] asked.made (λ answer. ListAnswers w options known asked answer.status (listed_text answer.text))
+        (StopsList w options known asked) result }
+{
+    let Findings { listing, map } = found;
+    match listing {
+        Listing::Sound(report) => tell_sound(files, alloc, hasher, names, wanted, report),
+        Listing::Refused(list) => tell_refused(wanted.told, list),
+        Listing::Faults {
+            faults,
+            points_left,
+        } => tell_faults(
+            files,
+            alloc,
+            hasher,
+            options,
+            names,
+            wanted,
+            map,
+            faults,
+            points_left,
+        ),
+    }
+}
+
+// Answers that the map is sound. Of no fault the file that is wanted has a feature.
+fn tell_sound<F: FileSystem>(
+    files: &mut F,
+    alloc: Global,
+    hasher: RandomState,
+    names: &[String],
+    wanted: Wanted<'_>,
+    report: Report,
+) -> Result<Answer<Listed>, Stop>
+    requires { MayMake (F.under files.old) (option_map string_bytes wanted.made.now) (map_list string_bytes names.now) Collection }
+    ensures { let w = world F.under F.log F.knows files.old files.new in
+        let asked = wanted_of (map_list string_bytes names.now) wanted.entry in
+        Does w [] asked.made (IsSoundList w asked report) StopsNever result }
+{
+    let nothing = Spoken::nothing(alloc, hasher)?;
+    make_collection(files, alloc, wanted.made, names, None, &nothing, &[])?;
+    Ok(Answer {
+        status: DONE,
+        text: Listed::Listing {
+            listing: Listing::Sound(report),
+            most: None,
+        },
+    })
+}
+
+// Answers lines that are refused: all, or so many from the front, or the first as a stop. No file is made.
+fn tell_refused(told: Told, list: Vec<Refusal>) -> Result<Answer<Listed>, Stop>
+    ensures { result ≡ refused_list told list }
+{
+    match told {
+        Told::All(most) => Ok(Answer {
+            status: REFUSED,
+            text: Listed::Listing {
+                listing: Listing::Refused(list),
+                most,
+            },
+        }),
+        Told::One => Err(first_stop(list.as_slice())),
+    }
+}
+
+// Why there is no answer, where these lines are refused: the first of them. There is one.
+fn first_stop(list: &[Refusal]) -> Stop
+    ensures { result ≡ first_stop list.now }
+{
+    match list {
+        [refusal, ..] => Stop::Record {
+            line: refusal.line,
+            cause: refusal.cause,
+        },
+        [] => Stop::Memory,
+    }
+}
+
+// Answers faults, and makes the file of them that is wanted.
+fn tell_faults<F: FileSystem>(
+    files: &mut F,
+    alloc: Global,
+    hasher: RandomState,
+    options: Options,
+    names: &[String],
+    wanted: Wanted<'_>,
+    map: Option<Map>,
+    faults: Vec<MapFault>,
+    points_left: bool,
+) -> Result<Answer<Listed>, Stop>
+    requires { MayMake (F.under files.old) (option_map string_bytes wanted.made.now) (map_list string_bytes names.now) Collection }
+    ensures { let w = world F.under F.log F.knows files.old files.new in
+        let asked = wanted_of (map_list string_bytes names.now) wanted.entry in
+        Does w [] asked.made (IsFaultList w (layout_with options) asked map (record { faults = faults; points_left = points_left }))
+        (StopsAgain w asked) result }
+{
+    let drawn = map.as_ref();
+    let listed = faults.as_slice();
+    let shown = featured(wanted.told, listed);
+    let spoken = speak_of(
+        files,
+        alloc,
+        hasher,
+        names,
+        options,
+        drawn,
+        reads_again(wanted.places, wanted.made),
+        shown,
+    )?;
+    let text = prepare(
+        alloc,
+        names,
+        drawn,
+        &spoken,
+        wanted.places,
+        wanted.told,
+        listed,
+        points_left,
+    )?;
+    make_collection(files, alloc, wanted.made, names, drawn, &spoken, shown)?;
+    Ok(faults_answer(text, faults, points_left, wanted.told))
+}
+
+// Whether the files are read again for the records that faults speak of.
+fn reads_again(places: bool, made: &Option<String>) -> bool
+    ensures { result ≡ reads_again places (option_map string_bytes made.now) }
+{
+    match made {
+        Some(_) => true,
+        None => places,
+    }
+}
+
+// What was prepared of faults, or the listing of them, as an answer.
+fn faults_answer(
+    text: Option<Vec<u8>>,
+    faults: Vec<MapFault>,
+    points_left: bool,
+    told: Told,
+) -> Answer<Listed>
+    ensures { result ≡ faults_answer text faults points_left told }
+{
+    let text = match text {
+        Some(text) => Listed::Lines(text),
+        None => Listed::Listing {
+            listing: Listing::Faults {
+                faults,
+                points_left,
+            },
+            most: most_of(told),
+        },
+    };
+    Answer {
+        status: MAP_FAULT,
+        text,
+    }
+}
+
+// How many of a list are told, where not each is.
+fn most_of(told: Told) -> Option<u64>
+    ensures { result ≡ most_of told }
+{
+    match told {
+        Told::One => Some(1),
+        Told::All(most) => most,
+    }
+}

@@ -1,0 +1,56 @@
+//! The records that faults speak of, where they are asked for.
+
+ghost use Rattle.std.specs.Prelude.{◌≡◌, true, IfOk, IfErr, map, option_copied, string_bytes};
+ghost use Rattle.tl_record.specs.Layout.{layout_with};
+ghost use Rattle.tigertopo_fault_records.specs.SpokenOf.{chains_of};
+ghost use Rattle.tl_cert_output.specs.Stops.{StopsFor};
+ghost use Rattle.tigertopo_files.specs.Log.{LogsAgain};
+ghost use Rattle.tigertopo_files.specs.World.{world};
+ghost use Rattle.tigertopo_hint.specs.Again.{FailsAgain};
+ghost use Rattle.tigertopo_fault_lines.specs.Again.{AreSpoken};
+ghost use Rattle.tigertopo_lists.specs.Listed.{featured};
+
+use std::alloc::Global;
+use std::hash::RandomState;
+use tigertopo_fault_lines::{Spoken, read_again};
+use tigertopo_files::FileSystem;
+use tigertopo_words::Told;
+use tl_cert_output::Stop;
+use tl_check_verdict::MapFault;
+use tl_map_county::Map;
+use tl_record::Options;
+
+/// The records that faults speak of, from files that are read again, where they are asked for. A device fails only there.
+pub(crate) fn speak_of<F: FileSystem>(
+    files: &mut F,
+    alloc: Global,
+    hasher: RandomState,
+    names: &[String],
+    options: Options,
+    drawn: Option<&Map>,
+    again: bool,
+    faults: &[MapFault],
+) -> Result<Spoken, Stop>
+    ensures spoken { IfOk result (λ spoken. again ≡ true → AreSpoken (layout_with options) (F.under files.old)
+        (map string_bytes names.now) (chains_of (option_copied drawn.entry)) faults.now spoken) }
+    ensures stops { IfErr result (StopsFor ((again ≡ true)
+        × FailsAgain (world F.under F.log F.knows files.old files.new) (map string_bytes names.now))) }
+    ensures stays { F.under files.new ≡ F.under files.old }
+    ensures logged { F.knows ≡ true → LogsAgain (F.log files.old) (F.log files.new) result }
+{
+    if again {
+        read_again(files, alloc, hasher, names, options, drawn, faults)
+    } else {
+        Ok(Spoken::nothing(alloc, hasher)?)
+    }
+}
+
+/// The faults that a file is made of: the first, or all.
+pub(crate) fn featured(told: Told, faults: &[MapFault]) -> &[MapFault]
+    ensures { result.now ≡ featured told faults.now }
+{
+    match told {
+        Told::One if !faults.is_empty() => &faults[..1],
+        _ => faults,
+    }
+}

@@ -1,0 +1,14 @@
+use Rattle.std.proofs.Common.{Some, [], string_bytes}
+use Rattle.tl_cert.specs.Text.{certificate_text}
+use Rattle.tigertopo_files.specs.Files.{StandsUnder}
+use Rattle.tigertopo_files.specs.World.{world}
+use Rattle.tigertopo_files.proofs.WorldLemmas.{does_make, does_fail}
+use Rattle.tigertopo_outcome.specs.Records.{StopsNever}
+use Rattle.tigertopo_outcome.proofs.convert.make.Goals as goal
+
+pub returns-in_err-make_file : goal.returns-in_err-make_file
+returns-in_err-make_file g c =
+    let w = world g.F.FileSystem.under g.F.FileSystem.log g.F.FileSystem.knows c.args.files.now c.make_file.new.files in
+    does_fail w [] (Some (string_bytes c.args.made.now)) (λ done. StandsUnder w.after (string_bytes c.args.made.now) (certificate_text c.args.certificate.now)) StopsNever c.in_err-make_file.field-0.0
+    (does_make {T = Unit {0}} w.before w.after w.log w.logged w.knows (string_bytes c.args.made.now) (certificate_text c.args.certificate.now) StopsNever _ (rw c.as_str.ensures.value at c.in_err-make_file.ensures.made) c.in_err-make_file.ensures.logged)
+    _ c.from_residual.result c.from_residual.ensures.1

@@ -1,0 +1,61 @@
+-- What is printed of what came of a command, and with which exit status: 0 where it is done, 1 where the map has a fault, 2 where the
+-- certificate has one, 3 where a record is refused, 4 where it stopped otherwise, and 64 where the words are no use of a command or no
+-- file may be made.
+use Rattle.std.specs.Prelude.{ℕ, List, ◌++◌, Option, Some, None, codes, decimal}
+use Rattle.tl_check_verdict.specs.declared.verdict.Verdict.{Verdict as TheVerdict}
+use Rattle.tl_check_verdict.specs.declared.verdict.Verdict.TheVariants.{Sound, MapFault, CertFault}
+use Rattle.tl_check_verdict.specs.Messages.{report_text, map_fault_text, cert_fault_text}
+use Rattle.tl_cert_output.specs.declared.stop.Stop.{Stop}
+use Rattle.tl_cert_output.specs.declared.stop.Stop.TheVariants.{Record, Memory, Device, Budget}
+use Rattle.tigertopo_outcome.specs.declared.outcome.Outcome.{Outcome}
+use Rattle.tigertopo_outcome.specs.declared.outcome.Outcome.TheVariants.{Verdict, Built, Converted, Exported, Drawn}
+
+-- the counts of a conversion
+abbrev pub counts_text : ℕ → ℕ → ℕ → List ℕ
+counts_text nodes rounds walks = codes "converted nodes=" ++ decimal nodes ++ codes " rounds=" ++ decimal rounds ++ codes " walks=" ++ decimal walks
+
+-- the numbers of chains and of polygons that were exported, and that of rings where there are some
+abbrev pub exported_text : ℕ → ℕ → Option ℕ → List ℕ
+exported_text chains polygons None = codes "exported chains=" ++ (decimal chains ++ (codes " polygons=" ++ decimal polygons))
+exported_text chains polygons (Some rings) =
+    codes "exported chains=" ++ (decimal chains ++ (codes " polygons=" ++ (decimal polygons ++ (codes " rings=" ++ decimal rings))))
+
+-- how many chains are shown, and how many faults, where they are asked for
+abbrev pub drawn_text : ℕ → Option ℕ → List ℕ
+drawn_text chains None = codes "drawn chains=" ++ decimal chains
+drawn_text chains (Some faults) = codes "drawn chains=" ++ decimal chains ++ codes " faults=" ++ decimal faults
+
+-- the text of a verdict
+abbrev pub verdict_text : TheVerdict → List ℕ
+verdict_text (Sound report) = codes "sound " ++ report_text report
+verdict_text (MapFault fault) = map_fault_text fault
+verdict_text (CertFault fault) = cert_fault_text fault
+
+-- the status of a verdict
+abbrev pub verdict_status : TheVerdict → ℕ
+verdict_status (Sound report) = 0
+verdict_status (MapFault fault) = 1
+verdict_status (CertFault fault) = 2
+
+-- the text of an outcome
+abbrev pub outcome_text : Outcome → List ℕ
+outcome_text (Verdict verdict) = verdict_text verdict
+outcome_text (Built report) = codes "built " ++ report_text report
+outcome_text (Converted counts) = counts_text counts.nodes counts.rounds counts.walks
+outcome_text (Exported exported) = exported_text exported.chains exported.polygons exported.rings
+outcome_text (Drawn drawn) = drawn_text drawn.chains drawn.faults
+
+-- the status of an outcome
+abbrev pub outcome_status : Outcome → ℕ
+outcome_status (Verdict verdict) = verdict_status verdict
+outcome_status (Built report) = 0
+outcome_status (Converted counts) = 0
+outcome_status (Exported exported) = 0
+outcome_status (Drawn drawn) = 0
+
+-- the status of a stop
+abbrev pub stop_status : Stop → ℕ
+stop_status (Record line cause) = 3
+stop_status Memory = 4
+stop_status Device = 4
+stop_status Budget = 4

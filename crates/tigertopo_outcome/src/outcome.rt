@@ -1,0 +1,138 @@
+//! Answers that are one line.
+
+use crate::stop::{CERT_FAULT, DONE, MAP_FAULT};
+use std::fmt;
+use tl_check_verdict::{MapFault, Report, Verdict};
+
+/// What came of a command, where that is told by one line.
+#[derive(Clone, Copy)]
+pub enum Outcome {
+    /// It was decided whether the map is sound.
+    Verdict(Verdict),
+    /// A certificate was made of the map, which has these numbers.
+    Built(Report),
+    /// A certificate was written in version 2.
+    Converted(Converted),
+    /// The map was exported.
+    Exported(Exported),
+    /// The map was drawn.
+    Drawn(Drawn),
+}
+
+/// How many nodes, rounds and walks a certificate has that was converted.
+#[derive(Clone, Copy)]
+pub struct Converted {
+    pub nodes: usize,
+    pub rounds: usize,
+    pub walks: usize,
+}
+
+/// How many chains, polygons and rings were exported. There are no rings of a map that isn't sound.
+#[derive(Clone, Copy)]
+pub struct Exported {
+    pub chains: u32,
+    pub polygons: u32,
+    pub rings: Option<u32>,
+}
+
+/// How many chains a picture shows, and how many faults, where they are asked for.
+#[derive(Clone, Copy)]
+pub struct Drawn {
+    pub chains: u32,
+    pub faults: Option<u64>,
+}
+
+impl Outcome {
+    ghost use Rattle.std.specs.Prelude.{◌≡◌};
+    ghost use Rattle.tigertopo_outcome.specs.Outcomes.{outcome_status};
+
+    /// That the records or their map have this fault.
+    pub fn fault(fault: MapFault) -> Outcome
+        ensures { result ≡ Outcome.Verdict (Verdict.MapFault fault) }
+    {
+        Outcome::Verdict(Verdict::MapFault(fault))
+    }
+
+    /// The exit status of the program, where this came of it.
+    pub fn status(&self) -> u8
+        ensures { result ≡ outcome_status self.now }
+    {
+        match self {
+            Outcome::Verdict(Verdict::MapFault(_)) => MAP_FAULT,
+            Outcome::Verdict(Verdict::CertFault(_)) => CERT_FAULT,
+            Outcome::Verdict(Verdict::Sound(_)) => DONE,
+            Outcome::Built(_) | Outcome::Converted(_) | Outcome::Exported(_) | Outcome::Drawn(_) =>
+                DONE,
+        }
+    }
+}
+
+impl fmt::Display for Outcome {
+    ghost use Rattle.std.specs.Prelude.{Some};
+    ghost use Rattle.tigertopo_outcome.specs.Outcomes.{outcome_text};
+
+    ghost output = { λ outcome. Some (outcome_text outcome) };
+
+    fn fmt<W: fmt::Write>(&self, f: &mut fmt::Formatter<W>) -> fmt::Result {
+        match self {
+            Outcome::Verdict(Verdict::Sound(report)) => write!(f, "sound {report}"),
+            Outcome::Verdict(Verdict::MapFault(fault)) => fault.fmt(f),
+            Outcome::Verdict(Verdict::CertFault(fault)) => fault.fmt(f),
+            Outcome::Built(report) => write!(f, "built {report}"),
+            Outcome::Converted(counts) => counts.fmt(f),
+            Outcome::Exported(exported) => exported.fmt(f),
+            Outcome::Drawn(drawn) => drawn.fmt(f),
+        }
+    }
+}
+
+impl fmt::Display for Converted {
+    ghost use Rattle.std.specs.Prelude.{Some};
+    ghost use Rattle.tigertopo_outcome.specs.Outcomes.{counts_text};
+
+    ghost output = { λ counts. Some (counts_text counts.nodes counts.rounds counts.walks) };
+
+    fn fmt<W: fmt::Write>(&self, f: &mut fmt::Formatter<W>) -> fmt::Result {
+        write!(
+            f,
+            "converted nodes={} rounds={} walks={}",
+            self.nodes, self.rounds, self.walks
+        )
+    }
+}
+
+impl fmt::Display for Exported {
+    ghost use Rattle.std.specs.Prelude.{Some};
+    ghost use Rattle.tigertopo_outcome.specs.Outcomes.{exported_text};
+
+    ghost output = { λ exported. Some (exported_text exported.chains exported.polygons exported.rings) };
+
+    fn fmt<W: fmt::Write>(&self, f: &mut fmt::Formatter<W>) -> fmt::Result {
+        match self.rings {
+            Some(rings) => write!(
+                f,
+                "exported chains={} polygons={} rings={rings}",
+                self.chains, self.polygons
+            ),
+            None => write!(
+                f,
+                "exported chains={} polygons={}",
+                self.chains, self.polygons
+            ),
+        }
+    }
+}
+
+impl fmt::Display for Drawn {
+    ghost use Rattle.std.specs.Prelude.{Some};
+    ghost use Rattle.tigertopo_outcome.specs.Outcomes.{drawn_text};
+
+    ghost output = { λ drawn. Some (drawn_text drawn.chains drawn.faults) };
+
+    fn fmt<W: fmt::Write>(&self, f: &mut fmt::Formatter<W>) -> fmt::Result {
+        match self.faults {
+            Some(faults) => write!(f, "drawn chains={} faults={faults}", self.chains),
+            None => write!(f, "drawn chains={}", self.chains),
+        }
+    }
+}

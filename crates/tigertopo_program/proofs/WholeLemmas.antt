@@ -1,0 +1,61 @@
+-- What the program answers, by what is asked.
+use Rattle.std.proofs.Common.{◌≡◌, ℕ, Bool, true, false, List, Option, Some, None}
+use Rattle.std.specs.Prelude.{string_bytes, option_map, String}
+use Rattle.std.specs.Global.{Global}
+use Rattle.tl_record.specs.declared.options.Options.{Options}
+use Rattle.tl_cert_output.specs.declared.stop.Stop.{Stop}
+use Rattle.tigertopo_words.specs.declared.asked.Asked.{Asked}
+use Rattle.tigertopo_words.specs.declared.asked.Asked.TheVariants.{Show, Landmarks, Locate, Audit, Build, Check, Convert, Export, Draw}
+use Rattle.tigertopo_words.specs.declared.budget.Told.{Told}
+use Rattle.tigertopo_words.specs.declared.budget.Told.TheVariants.{One, All}
+use Rattle.tigertopo_files.specs.World.{World}
+use Rattle.tigertopo_files.specs.Reading.{text_under}
+use Rattle.tigertopo_command.specs.Commands.{PlainAnswers, PlainStops, is_plain}
+use Rattle.tigertopo_lists.specs.Listed.{ListAnswers, StopsList}
+use Rattle.tigertopo_program.specs.Answers.{AllAnswers, AllStops}
+
+-- one of the plain commands
+pub plain_answers : (asked : Asked) (options : Options) (names : List (List ℕ)) (w : World) (status : ℕ) (text : List ℕ) → is_plain asked ≡ true → PlainAnswers asked options names w status text → AllAnswers asked options names w status text
+plain_answers Show options names w status text plain so = so
+plain_answers Landmarks options names w status text plain so = so
+plain_answers (Locate point) options names w status text plain so = so
+plain_answers (Audit One false None) options names w status text plain so = so
+plain_answers (Audit One false (Some name)) options names w status text plain so = absurd (cc)
+plain_answers (Audit One true made) options names w status text plain so = absurd (cc)
+plain_answers (Audit (All most) places made) options names w status text plain so = absurd (cc)
+plain_answers (Build made) options names w status text plain so = so
+plain_answers (Check cert budget) options names w status text plain so = so
+plain_answers (Convert cert made) options names w status text plain so = so
+plain_answers (Export made) options names w status text plain so = absurd (cc)
+plain_answers (Draw made view faults) options names w status text plain so = absurd (cc)
+
+pub plain_stops : (asked : Asked) (options : Options) (names : List (List ℕ)) (w : World) (stop : Stop) → is_plain asked ≡ true → PlainStops asked options names w stop → AllStops asked options names w stop
+plain_stops Show options names w stop plain so = so
+plain_stops Landmarks options names w stop plain so = so
+plain_stops (Locate point) options names w stop plain so = so
+plain_stops (Audit One false None) options names w stop plain so = so
+plain_stops (Audit One false (Some name)) options names w stop plain so = absurd (cc)
+plain_stops (Audit One true made) options names w stop plain so = absurd (cc)
+plain_stops (Audit (All most) places made) options names w stop plain so = absurd (cc)
+plain_stops (Build made) options names w stop plain so = so
+plain_stops (Check cert budget) options names w stop plain so = so
+plain_stops (Convert cert made) options names w stop plain so = so
+plain_stops (Export made) options names w stop plain so = absurd (cc)
+plain_stops (Draw made view faults) options names w stop plain so = absurd (cc)
+
+-- an audit that asks for more than one line
+pub list_answers : (told : Told) (places : Bool) (made : Option (String Global)) (options : Options) (names : List (List ℕ)) (w : World) (status : ℕ) (text : List ℕ) → is_plain (Audit told places made) ≡ false
+    → ListAnswers w options (text_under w.before names) (record { names = names; told = told; places = places; made = option_map string_bytes made }) status text
+    → AllAnswers (Audit told places made) options names w status text
+list_answers One false None options names w status text plain so = absurd (cc)
+list_answers One false (Some name) options names w status text plain so = so
+list_answers One true made options names w status text plain so = so
+list_answers (All most) places made options names w status text plain so = so
+
+pub list_stops : (told : Told) (places : Bool) (made : Option (String Global)) (options : Options) (names : List (List ℕ)) (w : World) (stop : Stop) → is_plain (Audit told places made) ≡ false
+    → StopsList w options (text_under w.before names) (record { names = names; told = told; places = places; made = option_map string_bytes made }) stop
+    → AllStops (Audit told places made) options names w stop
+list_stops One false None options names w stop plain so = absurd (cc)
+list_stops One false (Some name) options names w stop plain so = so
+list_stops One true made options names w stop plain so = so
+list_stops (All most) places made options names w stop plain so = so

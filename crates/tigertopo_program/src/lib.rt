@@ -1,0 +1,9 @@
+//! The program `tigertopo`: all its commands.
+//!
+//! [`Whole`] does what each command asks: lists of faults, exports and pictures by crates of their own, and the others as
+//! `tigertopo_command` does them.
+#![tactic(auto)]
+
+mod whole;
+
+pub use whole::Whole;

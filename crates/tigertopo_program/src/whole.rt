@@ -1,0 +1,64 @@
+//! A program that has all commands.
+
+ghost use Rattle.std.specs.Prelude.{map, string_bytes};
+ghost use Rattle.tigertopo_program.specs.Answers.{AllAnswers, AllStops};
+
+use std::alloc::Global;
+use std::hash::RandomState;
+use tigertopo_command::plain::{answer, is_plain};
+use tigertopo_command::run::{Outcome, Program, tell_answer};
+use tigertopo_draw::draw;
+use tigertopo_export::export;
+use tigertopo_files::FileSystem;
+use tigertopo_lists::{Wanted, list};
+use tigertopo_words::{Asked, Command};
+use tl_record::Sink;
+
+/// A program that has all commands.
+#[derive(Clone, Copy)]
+pub struct Whole;
+
+impl Program for Whole {
+    ghost answers = { λ command. AllAnswers command.asked command.options (map string_bytes command.files.items) };
+
+    ghost stops = { λ command. AllStops command.asked command.options (map string_bytes command.files.items) };
+
+    ghost lacks = { λ command. ⊥ };
+
+    fn perform<F: FileSystem, W: Sink, E: Sink>(
+        &self,
+        files: &mut F,
+        alloc: Global,
+        hasher: RandomState,
+        command: &Command,
+        out: &mut W,
+        err: &mut E,
+    ) -> Outcome {
+        if is_plain(&command.asked) {
+            let answer = answer(files, alloc, hasher, command);
+            return tell_answer(alloc, answer, out, err);
+        }
+        let options = command.options;
+        let names = command.files.as_slice();
+        match &command.asked {
+            Asked::Audit { told, places, made } => {
+                let wanted = Wanted {
+                    told: *told,
+                    places: *places,
+                    made,
+                };
+                let answer = list(files, alloc, hasher, options, names, wanted);
+                tell_answer(alloc, answer, out, err)
+            }
+            Asked::Export { made } => {
+                let answer = export(files, alloc, hasher, options, names, made);
+                tell_answer(alloc, answer, out, err)
+            }
+            Asked::Draw { made, view, faults } => {
+                let answer = draw(files, alloc, hasher, options, names, made, *view, *faults);
+                tell_answer(alloc, answer, out, err)
+            }
+            _ => unreachable!(),
+        }
+    }
+}

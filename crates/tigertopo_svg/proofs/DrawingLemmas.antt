@@ -1,0 +1,136 @@
+-- What is drawn of chains, told by what is still to come.
+use Rattle.std.proofs.Common.{◌≡◌, ℕ, suc, ◌+◌, ◌<◌, ◌≤◌, List, [], ◌∷◌, length, get_or, drop, Some, refl, sym, ap, subst, ◌∙◌, arith}
+use Rattle.std.specs.Int.{from_bool}
+use Rattle.std.specs.Prelude.{Bool, true, false, if◌then◌else◌, cond, not, ◌==◌, nat_le, slice_get, fold, Option, None, is_some, MatchOption}
+use Rattle.std.proofs.lemmas.List.{drop_more, at_drop_more, at_drop_all}
+use Rattle.std.proofs.lemmas.Bool.Decides.{nat_tests}
+use Rattle.std.proofs.lemmas.Option.{slice_get_within, get_or_from_slice_get}
+use Rattle.tl_geom.specs.declared.point.Point.{Point}
+use Rattle.tl_map_county.specs.declared.sides.Side.{Side}
+use Rattle.tl_map_county.specs.TheMap.{TheMap, MapChain, IsChain}
+use Rattle.tigertopo_svg.specs.declared.picture.Picture.{Picture}
+use Rattle.tigertopo_svg.specs.declared.frame.Frame.{Frame}
+use Rattle.tigertopo_svg.specs.declared.frame.Spot.{Spot}
+use Rattle.tigertopo_svg.specs.declared.walk.Stroke.{Stroke}
+use Rattle.tigertopo_svg.specs.Frames.{spot_of, is_seen}
+use Rattle.tl_record_key.specs.declared.key.PolyKey.{PolyKey}
+use Rattle.tl_map_county.specs.declared.polygons.Polygon.{Polygon}
+use Rattle.tigertopo_svg.specs.Pictures.{is_key, point_of_key, stroke_count, skips, first_fitting, is_marked, picture_of}
+use Rattle.tigertopo_svg.specs.Strokes.{is_passed, strokes_from, chain_strokes, Drawing, drawings, is_shown}
+
+-- a list from the place of one of it on
+pub from_place : {A : Type 0} (xs : List A) (n : ℕ) (x : A) → slice_get xs n ≡ Some x → drop n xs ≡ x ∷ drop (n + 1) xs
+from_place xs n x is = drop_more xs n x (slice_get_within xs n x is) ∙ ap (λ y. y ∷ drop (n + 1) xs) (get_or_from_slice_get xs n x x is)
+
+-- what is drawn of a chain
+abbrev pub drawing_of : Frame → (skipped number : ℕ) → List Point → Drawing
+drawing_of f skipped number points = record { strokes = chain_strokes f skipped number points; points = points }
+
+-- what is drawn of a chain before what is drawn of those behind it
+pub drawings_next : (f : Frame) (skipped : ℕ) (chains : List MapChain) (n tlid : ℕ) (points : List Point) (left right : Side) → IsChain (slice_get chains n) tlid points left right
+    → drawings f skipped n (drop n chains) ≡ drawing_of f skipped n points ∷ drawings f skipped (n + 1) (drop (n + 1) chains)
+drawings_next f skipped chains n tlid points left right it =
+    ap (drawings f skipped n) (from_place chains n it.chain it.is)
+    ∙ ap (λ ps. drawing_of f skipped n ps ∷ drawings f skipped (n + 1) (drop (n + 1) chains)) (sym it.points_are)
+
+-- nothing is drawn behind the last chain
+pub drawings_end : (f : Frame) (skipped : ℕ) (chains : List MapChain) (n : ℕ) → length chains ≤ n → drawings f skipped n (drop n chains) ≡ []
+drawings_end f skipped chains n past = at_drop_all (drawings f skipped n) chains n past
+
+-- ---- counts
+
+few : (b : Bool) (xs ys : List Stroke) (n : ℕ) → length xs ≤ n → length ys ≤ n → length (if b then xs else ys) ≤ n
+few true xs ys n drawn left = drawn
+few false xs ys n drawn left = left
+
+-- there are no more strokes than points
+pub strokes_few : (f : Frame) (grain : ℕ) (down : Bool) (last : Spot) (points : List Point) → length (strokes_from f grain down last points) ≤ length points
+strokes_few f grain down last [] = omega arith
+strokes_few f grain down last (p ∷ rest) =
+    few (is_passed grain last (spot_of f p) rest) _ _ _ (omega (arith, strokes_few f grain down last rest))
+    (few (is_seen f last (spot_of f p)) _ _ _ (omega (arith, strokes_few f grain true (spot_of f p) rest)) (omega (arith, strokes_few f grain false (spot_of f p) rest)))
+
+-- what is counted of drawings: one chain more
+pub counted_next : (g : ℕ → Drawing → ℕ) (f : Frame) (skipped : ℕ) (chains : List MapChain) (n tlid : ℕ) (points : List Point) (left right : Side) (count next whole : ℕ)
+    → IsChain (slice_get chains n) tlid points left right → next ≡ g count (drawing_of f skipped n points)
+    → fold g count (drawings f skipped n (drop n chains)) ≡ whole → fold g next (drawings f skipped (n + 1) (drop (n + 1) chains)) ≡ whole
+counted_next g f skipped chains n tlid points left right count next whole it same before =
+    ap (λ a. fold g a (drawings f skipped (n + 1) (drop (n + 1) chains))) same
+    ∙ sym (ap (fold g count) (drawings_next f skipped chains n tlid points left right it)) ∙ before
+
+-- all chains
+pub counted_end : (g : ℕ → Drawing → ℕ) (f : Frame) (skipped : ℕ) (chains : List MapChain) (n count whole : ℕ) → length chains ≤ n
+    → fold g count (drawings f skipped n (drop n chains)) ≡ whole → count ≡ whole
+counted_end g f skipped chains n count whole past before = sym (ap (fold g count) (drawings_end f skipped chains n past)) ∙ before
+
+-- the same of any list
+pub fold_next : {A : Type 0} (g : ℕ → A → ℕ) (xs : List A) (n : ℕ) (x : A) (count next whole : ℕ) → slice_get xs n ≡ Some x → next ≡ g count x
+    → fold g count (drop n xs) ≡ whole → fold g next (drop (n + 1) xs) ≡ whole
+fold_next g xs n x count next whole is same before =
+    ap (λ a. fold g a (drop (n + 1) xs)) same ∙ sym (ap (fold g count) (from_place xs n x is)) ∙ before
+
+pub fold_end : {A : Type 0} (g : ℕ → A → ℕ) (xs : List A) (n count whole : ℕ) → length xs ≤ n → fold g count (drop n xs) ≡ whole → count ≡ whole
+fold_end g xs n count whole past before = sym (at_drop_all (fold g count) xs n past) ∙ before
+
+-- ---- the point of a key
+
+-- the first polygon from a place on has the key
+pub found_here : (polygons : List Polygon) (n : ℕ) (polygon : Polygon) (key : PolyKey) → slice_get polygons n ≡ Some polygon → is_key polygon.key key ≡ true
+    → point_of_key (drop n polygons) key ≡ point_of_key polygons key → Some polygon.point ≡ point_of_key polygons key
+found_here polygons n polygon key is same before =
+    sym (ap (λ b. if b then Some polygon.point else point_of_key (drop (n + 1) polygons) key) same)
+    ∙ sym (ap (λ ps. point_of_key ps key) (from_place polygons n polygon is)) ∙ before
+
+-- it hasn't
+pub found_behind : (polygons : List Polygon) (n : ℕ) (polygon : Polygon) (key : PolyKey) → slice_get polygons n ≡ Some polygon → is_key polygon.key key ≡ false
+    → point_of_key (drop n polygons) key ≡ point_of_key polygons key → point_of_key (drop (n + 1) polygons) key ≡ point_of_key polygons key
+found_behind polygons n polygon key is same before =
+    sym (ap (λ b. if b then Some polygon.point else point_of_key (drop (n + 1) polygons) key) same)
+    ∙ sym (ap (λ ps. point_of_key ps key) (from_place polygons n polygon is)) ∙ before
+
+-- ---- one where it is so
+
+pub one_if : (b c : Bool) (n count : ℕ) → n ≡ from_bool b → b ≡ c → count + n ≡ count + cond c 1 0
+one_if b true n count is same = ap (λ k. count + k) (is ∙ ap from_bool same)
+one_if b false n count is same = ap (λ k. count + k) (is ∙ ap from_bool same)
+
+pub at_most_one : (b : Bool) (n : ℕ) → n ≡ from_bool b → n ≤ 1
+at_most_one true n is = omega (arith, is)
+at_most_one false n is = omega (arith, is)
+
+not_none : (n : ℕ) → not (suc n == 0) ≡ true
+not_none n = grind (arith, nat_tests)
+
+-- something is drawn of a chain where a walk along it comes to a stroke
+pub shown_if : (found : Option Stroke) (left behind strokes : List Stroke) (points : List Point) → left ≡ strokes
+    → MatchOption found (left ≡ []) (λ stroke. left ≡ stroke ∷ behind) → is_some found ≡ is_shown (record { strokes = strokes; points = points })
+shown_if None left behind strokes points same none = ap (λ l. not (length l == 0)) (sym none ∙ same)
+shown_if (Some stroke) left behind strokes points same some = sym (not_none (length behind)) ∙ ap (λ l. not (length l == 0)) (sym some ∙ same)
+
+-- ---- how many are left out
+
+fits : (n most : ℕ) → n ≤ most → nat_le n most ≡ true
+fits n most few = grind (arith, nat_tests)
+
+fits_not : (n most : ℕ) → most < n → nat_le n most ≡ false
+fits_not n most many = grind (arith, nat_tests)
+
+pub fitting_here : (f : Frame) (chains : List MapChain) (xs : List ℕ) (i count whole : ℕ) → i < length xs → count ≡ stroke_count f (get_or xs i 0) chains → count ≤ 300000
+    → first_fitting f chains (drop i xs) ≡ whole → get_or xs i 0 ≡ whole
+fitting_here f chains xs i count whole within is few before =
+    sym (ap (λ b. if b then get_or xs i 0 else first_fitting f chains (drop (i + 1) xs)) (fits _ 300000 (subst (λ n. n ≤ 300000) is few)))
+    ∙ sym (at_drop_more (first_fitting f chains) xs i 0 within) ∙ before
+
+pub fitting_behind : (f : Frame) (chains : List MapChain) (xs : List ℕ) (i count whole : ℕ) → i < length xs → count ≡ stroke_count f (get_or xs i 0) chains → 300000 < count
+    → first_fitting f chains (drop i xs) ≡ whole → first_fitting f chains (drop (i + 1) xs) ≡ whole
+fitting_behind f chains xs i count whole within is many before =
+    sym (ap (λ b. if b then get_or xs i 0 else first_fitting f chains (drop (i + 1) xs)) (fits_not _ 300000 (subst (λ n. 300000 < n) is many)))
+    ∙ sym (at_drop_more (first_fitting f chains) xs i 0 within) ∙ before
+
+pub fitting_none : (f : Frame) (chains : List MapChain) (xs : List ℕ) (i whole : ℕ) → length xs ≤ i → first_fitting f chains (drop i xs) ≡ whole → 511 ≡ whole
+fitting_none f chains xs i whole past before = sym (at_drop_all (first_fitting f chains) xs i past) ∙ before
+
+-- a picture of these parts
+pub same_picture : (f : Frame) (m : TheMap) (list : List ℕ) (skipped : ℕ) (marked : Bool) → list ≡ skips → skipped ≡ first_fitting f m.chains list → marked ≡ is_marked f skipped m
+    → ◌≡◌ {A = Picture} (record { frame = f; skipped = skipped; is_marked = marked }) (picture_of f m)
+same_picture f m list skipped marked all fits is = rw (is, fits, all) refl

@@ -1,0 +1,49 @@
+-- Parts of a picture's text.
+use Rattle.std.proofs.Common.{◌≡◌, ℕ, ℤ, List, [], ◌++◌, ◌-◌, ◌<◌, length, get_or, codes, true, false, refl, sym, ap, ap₂, ◌∙◌, arith}
+use Rattle.std.specs.Prelude.{◌-ℤ◌, ◌==◌, not, if◌then◌else◌}
+use Rattle.std.specs.Option.{option_map_or}
+use Rattle.std.proofs.lemmas.Option.{slice_get-get_or}
+use Rattle.std.specs.Fmt.{signed_decimal}
+use Rattle.tl_geom.specs.declared.point.Point.{Point}
+use Rattle.tigertopo_svg.specs.declared.frame.Frame.{Frame}
+use Rattle.tigertopo_svg.specs.declared.frame.Spot.{Spot}
+use Rattle.tigertopo_svg.specs.declared.walk.Stroke.{Stroke}
+use Rattle.tigertopo_svg.specs.Frames.{spot_of}
+use Rattle.tigertopo_svg.specs.Pictures.{is_inside}
+use Rattle.tigertopo_svg.specs.Texts.{move_text, start_text, stroke_text, dot_text, dot_at, ends_text, circle_head}
+
+-- a stroke that is put together
+pub stroke_parts : (s : Stroke) (start one two : List ℕ) (x y : ℤ) → start ≡ start_text s → one ≡ start ++ codes "l" ++ signed_decimal x → two ≡ one ++ codes " " ++ signed_decimal y
+    → x ≡ s.to.x -ℤ s.from.x → y ≡ s.to.y -ℤ s.from.y → two ≡ stroke_text s
+unfolding stroke_text
+stroke_parts s start one two x y begins first second along up = rw (second, first, begins, along, up) refl
+
+-- a dot that is put together, and one that isn't there
+pub dot_parts : (f : Frame) (p : Point) (spot : Spot) (one two : List ℕ) → is_inside f p ≡ true → spot ≡ spot_of f p → one ≡ move_text spot → two ≡ one ++ codes "h0" → two ≡ dot_text f p
+unfolding dot_text
+dot_parts f p spot one two inside at first second = rw (inside, second, first, at) refl
+
+pub no_dot : (f : Frame) (p : Point) → is_inside f p ≡ false → [] ≡ dot_text f p
+unfolding dot_text
+no_dot f p outside = rw outside refl
+
+-- the beginning of a circle that is put together
+pub circle_parts : (s : Spot) (x y : ℤ) (one two three : List ℕ) → one ≡ codes "<circle cx=\"" ++ signed_decimal x → two ≡ one ++ codes "\" cy=\"" ++ signed_decimal y
+    → three ≡ two ++ codes "\" r=\"60\"><title>" → x ≡ s.x → y ≡ s.y → three ≡ circle_head s
+unfolding circle_head
+circle_parts s x y one two three first second third east south = rw (third, second, first, east, south) refl
+
+-- the dot at a point of a chain
+dot_here : (f : Frame) (points : List Point) (i : ℕ) (d : Point) → i < length points → dot_at f points i ≡ dot_text f (get_or points i d)
+dot_here f points i d within = ap (λ o. option_map_or (dot_text f) o []) (slice_get-get_or points i d within)
+
+-- the dots at both ends of a chain of which something is drawn
+pub ends_parts : (f : Frame) (strokes : List Stroke) (points : List Point) (d e : Point) → not (length strokes == 0) ≡ true → 0 < length points
+    → dot_text f (get_or points 0 d) ++ dot_text f (get_or points (length points - 1) e) ≡ ends_text f (record { strokes = strokes; points = points })
+ends_parts f strokes points d e shown some =
+    sym (ap (λ b. if b then dot_at f points 0 ++ dot_at f points (length points - 1) else []) shown
+    ∙ ap₂ (λ x y. x ++ y) (dot_here f points 0 d some) (dot_here f points (length points - 1) e (omega arith)))
+
+-- nothing is drawn of it
+pub no_ends : (f : Frame) (strokes : List Stroke) (points : List Point) → not (length strokes == 0) ≡ false → [] ≡ ends_text f (record { strokes = strokes; points = points })
+no_ends f strokes points none = sym (ap (λ b. if b then dot_at f points 0 ++ dot_at f points (length points - 1) else []) none)

@@ -1,0 +1,151 @@
+//! What is marked in a picture: nodes, polygons' points and faults.
+
+ghost use Rattle.std.specs.Prelude.{◌≡◌, ◌<◌, drop, flat_map, length, List, ℕ};
+ghost use Rattle.tl_cert_output.specs.Writing.{line_of};
+ghost use Rattle.tl_cert_output.specs.Printing.{Prints};
+ghost use Rattle.tigertopo_svg.specs.Frames.{spot_of};
+ghost use Rattle.tigertopo_svg.specs.Strokes.{strokes_left};
+ghost use Rattle.tigertopo_svg.specs.Pictures.{drawn};
+ghost use Rattle.tigertopo_svg.specs.Texts.{dot_text, ends_text, polygon_text, escaped_byte, circle_text, fault_text, faults_part};
+
+use crate::chains::walk_along;
+use crate::frame::Frame;
+use crate::picture::Picture;
+use crate::places::{is_inside, place_of};
+use crate::text::{circle_head, dot_text};
+use crate::walk::Walk;
+use tl_cert_output::Printer;
+use tl_check_verdict::MapFault;
+use tl_geom::Point;
+use tl_list_text::fault_line;
+use tl_map_county::Map;
+use tl_record::Sink;
+
+/// Prints the dots at the ends of the chains that are shown.
+pub fn print_nodes<S: Sink>(map: &Map, picture: Picture, printer: &mut Printer, out: &mut S)
+    ensures { Prints S.contents S.failure_count (out.old, printer.old) (out.new, printer.new)
+        (flat_map (ends_text picture.frame) (drawn picture map.now)) }
+{
+    for number in 0..map.chains() {
+        let points = map.chain(number).points;
+        let mut walk = walk_along(picture.frame, picture.skipped, number, points);
+        print_ends(picture.frame, &mut walk, points, printer, out);
+    }
+}
+
+// Prints the dots at the ends of a chain, where something is drawn of it.
+fn print_ends<S: Sink>(
+    frame: Frame,
+    walk: &mut Walk<'_>,
+    points: &[Point],
+    printer: &mut Printer,
+    out: &mut S,
+)
+    requires { 0 < length points.now }
+    ensures { Prints S.contents S.failure_count (out.old, printer.old) (out.new, printer.new)
+        (ends_text frame (record { strokes = strokes_left walk.old; points = points.now })) }
+{
+    if walk.next().is_some() {
+        print_dot(frame, points[0], printer, out);
+        print_dot(frame, points[points.len() - 1], printer, out);
+    }
+}
+
+// Prints the dot at a point, where it lies in the picture.
+fn print_dot<S: Sink>(frame: Frame, p: Point, printer: &mut Printer, out: &mut S)
+    ensures { Prints S.contents S.failure_count (out.old, printer.old) (out.new, printer.new) (dot_text frame p) }
+{
+    let text = dot_text(frame, p);
+    printer.add(text.as_str().as_bytes(), out);
+}
+
+/// Prints the dots at the polygons' points.
+pub fn print_points<S: Sink>(map: &Map, frame: Frame, printer: &mut Printer, out: &mut S)
+    ensures { Prints S.contents S.failure_count (out.old, printer.old) (out.new, printer.new)
+        (flat_map (polygon_text frame) map.now.polygons) }
+{
+    for number in 0..map.polygons() {
+        print_dot(frame, map.polygon(number).point, printer, out);
+    }
+}
+
+/// Prints the circles of the faults that lie in the picture.
+pub fn print_faults<S: Sink>(
+    map: &Map,
+    frame: Frame,
+    faults: &[MapFault],
+    printer: &mut Printer,
+    out: &mut S,
+)
+    ensures { Prints S.contents S.failure_count (out.old, printer.old) (out.new, printer.new)
+        (faults_part frame map.now faults.now) }
+{
+    for fault in faults {
+        print_fault(map, frame, fault, printer, out);
+    }
+}
+
+// Prints the circle of a fault, where it lies in the picture.
+fn print_fault<S: Sink>(
+    map: &Map,
+    frame: Frame,
+    fault: &MapFault,
+    printer: &mut Printer,
+    out: &mut S,
+)
+    ensures { Prints S.contents S.failure_count (out.old, printer.old) (out.new, printer.new)
+        (fault_text frame map.now fault.now) }
+{
+    match place_of(map, fault) {
+        Some(place) if is_inside(frame, place) => print_circle(frame, place, fault, printer, out),
+        _ => {}
+    }
+}
+
+// Prints the circle of a fault at a point.
+fn print_circle<S: Sink>(
+    frame: Frame,
+    place: Point,
+    fault: &MapFault,
+    printer: &mut Printer,
+    out: &mut S,
+)
+    ensures { Prints S.contents S.failure_count (out.old, printer.old) (out.new, printer.new)
+        (circle_text (spot_of frame place) fault.now) }
+{
+    let head = circle_head(frame.spot(place));
+    let line = fault_line(fault);
+    printer.add(head.as_str().as_bytes(), out);
+    print_escaped(title_of(line.as_str().as_bytes()), printer, out);
+    printer.add(b"</title></circle>\n", out);
+}
+
+// What is said of a fault, of the line that is printed of it.
+fn title_of(line: &[u8]) -> &[u8]
+    ensures { (text : List ℕ) → line.now ≡ line_of text → result.now ≡ drop 10 text }
+{
+    let end = line.len().saturating_sub(1);
+    &line[end.min(10)..end]
+}
+
+// Prints a text as it stands in the file.
+fn print_escaped<S: Sink>(text: &[u8], printer: &mut Printer, out: &mut S)
+    ensures { Prints S.contents S.failure_count (out.old, printer.old) (out.new, printer.new)
+        (flat_map escaped_byte text.now) }
+{
+    for byte in text {
+        print_escaped_byte(*byte, printer, out);
+    }
+}
+
+// Prints a byte as it stands in the file.
+fn print_escaped_byte<S: Sink>(byte: u8, printer: &mut Printer, out: &mut S)
+    ensures { Prints S.contents S.failure_count (out.old, printer.old) (out.new, printer.new) (escaped_byte byte) }
+{
+    match byte {
+        b'&' => printer.add(b"&amp;", out),
+        b'<' => printer.add(b"&lt;", out),
+        b'>' => printer.add(b"&gt;", out),
+        _ => printer.add(&[byte], out),
+    }
+}

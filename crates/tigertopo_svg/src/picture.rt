@@ -1,0 +1,108 @@
+//! How a map is drawn.
+
+ghost use Rattle.std.specs.Prelude.{◌≡◌, length};
+ghost use Rattle.tigertopo_svg.specs.Pictures.{stroke_count, first_fitting, point_count, is_marked, picture_of, chain_count, fault_count};
+
+use crate::chains::{count_strokes, walk_along};
+use crate::frame::Frame;
+use crate::places::{is_fault_inside, is_inside};
+use tl_check_verdict::MapFault;
+use tl_map_county::Map;
+
+// How many strokes a picture has at most, where leaving out small chains makes them so few.
+const MOST_STROKES: u128 = 300_000;
+
+// How many strokes, and how many polygons' points, a picture has at most in which nodes and polygons' points are marked.
+const MOST_MARKED: u128 = 20_000;
+
+// How many small chains may be left out behind each that is drawn.
+const SKIPS: [u32; 16] = [0, 1, 2, 3, 4, 5, 6, 7, 9, 12, 16, 24, 32, 64, 128, 256];
+
+/// How a map is drawn: what is shown, how many small chains are left out behind each that is drawn, and whether nodes and
+/// polygons' points are marked.
+#[derive(Clone, Copy, Debug, PartialEq, Eq)]
+pub struct Picture {
+    pub frame: Frame,
+    pub skipped: u32,
+    pub is_marked: bool,
+}
+
+/// The picture of a map by a frame. As few small chains are left out as make its strokes few enough.
+pub fn picture_of(frame: Frame, map: &Map) -> Picture
+    ensures { result ≡ picture_of frame map.now }
+{
+    let skipped = first_fitting(frame, map, &SKIPS);
+    Picture {
+        frame,
+        skipped,
+        is_marked: is_marked(frame, skipped, map),
+    }
+}
+
+// Whether nodes and polygons' points are marked.
+fn is_marked(frame: Frame, skipped: u32, map: &Map) -> bool
+    ensures { result ≡ is_marked frame skipped map.now }
+{
+    let few_strokes = stroke_count(frame, skipped, map) <= MOST_MARKED;
+    let few_points = u128::from(point_count(frame, map)) <= MOST_MARKED;
+    few_strokes && few_points
+}
+
+// The first of these numbers of chains left out by which there are few enough strokes.
+fn first_fitting(frame: Frame, map: &Map, skips: &[u32]) -> u32
+    ensures { result ≡ first_fitting frame map.now.chains skips.now }
+{
+    for skipped in skips {
+        if stroke_count(frame, *skipped, map) <= MOST_STROKES {
+            return *skipped;
+        }
+    }
+    511
+}
+
+// How many strokes are drawn of the map's chains.
+fn stroke_count(frame: Frame, skipped: u32, map: &Map) -> u128
+    ensures { result ≡ stroke_count frame skipped map.now.chains }
+{
+    let mut count = 0;
+    for number in 0..map.chains() {
+        let mut walk = walk_along(frame, skipped, number, map.chain(number).points);
+        count += u128::from(count_strokes(&mut walk));
+    }
+    count
+}
+
+// How many polygons' points lie in the picture.
+fn point_count(frame: Frame, map: &Map) -> u32
+    ensures { result ≡ point_count frame map.now.polygons }
+{
+    let mut count = 0;
+    for number in 0..map.polygons() {
+        count += u32::from(is_inside(frame, map.polygon(number).point));
+    }
+    count
+}
+
+/// How many chains the picture shows.
+pub fn chain_count(picture: Picture, map: &Map) -> u32
+    ensures { result ≡ chain_count picture map.now }
+{
+    let mut count = 0;
+    for number in 0..map.chains() {
+        let points = map.chain(number).points;
+        let mut walk = walk_along(picture.frame, picture.skipped, number, points);
+        count += u32::from(walk.next().is_some());
+    }
+    count
+}
+
+/// How many of these faults the picture shows.
+pub fn fault_count(frame: Frame, map: &Map, faults: &[MapFault]) -> u64
+    ensures { result ≡ fault_count frame map.now faults.now }
+{
+    let mut count = 0;
+    for fault in faults {
+        count += u64::from(is_fault_inside(frame, map, fault));
+    }
+    count
+}

@@ -1,0 +1,163 @@
+//! Pictures on their way out.
+
+ghost use Rattle.std.specs.Prelude.{◌≡◌, ◌++◌, IfErr, codes, flat_map};
+ghost use Rattle.tl_cert_output.specs.declared.stop.Stop.TheVariants.{Device};
+ghost use Rattle.tl_cert_output.specs.Printing.{Prints};
+ghost use Rattle.tl_cert_output.specs.Texts.{PrintsText};
+ghost use Rattle.tigertopo_svg.specs.Strokes.{strokes_left};
+ghost use Rattle.tigertopo_svg.specs.Pictures.{drawn};
+ghost use Rattle.tigertopo_svg.specs.Texts.{stroke_text, drawing_text, size_text, style_text, picture_text};
+ghost use Rattle.tigertopo_svg.specs.Texts.{chains_part, nodes_part, points_part, marks_part, faults_part};
+
+use crate::chains::walk_along;
+use crate::frame::Frame;
+use crate::marks::{print_faults, print_nodes, print_points};
+use crate::picture::Picture;
+use crate::text::{size_text, stroke_text};
+use crate::walk::{Stroke, Walk};
+use tl_cert_output::{Printer, Stop};
+use tl_check_verdict::MapFault;
+use tl_map_county::Map;
+use tl_record::Sink;
+
+// How each part is drawn.
+const STYLE: &[u8] =
+    b"<style>path,circle{fill:none;vector-effect:non-scaling-stroke;stroke-linecap:round;stroke-linejoin:round}\
+.chains{stroke:#333;stroke-width:1}.nodes{stroke:#000;stroke-width:3.2}.points{stroke:#07c;stroke-width:4}\
+circle{stroke:#d00;stroke-width:2;fill:#d00;fill-opacity:.2}</style>\n\
+<rect x=\"-100\" y=\"-100\" width=\"100%\" height=\"100%\" fill=\"#fff\"/>\n";
+
+/// Prints the picture of a map with these faults. The error is that a write failed.
+pub fn print_picture<S: Sink>(
+    map: &Map,
+    picture: Picture,
+    faults: &[MapFault],
+    out: &mut S,
+) -> Result<(), Stop>
+    ensures prints { PrintsText S.contents S.failure_count out.old out.new (picture_text map.now picture faults.now) result }
+    ensures stop { IfErr result (λ stop. stop ≡ Device) }
+{
+    let mut printer = Printer::new();
+    print_whole(map, picture, faults, &mut printer, out);
+    printer.finish(out)
+}
+
+// Prints the same.
+fn print_whole<S: Sink>(
+    map: &Map,
+    picture: Picture,
+    faults: &[MapFault],
+    printer: &mut Printer,
+    out: &mut S,
+)
+    ensures { Prints S.contents S.failure_count (out.old, printer.old) (out.new, printer.new)
+        (picture_text map.now picture faults.now) }
+{
+    print_front(map, picture, printer, out);
+    print_back(map, picture, faults, printer, out);
+}
+
+// Prints the beginning of the file, how each part is drawn, and the lines of chains.
+fn print_front<S: Sink>(map: &Map, picture: Picture, printer: &mut Printer, out: &mut S)
+    ensures { Prints S.contents S.failure_count (out.old, printer.old) (out.new, printer.new)
+        (size_text picture.frame ++ style_text ++ chains_part picture map.now) }
+{
+    let size = size_text(picture.frame);
+    printer.add(size.as_str().as_bytes(), out);
+    print_style(printer, out);
+    print_chains(map, picture, printer, out);
+}
+
+// Prints how each part is drawn.
+fn print_style<S: Sink>(printer: &mut Printer, out: &mut S)
+    ensures { Prints S.contents S.failure_count (out.old, printer.old) (out.new, printer.new) style_text }
+{
+    printer.add(STYLE, out);
+}
+
+// Prints what is marked, and the end of the file.
+fn print_back<S: Sink>(
+    map: &Map,
+    picture: Picture,
+    faults: &[MapFault],
+    printer: &mut Printer,
+    out: &mut S,
+)
+    ensures { Prints S.contents S.failure_count (out.old, printer.old) (out.new, printer.new)
+        (marks_part picture map.now ++ faults_part picture.frame map.now faults.now ++ codes "</svg>\n") }
+{
+    print_marks(map, picture, printer, out);
+    print_faults(map, picture.frame, faults, printer, out);
+    printer.add(b"</svg>\n", out);
+}
+
+// Prints the lines of chains.
+fn print_chains<S: Sink>(map: &Map, picture: Picture, printer: &mut Printer, out: &mut S)
+    ensures { Prints S.contents S.failure_count (out.old, printer.old) (out.new, printer.new)
+        (chains_part picture map.now) }
+{
+    printer.add(b"<path class=\"chains\" d=\"", out);
+    print_drawings(map, picture, printer, out);
+    printer.add(b"\"/>\n", out);
+}
+
+// Prints the strokes of all chains.
+fn print_drawings<S: Sink>(map: &Map, picture: Picture, printer: &mut Printer, out: &mut S)
+    ensures { Prints S.contents S.failure_count (out.old, printer.old) (out.new, printer.new)
+        (flat_map drawing_text (drawn picture map.now)) }
+{
+    for number in 0..map.chains() {
+        let points = map.chain(number).points;
+        let mut walk = walk_along(picture.frame, picture.skipped, number, points);
+        print_strokes(&mut walk, printer, out);
+    }
+}
+
+// Prints the strokes that a walk comes to.
+fn print_strokes<S: Sink>(walk: &mut Walk<'_>, printer: &mut Printer, out: &mut S)
+    ensures { Prints S.contents S.failure_count (out.old, printer.old) (out.new, printer.new)
+        (flat_map stroke_text (strokes_left walk.old)) }
+{
+    while let Some(stroke) = walk.next() {
+        print_stroke(stroke, printer, out);
+    }
+}
+
+// Prints a stroke.
+fn print_stroke<S: Sink>(stroke: Stroke, printer: &mut Printer, out: &mut S)
+    ensures { Prints S.contents S.failure_count (out.old, printer.old) (out.new, printer.new) (stroke_text stroke) }
+{
+    let text = stroke_text(stroke);
+    printer.add(text.as_str().as_bytes(), out);
+}
+
+// Prints the dots of nodes and of polygons' points, where they are marked.
+fn print_marks<S: Sink>(map: &Map, picture: Picture, printer: &mut Printer, out: &mut S)
+    ensures { Prints S.contents S.failure_count (out.old, printer.old) (out.new, printer.new)
+        (marks_part picture map.now) }
+{
+    if picture.is_marked {
+        print_nodes_part(map, picture, printer, out);
+        print_points_part(map, picture.frame, printer, out);
+    }
+}
+
+// Prints the dots of nodes.
+fn print_nodes_part<S: Sink>(map: &Map, picture: Picture, printer: &mut Printer, out: &mut S)
+    ensures { Prints S.contents S.failure_count (out.old, printer.old) (out.new, printer.new)
+        (nodes_part picture map.now) }
+{
+    printer.add(b"<path class=\"nodes\" d=\"", out);
+    print_nodes(map, picture, printer, out);
+    printer.add(b"\"/>\n", out);
+}
+
+// Prints the dots of polygons' points.
+fn print_points_part<S: Sink>(map: &Map, frame: Frame, printer: &mut Printer, out: &mut S)
+    ensures { Prints S.contents S.failure_count (out.old, printer.old) (out.new, printer.new)
+        (points_part frame map.now) }
+{
+    printer.add(b"<path class=\"points\" d=\"", out);
+    print_points(map, frame, printer, out);
+    printer.add(b"\"/>\n", out);
+}

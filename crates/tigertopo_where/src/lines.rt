@@ -1,0 +1,125 @@
+//! Lines of a source, by their numbers.
+
+ghost use Rattle.std.specs.Prelude.{◌≡◌, [], IfOk, min, nat_lt};
+ghost use Rattle.std.specs.Io.KnownBytes.{prepend_known};
+ghost use Rattle.tl_record.specs.Searching.{CountsSkip};
+ghost use Rattle.tl_record.specs.Limits.{most_line_bytes};
+ghost use Rattle.tigertopo_where.specs.declared.lines.Found.TheVariants.{Line};
+ghost use Rattle.tigertopo_where.specs.Finding.{Answers, IsCount, IsFound, IsWithin, Passes};
+
+use tl_record::{Fetched, LineBuffer, MAX_LINE_BYTES, RefusalStop, Source, fetch_line, skip_line};
+
+/// How many bytes of a text are kept: what is fetched at once.
+pub const BLOCK: usize = 65_536;
+
+/// A line that was looked for by its number.
+#[derive(Clone, Copy, Debug, PartialEq, Eq)]
+pub enum Found {
+    /// Its first bytes, 1,024 at most, are the first `len` of the buffer; where `goes_on` it has more.
+    Line { len: usize, goes_on: bool },
+    /// The text has fewer lines.
+    Missing,
+}
+
+/// Counts the lines that a source has left.
+pub fn count_lines<R: Source>(source: &mut R) -> Result<u64, RefusalStop>
+    // Where the bytes are known: how many lines they have. `Endless` is answered of no text that has an end within 2^64 - 1
+    // bytes.
+    ensures count { Answers (R.remaining source.old) IsCount result }
+    // `Device` is answered where a read failed in this call, and nowhere else.
+    ensures failures { CountsSkip (R.failure_count source.old) (R.failure_count source.new) result }
+{
+    let mut buffer = LineBuffer::new();
+    'lines: for count in 0..u64::MAX {
+        match pass_line(&mut buffer, source) {
+            Ok(true) => {}
+            Ok(false) => return Ok(count),
+            Err(stop) => return Err(stop),
+        }
+    }
+    Err(RefusalStop::Endless)
+}
+
+/// Looks for the line with this number, counted from 1, among those that a source has left, and leaves it at the front of
+/// the buffer.
+pub fn find_line<R: Source>(
+    buffer: &mut LineBuffer<BLOCK>,
+    source: &mut R,
+    number: u64,
+) -> Result<Found, RefusalStop>
+    requires { buffer.old ≡ [] }
+    // Where the bytes are known: the line's first bytes, or that there are fewer lines.
+    ensures found { Answers (R.remaining source.old) (IsFound number buffer.new) result }
+    ensures within { IfOk result (IsWithin buffer.new) }
+    // `Device` is answered where a read failed in this call, and nowhere else.
+    ensures failures { CountsSkip (R.failure_count source.old) (R.failure_count source.new) result }
+{
+    if number == 0 {
+        return Ok(Found::Missing);
+    }
+    'lines: for _ in 1..number {
+        match pass_line(buffer, source) {
+            Ok(true) => {}
+            Ok(false) => return Ok(Found::Missing),
+            Err(stop) => return Err(stop),
+        }
+    }
+    show_line(buffer, source)
+}
+
+// The next line's first bytes. It isn't taken off.
+fn show_line<R: Source>(
+    buffer: &mut LineBuffer<BLOCK>,
+    source: &mut R,
+) -> Result<Found, RefusalStop>
+    ensures found { Answers (prepend_known buffer.old (R.remaining source.old)) (IsFound 1 buffer.new) result }
+    ensures within { IfOk result (IsWithin buffer.new) }
+    ensures failures { CountsSkip (R.failure_count source.old) (R.failure_count source.new) result }
+{
+    match fetch_line(buffer, source) {
+        Fetched::Whole(len) => Ok(shown(len)),
+        Fetched::Rest => {
+            let len = buffer.bytes().len();
+            if len == 0 {
+                return Ok(Found::Missing);
+            }
+            Ok(shown(len))
+        }
+        Fetched::Full => Ok(shown(buffer.bytes().len())),
+        Fetched::Failed => Err(RefusalStop::Device),
+    }
+}
+
+// A line of so many bytes, which are the first of the buffer.
+fn shown(len: usize) -> Found
+    ensures { result ≡ Line (min len most_line_bytes) (nat_lt most_line_bytes len) }
+{
+    Found::Line {
+        len: len.min(MAX_LINE_BYTES),
+        goes_on: len > MAX_LINE_BYTES,
+    }
+}
+
+// Takes the next line off, and says whether there was one.
+fn pass_line<R: Source>(buffer: &mut LineBuffer<BLOCK>, source: &mut R) -> Result<bool, RefusalStop>
+    ensures passes { Answers (prepend_known buffer.old (R.remaining source.old))
+        (Passes (prepend_known buffer.new (R.remaining source.new))) result }
+    ensures failures { CountsSkip (R.failure_count source.old) (R.failure_count source.new) result }
+{
+    match fetch_line(buffer, source) {
+        Fetched::Whole(len) => {
+            buffer.consume_line(len);
+            Ok(true)
+        }
+        Fetched::Rest => {
+            let is_line = !buffer.bytes().is_empty();
+            buffer.clear();
+            Ok(is_line)
+        }
+        Fetched::Full => match skip_line(buffer, source) {
+            Ok(()) => Ok(true),
+            Err(stop) => Err(stop),
+        },
+        Fetched::Failed => Err(RefusalStop::Device),
+    }
+}

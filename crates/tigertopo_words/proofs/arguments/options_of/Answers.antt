@@ -1,0 +1,21 @@
+use Rattle.std.proofs.Common.{codes, refl, ◌∙◌}
+use Rattle.clap.specs.Walk.{rows_of}
+use Rattle.clap.specs.Matches.{found_of}
+use Rattle.clap.proofs.WalkLemmas.{first_value-rows}
+use Rattle.tigertopo_words.proofs.ArgumentLemmas.{chosen_the_same}
+use Rattle.tigertopo_words.proofs.RequestLemmas.{options_on_a_map, options_of_records}
+use Rattle.tigertopo_words.proofs.arguments.options_of.Goals as goal
+
+pub returns-in-Audit : goal.returns-in-Audit
+returns-in-Audit c =
+    let released = c.get_str.ensures ∙ first_value-rows (found_of c.args.found.now) (codes "released") in
+    let cells = c.get_str-in-Audit.ensures ∙ first_value-rows (found_of c.args.found.now) (codes "zero-cells") in
+    let faces = c.get_str-in-Audit-2.ensures ∙ first_value-rows (found_of c.args.found.now) (codes "faces") in
+    options_on_a_map c.args.named.now (rows_of (found_of c.args.found.now)) c.chosen_by.result c.in-Audit.is
+    (chosen_the_same _ _ _ _ _ _ c.chosen_by.result released cells faces c.chosen_by.ensures)
+
+pub returns-in-Show : goal.returns-in-Show
+returns-in-Show c =
+    let released = c.get_str-in-Show.ensures ∙ first_value-rows (found_of c.args.found.now) (codes "released") in
+    options_of_records c.args.named.now (rows_of (found_of c.args.found.now)) c.chosen_by-in-Show.result c.in-Show.is
+    (chosen_the_same _ _ _ _ _ _ c.chosen_by-in-Show.result released refl refl c.chosen_by-in-Show.ensures)

@@ -1,0 +1,96 @@
+-- What is given for the arguments of commands, and what it means.
+use Rattle.std.specs.Prelude.{◌≡◌, ◌≢◌, ◌<◌, ◌≤◌, ◌↔◌, ℕ, Bool, IsTrue, List, Option, Some, None, length, ⊤, codes, decimal}
+use Rattle.clap.specs.Walk.{Text}
+use Rattle.tl_geom.specs.declared.point.Point.{Point}
+use Rattle.tl_record.specs.declared.options.Options.{Options}
+use Rattle.tigertopo_words.specs.declared.asked.View.{View}
+use Rattle.tigertopo_words.specs.declared.budget.Told.{Told}
+use Rattle.tigertopo_words.specs.declared.budget.Told.TheVariants.{One, All}
+use Rattle.tigertopo_words.specs.Points.{Spells}
+
+-- a text was given
+abbrev pub IsGiven : Option Text → Type 0
+IsGiven given = (text : Text) × (given ≡ Some text)
+
+-- what was given for FILES is these texts, of which there is one at least
+abbrev pub AreSome : Option (List Text) → List Text → Type 0
+AreSome given files = (given ≡ Some files) × (0 < length files)
+
+-- a switch is on exactly where its value is the word true
+abbrev pub IsSwitch : Option Text → Bool → Type 0
+IsSwitch given on = IsTrue on ↔ (given ≡ Some (codes "true"))
+
+-- the values of the three switches say what is asked of a county
+pub record AreChosen (released zero_cells faces : Option Text) (options : Options) : Type 0 where
+  pub columns : IsTrue options.released ↔ (released ≡ Some (codes "true"))
+  pub cells : IsTrue options.zero_cells ↔ (zero_cells ≡ Some (codes "true"))
+  pub faced : IsTrue options.faces ↔ (faces ≡ Some (codes "true"))
+
+-- the greatest number that can be given, which is the budget where none is
+abbrev pub greatest_budget : ℕ
+greatest_budget = 18446744073709551615
+
+-- the text is this number, with no sign and no leading zero
+abbrev pub IsSpelt : Text → ℕ → Type 0
+IsSpelt text number = (text ≡ decimal number) × (number ≤ greatest_budget)
+
+-- what was given for --tests, if anything was, is this number
+abbrev pub IsBudget : Option Text → ℕ → Type 0
+IsBudget None budget = budget ≡ greatest_budget
+IsBudget (Some text) budget = IsSpelt text budget
+
+-- what was given for --most is this number, where anything was
+abbrev pub IsMost : Option Text → Option ℕ → Type 0
+IsMost None None = ⊤
+IsMost None (Some number) = ⊥
+IsMost (Some text) None = ⊥
+IsMost (Some text) (Some number) = IsSpelt text number
+
+-- what was given for --all and for --most asks for one fault
+pub record AskForOne (all most : Option Text) : Type 0 where
+  pub one : all ≢ Some (codes "true")
+  pub no_most : most ≡ None
+
+-- or for all faults, of which so many are to be told, or each
+pub record AskForAll (all most : Option Text) (number : Option ℕ) : Type 0 where
+  pub each : all ≡ Some (codes "true")
+  pub told : IsMost most number
+
+-- so many faults are asked for
+abbrev pub AskForTold : (all most : Option Text) → Told → Type 0
+AskForTold all most One = AskForOne all most
+AskForTold all most (All number) = AskForAll all most number
+
+-- some are
+abbrev pub AskForFaults : (all most : Option Text) → Type 0
+AskForFaults all most = (told : Told) × AskForTold all most told
+
+-- what was given for @X,Y spells this point
+abbrev pub IsPlace : Option Text → Point → Type 0
+IsPlace None point = ⊥
+IsPlace (Some word) point = Spells word point
+
+-- the greatest width of a view: the whole way round
+abbrev pub greatest_width : ℕ
+greatest_width = 360000000
+
+-- the word is this number, from 1 to the greatest width
+pub record SpellsWidth (word : Text) (width : ℕ) : Type 0 where
+  pub is : IsSpelt word width
+  pub some : 1 ≤ width
+  pub most : width ≤ greatest_width
+
+-- the two words are this view
+pub record SpellsView (center width : Text) (view : View) : Type 0 where
+  pub at : Spells center view.center
+  pub wide : SpellsWidth width view.width
+
+-- what was given for --at and for --width is this view, or nothing was given for either
+abbrev pub IsView : (center width : Option Text) → Option View → Type 0
+IsView None None None = ⊤
+IsView (Some center) (Some width) (Some view) = SpellsView center width view
+IsView center width view = ⊥
+
+-- faces are asked for only where faults are
+abbrev pub FacesNeedFaults : (faces faults : Option Text) → Type 0
+FacesNeedFaults faces faults = faces ≡ Some (codes "true") → faults ≡ Some (codes "true")

@@ -1,0 +1,154 @@
+//! What is asked, by the name of a command and by what `clap` found behind it.
+
+ghost use Rattle.std.specs.Prelude.{◌≡◌, ◌≢◌, IfOk, MatchOption, codes};
+ghost use Rattle.clap.specs.Walk.{rows_of, first_of};
+ghost use Rattle.clap.specs.Matches.{found_of};
+ghost use Rattle.tigertopo_words.specs.Commands.{name_of};
+ghost use Rattle.tigertopo_words.specs.Arguments.{AskForFaults, AskForTold};
+ghost use Rattle.tigertopo_words.specs.Asked.{IsAskedBy};
+ghost use Rattle.tigertopo_words.specs.declared.command_line.Named.{Named};
+
+use crate::arguments::{switch_of, word_of};
+use crate::asked::Asked;
+use crate::budget::{Told, asked_by, budget_of};
+use crate::command_line::Named;
+use crate::point::place_of;
+use crate::view::view_of;
+use clap::ArgMatches;
+use std::alloc::{AllocError, Global};
+
+/// The command of this name, where that is one of the program's.
+pub fn named_by(name: &str) -> Option<Named>
+    ensures { MatchOption result ((named : Named) → name.now ≢ name_of named) (λ named. name.now ≡ name_of named) }
+{
+    match name {
+        "show" => Some(Named::Show),
+        "landmarks" => Some(Named::Landmarks),
+        "locate" => Some(Named::Locate),
+        "audit" => Some(Named::Audit),
+        "build" => Some(Named::Build),
+        "check" => Some(Named::Check),
+        "convert" => Some(Named::Convert),
+        "export" => Some(Named::Export),
+        "draw" => Some(Named::Draw),
+        _ => None,
+    }
+}
+
+/// What the command is asked, where all is given that it needs beside files.
+pub fn asked_of(
+    alloc: Global,
+    named: &Named,
+    found: &ArgMatches<'_>,
+) -> Result<Option<Asked>, AllocError>
+    ensures { IfOk result (IsAskedBy named.now (rows_of (found_of found.now))) }
+{
+    match named {
+        Named::Show => Ok(Some(Asked::Show)),
+        Named::Landmarks => Ok(Some(Asked::Landmarks)),
+        Named::Locate => Ok(location_of(found)),
+        Named::Audit => audit_of(alloc, found),
+        Named::Build => build_of(alloc, found),
+        Named::Check => check_of(alloc, found),
+        Named::Convert => conversion_of(alloc, found),
+        Named::Export => export_of(alloc, found),
+        Named::Draw => drawing_of(alloc, found),
+    }
+}
+
+// Where a point lies, where one is spelt.
+fn location_of(found: &ArgMatches<'_>) -> Option<Asked>
+    ensures { IsAskedBy Named.Locate (rows_of (found_of found.now)) result }
+{
+    match place_of(found.get_str("point")) {
+        Some(point) => Some(Asked::Locate { point }),
+        None => None,
+    }
+}
+
+// An audit, where a number of faults is given only beside --all.
+fn audit_of(alloc: Global, found: &ArgMatches<'_>) -> Result<Option<Asked>, AllocError>
+    ensures { IfOk result (IsAskedBy Named.Audit (rows_of (found_of found.now))) }
+{
+    let Some(told) = told_of(found) else {
+        return Ok(None);
+    };
+    let made = word_of(alloc, found, "geojson")?;
+    Ok(Some(Asked::Audit {
+        told,
+        places: switch_of(found, "where"),
+        made,
+    }))
+}
+
+// How many faults are asked for, by --all and --most. A number without --all asks for none, and so does one that isn't spelt as one.
+fn told_of(found: &ArgMatches<'_>) -> Option<Told>
+    ensures { let each = first_of (codes "all") (rows_of (found_of found.now)) in
+        let number = first_of (codes "most") (rows_of (found_of found.now)) in
+        MatchOption result (¬ AskForFaults each number) (AskForTold each number) }
+{
+    asked_by(found.get_str("all"), found.get_str("most"))
+}
+
+// A certificate that is built, where it is named.
+fn build_of(alloc: Global, found: &ArgMatches<'_>) -> Result<Option<Asked>, AllocError>
+    ensures { IfOk result (IsAskedBy Named.Build (rows_of (found_of found.now))) }
+{
+    match word_of(alloc, found, "out")? {
+        Some(made) => Ok(Some(Asked::Build { made })),
+        None => Ok(None),
+    }
+}
+
+// A check, where its certificate is named and its number of tests is spelt as one.
+fn check_of(alloc: Global, found: &ArgMatches<'_>) -> Result<Option<Asked>, AllocError>
+    ensures { IfOk result (IsAskedBy Named.Check (rows_of (found_of found.now))) }
+{
+    let Some(budget) = budget_of(found.get_str("tests")) else {
+        return Ok(None);
+    };
+    match word_of(alloc, found, "cert")? {
+        Some(cert) => Ok(Some(Asked::Check { cert, budget })),
+        None => Ok(None),
+    }
+}
+
+// A conversion, where both certificates are named.
+fn conversion_of(alloc: Global, found: &ArgMatches<'_>) -> Result<Option<Asked>, AllocError>
+    ensures { IfOk result (IsAskedBy Named.Convert (rows_of (found_of found.now))) }
+{
+    let Some(cert) = word_of(alloc, found, "cert")? else {
+        return Ok(None);
+    };
+    match word_of(alloc, found, "out")? {
+        Some(made) => Ok(Some(Asked::Convert { cert, made })),
+        None => Ok(None),
+    }
+}
+
+// A file of GeoJSON, where it is named.
+fn export_of(alloc: Global, found: &ArgMatches<'_>) -> Result<Option<Asked>, AllocError>
+    ensures { IfOk result (IsAskedBy Named.Export (rows_of (found_of found.now))) }
+{
+    match word_of(alloc, found, "geojson")? {
+        Some(made) => Ok(Some(Asked::Export { made })),
+        None => Ok(None),
+    }
+}
+
+// A picture, where it is named, a view is spelt or none is given, and faces are asked for only where faults are.
+fn drawing_of(alloc: Global, found: &ArgMatches<'_>) -> Result<Option<Asked>, AllocError>
+    ensures { IfOk result (IsAskedBy Named.Draw (rows_of (found_of found.now))) }
+{
+    let Some(view) = view_of(found.get_str("at"), found.get_str("width")) else {
+        return Ok(None);
+    };
+    let faults = switch_of(found, "faults");
+    if switch_of(found, "faces") && !faults {
+        return Ok(None);
+    }
+    match word_of(alloc, found, "out")? {
+        Some(made) => Ok(Some(Asked::Draw { made, view, faults })),
+        None => Ok(None),
+    }
+}

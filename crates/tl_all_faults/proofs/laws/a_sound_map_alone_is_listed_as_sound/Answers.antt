@@ -1,5 +1,0 @@
-use Rattle.tl_all_faults.proofs.Listed.{sound_alone}
-use Rattle.tl_all_faults.proofs.laws.a_sound_map_alone_is_listed_as_sound.Goals as goal
-
-pub returns : goal.returns
-returns c = sound_alone

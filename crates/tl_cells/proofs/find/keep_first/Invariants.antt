@@ -1,6 +1,0 @@
-use Rattle.tl_cells.specs.Keeping.Kept.{KeepFirst}
-use Rattle.tl_cells.proofs.find.keep_first.Given as goal
-
--- the darts so far are kept
-abbrev pub invariant-loop-dart : goal.invariant-loop-dart
-invariant-loop-dart l = KeepFirst l.map.chains l.dart l.kept

@@ -1,0 +1,90 @@
+-- What writes tell of failures and of what the sink took.
+use Rattle.std.proofs.Common.{◌≡◌, ℕ, List, [], ◌++◌, Result, Ok, Err, refl, sym, ap, subst, ◌∙◌, arith, false, length, take, drop}
+use Rattle.std.proofs.Common.{append_assoc, take-append-drop}
+use lib.Seq.{take-append_seam}
+use Rattle.std.specs.Io.KnownBytes.{Appends}
+use Rattle.std.proofs.KnownBytes.{Appends-trans}
+use Rattle.std.proofs.lemmas.Bool.Decides.{nat_tests}
+use Rattle.std.specs.Prelude.{◌==◌, ◌&&◌, ◌≢◌, not, if◌then◌else◌, Option, Some, None, IfSome, OnOk}
+use Rattle.tl_record.specs.Failures.{one_more}
+use Rattle.std.specs.Result.{IsErr}
+use Rattle.tl_cert_output.specs.Writing.{PassesOn, PassesSome, TriesToPassOn, CountsFailure, FailsToWrite, WritesSome, line_of}
+
+-- a write that took some bytes has not failed
+pub no_failure : (taken count size : ℕ) → taken ≢ 0
+    → (if taken == 0 && not (size == 0) then one_more count else count) ≡ count
+no_failure taken count size some =
+    let other : (taken == 0) ≡ false = grind (arith, nat_tests) in
+    rw other refl
+
+-- the sink took the front of a text
+pub passes_front : (old new : Option (List ℕ)) (n : ℕ) (text : List ℕ) → Appends old new (take n text) → PassesSome old new [] text
+passes_front old new n text grown =
+    record { lost = drop n text; passes = record { taken = take n text; grown = grown; whole = take-append-drop n text } }
+
+-- what was held is gone, and the text behind it too
+pub passes_some_more : (old new : Option (List ℕ)) (held text more : List ℕ) → PassesSome old new held text → PassesSome old new held (text ++ more)
+passes_some_more old new held text more some =
+    let p = some.passes in
+    record {
+      lost = some.lost ++ more;
+      passes = record {
+        taken = p.taken;
+        grown = p.grown;
+        whole = sym (append_assoc p.taken some.lost more) ∙ ap (λ l. l ++ more) p.whole ∙ append_assoc held text more;
+      };
+    }
+
+-- one text is passed on behind another
+pub passes_both : (old mid new : Option (List ℕ)) (held kept last front behind : List ℕ) → PassesOn old mid held kept front
+    → PassesOn mid new kept last behind → PassesOn old new held last (front ++ behind)
+passes_both old mid new held kept last front behind p q =
+    record {
+      taken = p.taken ++ q.taken;
+      grown = Appends-trans old mid new p.taken q.taken p.grown q.grown;
+      whole =
+          append_assoc p.taken q.taken last
+          ∙ ap (λ l. p.taken ++ l) q.whole
+          ∙ sym (append_assoc p.taken kept behind)
+          ∙ ap (λ l. l ++ behind) p.whole
+          ∙ append_assoc held front behind;
+    }
+
+-- one text is passed on whole, and another behind it isn't
+pub passes_some_then : (old mid new : Option (List ℕ)) (held kept front behind : List ℕ) → PassesOn old mid held kept front
+    → PassesSome mid new kept behind → PassesSome old new held (front ++ behind)
+passes_some_then old mid new held kept front behind p q =
+    record { lost = q.lost; passes = passes_both old mid new held kept q.lost front behind p q.passes }
+
+-- what the sink took is a beginning of the text
+pub writes_some : {S : Type 0} (contents : S → Option (List ℕ)) (failures : S → ℕ) (old new : S) (text : List ℕ)
+    → PassesSome (contents old) (contents new) [] text → FailsToWrite failures old new → WritesSome contents failures old new text
+writes_some contents failures old new text some failure =
+    let p = some.passes in
+    record {
+      len = length p.taken;
+      grown =
+          subst (Appends (contents old) (contents new))
+          (sym (take-append_seam p.taken some.lost) ∙ ap (take (length p.taken)) p.whole) p.grown;
+      failure = failure;
+    }
+
+-- the same of a value's line, where its text is known
+pub writes_some_line : {S : Type 0} (contents : S → Option (List ℕ)) (failures : S → ℕ) (old new : S) (line : List ℕ) (text : Option (List ℕ)) → IfSome text (λ t. line ≡ line_of t)
+    → PassesSome (contents old) (contents new) [] line → FailsToWrite failures old new → IfSome text (λ t. WritesSome contents failures old new (line_of t))
+writes_some_line contents failures old new line None is some failure = tt
+writes_some_line contents failures old new line (Some t) is some failure = subst (WritesSome contents failures old new) is (writes_some contents failures old new line some failure)
+
+-- ---- what an error says, in the form in which `?` passes it on
+
+pub nothing_ok : {T E : Type 0} (P : Type 0) (r : Result T E) → IsErr r → OnOk r P
+nothing_ok P (Ok x) h = absurd (cc)
+nothing_ok P (Err e) h = tt
+
+pub passes_err : {T E : Type 0} (old new : Option (List ℕ)) (held kept text : List ℕ) (r : Result T E) → IsErr r → PassesSome old new held text → TriesToPassOn old new held kept text r
+passes_err old new held kept text (Ok x) h p = absurd (cc)
+passes_err old new held kept text (Err e) h p = p
+
+pub counts_err : {T E : Type 0} (old new : ℕ) (r : Result T E) → IsErr r → new ≡ one_more old → CountsFailure old new r
+counts_err old new (Ok x) h e = absurd (cc)
+counts_err old new (Err e) h f = f

@@ -1,0 +1,30 @@
+use Rattle.std.proofs.Common.{refl, subst, sym, ◌∙◌}
+use Rattle.std.proofs.lemmas.Result.{err_from_is_err_and}
+use Rattle.tl_check_heights.specs.Heights.{widest}
+use Rattle.tl_check_heights.specs.Neighbours.{AreTested, EachTwo}
+use Rattle.tl_check_active.proofs.Lining.{pushed}
+use Rattle.tl_check_active.proofs.Tests.{never}
+use Rattle.tl_check_active.proofs.shifting.replace_one.Goals as goal
+
+pub returns-clause-tested : goal.returns-clause-tested
+returns-clause-tested c = λ h two.
+    subst (EachTwo (AreTested widest c.args.map.now.chains)) (sym c.in_ok-change.ensures.front)
+    (pushed (AreTested widest c.args.map.now.chains) c.args.line.now.front c.args.s two (λ t e. c.may_follow.ensures c.if-not-may_follow.false t c.args.s (c.previous.ensures ∙ e) refl))
+
+pub returns-then-ne-clause-front : goal.returns-then-ne-clause-front
+returns-then-ne-clause-front c = λ h. never h
+
+pub returns-then-ne-clause-back : goal.returns-then-ne-clause-back
+returns-then-ne-clause-back c = λ h. never h
+
+pub returns-then-ne-clause-tested : goal.returns-then-ne-clause-tested
+returns-then-ne-clause-tested c = λ h. never h
+
+pub returns-in_err-change-clause-front : goal.returns-in_err-change-clause-front
+returns-in_err-change-clause-front c = let p = err_from_is_err_and c.from_residual.result c.from_residual.ensures.1 in rw p.1 tt
+
+pub returns-in_err-change-clause-back : goal.returns-in_err-change-clause-back
+returns-in_err-change-clause-back c = let p = err_from_is_err_and c.from_residual.result c.from_residual.ensures.1 in rw p.1 tt
+
+pub returns-in_err-change-clause-tested : goal.returns-in_err-change-clause-tested
+returns-in_err-change-clause-tested c = let p = err_from_is_err_and c.from_residual.result c.from_residual.ensures.1 in rw p.1 tt

@@ -1,0 +1,167 @@
+//! Places in the list of active segments.
+ghost use Rattle.std.specs.Prelude.{◌≡◌, IfOk};
+ghost use Rattle.tl_check_active.specs.Lined.{list_of};
+
+use crate::heights::is_lower;
+use crate::line::Line;
+use crate::places::Places;
+use std::alloc::AllocError;
+use tl_geom::{Point, Segment};
+use tl_map_county::Map;
+
+/// Whether a point lies strictly east of a segment.
+fn is_east(map: &Map, s: Option<u32>, p: Point) -> bool {
+    let Some(s) = s else {
+        return false;
+    };
+    s < map.segments() && is_east_of(map.segment(s), p)
+}
+
+/// Whether a point lies strictly east of a segment at its height: as a rule longitudes tell it, and else products of 64 bits, which
+/// hold those of a map's points. Nothing rests on it, since whatever stands side by side is tested.
+#[inline]
+fn is_east_of(s: Segment, p: Point) -> bool {
+    let (a, b) = (s.a(), s.b());
+    if p.x <= a.x && p.x <= b.x {
+        return false;
+    }
+    if p.x > a.x && p.x > b.x {
+        return true;
+    }
+    let along = offset(a.x, b.x).wrapping_mul(offset(a.y, p.y));
+    let aside = offset(a.y, b.y).wrapping_mul(offset(a.x, p.x));
+    if is_lower(a, b) {
+        along < aside
+    } else {
+        along > aside
+    }
+}
+
+/// How far one number is above another.
+#[inline]
+fn offset(from: i32, to: i32) -> i64 {
+    i64::from(to) - i64::from(from)
+}
+
+/// How many of the blocks west of the open one begin west of a point.
+fn begin_west(map: &Map, line: &Line, blocks: usize, p: Point) -> usize {
+    let mut low = 0;
+    let mut high = blocks;
+    while low < high {
+        let middle = low + (high - low) / 2;
+        if is_east(map, line.first_west(middle), p) {
+            low = middle + 1;
+        } else {
+            high = middle;
+        }
+    }
+    low
+}
+
+/// How many of the blocks east of the open one don't begin west of a point.
+fn begin_east(map: &Map, line: &Line, blocks: usize, p: Point) -> usize {
+    let mut low = 0;
+    let mut high = blocks;
+    while low < high {
+        let middle = low + (high - low) / 2;
+        if is_east(map, line.first_east(middle), p) {
+            high = middle;
+        } else {
+            low = middle + 1;
+        }
+    }
+    low
+}
+
+/// Goes so many blocks to the west.
+fn go_west(line: &mut Line, blocks: usize) -> Result<(), AllocError>
+    ensures { IfOk result (λ done. list_of line.new ≡ list_of line.old) }
+{
+    for _block in 0..blocks {
+        line.step_west()?;
+    }
+    Ok(())
+}
+
+/// Goes so many blocks to the east.
+fn go_east(line: &mut Line, blocks: usize) -> Result<(), AllocError>
+    ensures { IfOk result (λ done. list_of line.new ≡ list_of line.old) }
+{
+    for _block in 0..blocks {
+        line.step_east()?;
+    }
+    Ok(())
+}
+
+/// Opens the last block that begins west of a point, or the first one.
+fn open(map: &Map, line: &mut Line, p: Point) -> Result<(), AllocError>
+    ensures { IfOk result (λ done. list_of line.new ≡ list_of line.old) }
+{
+    let (west, east) = line.blocks();
+    if west == 0 && east == 0 {
+        return Ok(());
+    }
+    // Where all that was in the open block has left it, what comes next is in the first block to the east.
+    let first = if line.len() > 0 {
+        line.at(0)
+    } else {
+        line.next()
+    };
+    if is_east(map, first, p) {
+        let behind = begin_east(map, line, east, p);
+        go_east(line, east.saturating_sub(behind))
+    } else {
+        let before = begin_west(map, line, west, p);
+        go_west(line, west.saturating_sub(before.saturating_sub(1)))
+    }
+}
+
+/// The place in the open block of the first segment that a point isn't east of.
+fn find(map: &Map, line: &Line, p: Point) -> usize {
+    let mut low = 0;
+    let mut high = line.len();
+    while low < high {
+        let middle = low + (high - low) / 2;
+        if is_east(map, line.at(middle), p) {
+            low = middle + 1;
+        } else {
+            high = middle;
+        }
+    }
+    low
+}
+
+/// Goes to the place of a point in the list: before the first segment that the point isn't east of, as it is found in a list that
+/// is in order. The error is that memory was refused.
+pub fn go_to(map: &Map, line: &mut Line, p: Point) -> Result<(), AllocError>
+    ensures { IfOk result (λ done. list_of line.new ≡ list_of line.old) }
+{
+    open(map, line, p)?;
+    line.seek(find(map, line, p));
+    Ok(())
+}
+
+/// The place in the open block of the first of the segments that end at a point or, if none does or it isn't there, of the first
+/// segment that the point isn't east of.
+fn find_place(map: &Map, p: Point, line: &Line, places: &Places, outs: &[u32]) -> usize {
+    match places.find(line, outs) {
+        Some(place) => place,
+        None => find(map, line, p),
+    }
+}
+
+/// Goes to the place of a point at which segments may end: before the first of these or, if none does or it isn't found, as
+/// [`go_to`] does. The error is that memory was refused.
+pub fn go_to_first(
+    map: &Map,
+    p: Point,
+    line: &mut Line,
+    places: &Places,
+    outs: &[u32],
+) -> Result<(), AllocError>
+    ensures { IfOk result (λ done. list_of line.new ≡ list_of line.old) }
+{
+    open(map, line, p)?;
+    line.seek(find_place(map, p, line, places, outs));
+    Ok(())
+}

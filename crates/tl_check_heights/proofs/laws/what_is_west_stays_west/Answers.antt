@@ -1,0 +1,8 @@
+use Rattle.tl_check_heights.proofs.Transport.{not_east, on_both}
+use Rattle.tl_check_heights.proofs.laws.what_is_west_stays_west.Goals as goal
+
+pub returns : goal.returns
+returns c = λ K u w r near near' west spans spans' h. (
+  not_east K u w near near' west r spans spans' h,
+  on_both K u w near near' west r spans spans' h,
+)

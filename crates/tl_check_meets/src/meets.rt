@@ -1,0 +1,59 @@
+//! All places where a map's chains meet that they may not.
+ghost use Rattle.std.specs.Prelude.{IfOk, length};
+ghost use Rattle.tl_map_county.specs.Segments.{segments_before};
+ghost use Rattle.tl_check_planar.specs.Rectangles.{segment_rect};
+ghost use Rattle.tl_check_planar.specs.Searching.{MayTell};
+ghost use Rattle.tl_tree_index.specs.Searches.{IsConflict};
+ghost use Rattle.tl_check_meets.specs.Conflicts.{AreAllConflicts};
+ghost use Rattle.tl_check_meets.specs.Meets.{AreAllMeets};
+ghost use Rattle.tl_check_meets.specs.Keeping.Telling.{IsMeetOf};
+
+use crate::all_conflicts;
+use std::alloc::Global;
+use tl_check_planar::{Meet, Segments};
+use tl_geom::Rational;
+use tl_map_county::Map;
+use tl_tree_index::{BoxIndex, Conflict, Memory};
+
+/// All meets of a map's segments, by an index that fits them, by rising `s` and of one `s` by rising `t`. An error says
+/// that memory was refused.
+pub fn all_meets<X: BoxIndex>(alloc: Global, index: &X, map: &Map) -> Result<Vec<Meet>, Memory>
+    requires { X.fits index.now (segments_before map.now.chains (length map.now.chains))
+        (segment_rect map.now.chains) }
+    ensures { IfOk result (λ meets. AreAllMeets map.now.chains meets.items) }
+{
+    let conflicts = all_conflicts(alloc, index, &Segments::new(map))?;
+    meets_of(alloc, map, &conflicts)
+}
+
+/// The meets of conflicts, in their order.
+fn meets_of(alloc: Global, map: &Map, conflicts: &[Conflict<Rational>]) -> Result<Vec<Meet>, Memory>
+    requires { AreAllConflicts (segments_before map.now.chains (length map.now.chains)) (MayTell map.now.chains)
+        conflicts.now }
+    ensures { IfOk result (λ meets. AreAllMeets map.now.chains meets.items) }
+{
+    let Ok(mut meets) = Vec::with_capacity(alloc, conflicts.len()) else {
+        return Err(Memory);
+    };
+    for place in 0..conflicts.len() {
+        if meets.push(meet_of(map, conflicts[place])).is_err() {
+            return Err(Memory);
+        }
+    }
+    Ok(meets)
+}
+
+/// The meet of a conflict.
+fn meet_of(map: &Map, conflict: Conflict<Rational>) -> Meet
+    requires { IsConflict (segments_before map.now.chains (length map.now.chains)) (MayTell map.now.chains)
+        conflict.i conflict.j conflict.c }
+    ensures { IsMeetOf map.now.chains conflict result }
+{
+    Meet {
+        tlid: map.chain(map.segment_chain(conflict.i)).tlid,
+        s: conflict.i,
+        other: map.chain(map.segment_chain(conflict.j)).tlid,
+        t: conflict.j,
+        at: conflict.c,
+    }
+}

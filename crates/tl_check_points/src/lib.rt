@@ -1,0 +1,23 @@
+//! The points of polygons by rings: whether each lies on no chain, inside its own polygon and clear of every other.
+//!
+//! Where sides agree, a ring of darts winds about no point outside of its bounding box. So the count of a polygon at a
+//! point is what the rings with that polygon on their left add whose boxes hold the point
+//! (`tl_check_crossings::laws::rings_that_hold_a_point_count_for_all`). They are found with a tree over the boxes.
+#![tactic(auto)]
+
+mod boxes;
+mod darts;
+mod heights;
+mod laid;
+mod lent;
+mod look;
+mod misplaced;
+mod points;
+mod rings;
+mod sites;
+mod spot;
+mod suspects;
+
+pub use misplaced::find_misplaced;
+pub use rings::Rings;
+pub use suspects::list_suspects;

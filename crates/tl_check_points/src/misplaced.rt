@@ -1,0 +1,59 @@
+//! Polygons' points that don't lie where they have to.
+
+ghost use Rattle.std.specs.Prelude.{◌≡◌, ℕ, ◌<◌, ◌^◌, length, All, IfOk, MatchOption};
+ghost use Rattle.tl_map_county.specs.Segments.{segments_before};
+ghost use Rattle.tl_check_planar.specs.Rectangles.{segment_rect};
+ghost use Rattle.tl_check_sides.specs.Sides.{SidesAgree};
+ghost use Rattle.tl_check_sides.specs.Walks.{AreWalks};
+ghost use Rattle.tl_check_inside.specs.Placed.{ArePlaced, IsTrueMisplaced};
+ghost use Rattle.tl_check_points.specs.Rings.{AreBoxed};
+ghost use Rattle.tl_check_points.specs.Keeping.Looking.{IsPlacedOrIn};
+
+use crate::points::{Wrong, look_at_points};
+use crate::rings::Rings;
+use crate::sites::sites_of;
+use std::alloc::Global;
+use tl_check_inside::{Misplaced, find_among};
+use tl_map_county::Map;
+use tl_tree_index::{BoxIndex, Memory};
+
+/// Looks for a polygon whose point is on a chain, isn't inside its polygon or isn't clear of another, by any index that
+/// fits the map's segments and the rings of the map, where sides agree. A point is looked at by the rings whose boxes
+/// hold it, or, where these have more darts than a ray has chains to look at, together with others along their rays.
+/// Memory is taken for all points at once.
+pub fn find_misplaced<X: BoxIndex>(
+    alloc: Global,
+    map: &Map,
+    index: &X,
+    rings: &Rings,
+) -> Result<Option<Misplaced>, Memory>
+    requires fits { X.fits index.now (segments_before map.now.chains (length map.now.chains)) (segment_rect map.now.chains) }
+    requires sides { SidesAgree map.now.chains }
+    requires walks { AreWalks map.now.chains rings.now.rings }
+    requires boxed { AreBoxed map.now.chains rings.now }
+    requires few { length rings.now.rings < 2 ^ 32 }
+    ensures { IfOk result (λ found. MatchOption found (ArePlaced map.now) (IsTrueMisplaced map.now)) }
+{
+    let mut suspects = Vec::new(alloc);
+    match look_at_points(alloc, map, index, rings, Wrong::First, &mut suspects) {
+        Ok(None) => find_in_rays(alloc, map, index, &suspects),
+        Ok(Some(found)) => Ok(Some(found)),
+        Err(refused) => Err(refused),
+    }
+}
+
+/// The same by the rays of these polygons' points, where the points of all others lie where they have to.
+fn find_in_rays<X: BoxIndex>(
+    alloc: Global,
+    map: &Map,
+    index: &X,
+    suspects: &[u32],
+) -> Result<Option<Misplaced>, Memory>
+    requires fits { X.fits index.now (segments_before map.now.chains (length map.now.chains)) (segment_rect map.now.chains) }
+    requires known { All (λ p. p < length map.now.polygons) suspects.now }
+    requires others { (p : ℕ) → p < length map.now.polygons → IsPlacedOrIn map.now suspects.now p }
+    ensures { IfOk result (λ found. MatchOption found (ArePlaced map.now) (IsTrueMisplaced map.now)) }
+{
+    let mut sites = sites_of(alloc, map, suspects)?;
+    find_among(alloc, map, index, &mut sites)
+}

@@ -1,0 +1,6 @@
+use Rattle.std.proofs.Common.{sym, subst}
+use Rattle.tl_check_sweep.specs.Keeping.Spotted.{AreTrueMarks}
+use Rattle.tl_check_sweep.proofs.answer.sweep.Goals as goal
+
+pub suspects_of-requires-clause-marks : goal.suspects_of-requires-clause-marks
+suspects_of-requires-clause-marks c = subst (AreTrueMarks c.args.map.now) (sym c.deref.ensures.value) c.in_ok-swept.ensures.marks

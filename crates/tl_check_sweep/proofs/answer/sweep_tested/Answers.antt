@@ -1,0 +1,31 @@
+use Rattle.std.proofs.Common.{◌≡◌, false, true, subst, ◌∙◌}
+use Rattle.std.specs.Prelude.{IfSome, slice_index_or}
+use Rattle.tl_check_heights.specs.Heights.{widest}
+use Rattle.tl_check_heights.proofs.Planarity.{planar}
+use Rattle.tl_check_sweep.specs.Keeping.Watched.{AreTrueGaps}
+use Rattle.tl_check_sweep.proofs.Answered.{all_near}
+use Rattle.tl_check_sweep.proofs.answer.sweep_tested.Goals as goal
+
+pub planar-swept-requires-clause-planar : goal.planar-swept-requires-clause-planar
+planar-swept-requires-clause-planar c =
+    planar widest c.args.map.now.chains c.requires.wide (c.in_ok-sweep_list.ensures c.if-not-branch.false).slabs c.requires.vertices
+
+pub into_gaps-requires-clause-near : goal.into_gaps-requires-clause-near
+into_gaps-requires-clause-near c = all_near c.args.map.now.chains c.requires.proper c.requires.ranges
+
+pub into_gaps-requires-clause-planar : goal.into_gaps-requires-clause-planar
+into_gaps-requires-clause-planar c =
+    planar widest c.args.map.now.chains c.requires.wide (c.in_ok-sweep_list.ensures c.if-not-branch.false).slabs c.requires.vertices
+
+pub returns-then-not-branch : goal.returns-then-not-branch
+returns-then-not-branch c = c.answer_by_meet.ensures c.args.gaps
+
+pub returns : goal.returns
+returns c =
+    let end = c.in_ok-sweep_list.ensures c.if-not-branch.false in
+    record {
+      answer = c.planar-swept.ensures;
+      marks = λ p marked. end.marks.placed p (subst (λ l. slice_index_or l p false ≡ true) c.into_marks.ensures marked);
+      gaps = subst (λ asked. IfSome c.in_ok-gaps.gaps (λ found. AreTrueGaps c.args.map.now.chains asked found.items)) (end.asked ∙ c.new-watch.ensures.asked)
+          c.in_ok-gaps.ensures;
+    }

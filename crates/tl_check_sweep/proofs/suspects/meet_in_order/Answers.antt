@@ -1,0 +1,42 @@
+use Rattle.std.proofs.Common.{◌<◌, length, subst, sym, arith}
+use Rattle.std.proofs.lemmas.Option.{slice_get_within}
+use Rattle.tl_map_county.specs.Segments.{segments_before}
+use Rattle.tl_check_planar.specs.Searching.{MayTell}
+use Rattle.tl_check_planar.proofs.Meetings.{true_meet}
+use Rattle.tl_check_sweep.proofs.suspects.meet_in_order.Goals as goal
+
+pub returns : goal.returns
+returns c =
+    let below = c.if-s-t.false in
+    let listed = c.if-t-segments.false in
+    let count = c.segments.ensures.count in
+    true_meet c.args.map.now.chains c.new.result
+    (record { tlid = c.chain.result.tlid; s = c.args.s; other = c.chain-2.result.tlid; t = c.args.t; at = c.in_ok-at.at }) c.new.ensures
+    (record {
+      ordered = omega (arith, below);
+      known = subst (λ cs. c.args.t < segments_before cs (length cs)) (sym c.new.ensures) (omega (arith, listed, count));
+      told = subst (MayTell c.new.result c.args.s c.args.t) c.in_ok-at.was c.conflict.ensures;
+    })
+    (record { c = c.segment_chain.result; k = c.segment_chain.ensures.0; number = c.segment_chain.ensures.1; chain = c.chain.ensures.chain.chain; is = c.chain.ensures.chain.is; tlid_is = c.chain.ensures.chain.tlid_is })
+    (record { c = c.segment_chain-2.result; k = c.segment_chain-2.ensures.0; number = c.segment_chain-2.ensures.1; chain = c.chain-2.ensures.chain.chain; is = c.chain-2.ensures.chain.is; tlid_is = c.chain-2.ensures.chain.tlid_is })
+
+pub returns-then-s-t : goal.returns-then-s-t
+returns-then-s-t c = tt
+
+pub conflict-requires-clause-ordered : goal.conflict-requires-clause-ordered
+conflict-requires-clause-ordered c = c.if-s-t.false
+
+pub conflict-requires-clause-known : goal.conflict-requires-clause-known
+conflict-requires-clause-known c = let listed = c.if-t-segments.false in let count = c.segments.ensures.count in subst (λ cs. c.args.t < segments_before cs (length cs)) (sym c.new.ensures) (omega (arith, listed, count))
+
+pub segment_chain-requires : goal.segment_chain-requires
+segment_chain-requires c = let below = c.if-s-t.false in let listed = c.if-t-segments.false in let count = c.segments.ensures.count in omega (arith, below, listed, count)
+
+pub segment_chain-requires-2 : goal.segment_chain-requires-2
+segment_chain-requires-2 c = let listed = c.if-t-segments.false in let count = c.segments.ensures.count in omega (arith, listed, count)
+
+pub chain-requires : goal.chain-requires
+chain-requires c = slice_get_within c.args.map.now.chains c.segment_chain.result c.segment_chain.ensures.1.chain c.segment_chain.ensures.1.is
+
+pub chain-requires-2 : goal.chain-requires-2
+chain-requires-2 c = slice_get_within c.args.map.now.chains c.segment_chain-2.result c.segment_chain-2.ensures.1.chain c.segment_chain-2.ensures.1.is

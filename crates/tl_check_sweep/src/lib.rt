@@ -1,0 +1,32 @@
+//! How one sweep from south to north decides that chains are planar, and tells of gaps whose facing sides differ.
+//!
+//! The sweep keeps a list of the segments that are active at the height that it has reached, from west to east, and tests
+//! each two that are neighbours for the first time (`tl_check_active`). Neither the order of the list nor the way in which a place in it
+//! was found is trusted: `tl_check_heights` says what follows from the tests alone. So [`sweep`] answers [`Swept::Planar`] only where the
+//! chains are planar. Where a test fails it names two segments that meet where they may not, or says nothing of the map. A point
+//! between two neighbours lies in the polygon that the side of its eastern neighbour names, as [`laws`] say.
+//!
+//! Of the gaps between two neighbours whose facing sides differ ([`tl_check_faces::OddGap`]) it tells the first or all, as it is asked
+//! ([`Gaps`]): `specs/Gaps` says which list is of all. It counts the places along the list where sides differ. Only where there are such
+//! does it look, at each vertex, at the gaps before, between and behind the segments that begin there: each other gap of the new list
+//! stood in the list before. What lists slabs one by one asks [`push_about`], [`flanks_of`] and [`lowest_of_each`] too.
+#![tactic(auto)]
+
+mod answer;
+mod facing;
+mod kept;
+pub mod laws;
+mod meets;
+mod passing;
+mod placing;
+mod spots;
+mod suspects;
+mod sweeping;
+mod telling;
+mod watch;
+
+pub use answer::{SweepReport, Swept, sweep};
+pub use facing::flanks_of;
+pub use kept::lowest_of_each;
+pub use telling::push_about;
+pub use watch::Gaps;

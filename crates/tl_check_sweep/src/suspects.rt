@@ -1,0 +1,97 @@
+//! Segments that may meet where they may not, of which it is asked where a test failed.
+ghost use Rattle.std.specs.Prelude.{IfSome, IsTrue};
+ghost use Rattle.tl_check_planar.specs.Searching.{IsTrueMeet};
+
+use crate::meets::{are_in_order, last_of};
+use std::alloc::AllocError;
+use tl_check_active::{Events, Line};
+use tl_check_planar::{Meet, Segments};
+use tl_map_county::Map;
+use tl_tree_index::Items;
+
+/// The meet of two segments, if they meet where they may not and the first has the lower number.
+fn meet_in_order(map: &Map, s: u32, t: u32) -> Option<Meet>
+    ensures { IfSome result (IsTrueMeet map.now.chains) }
+{
+    if s >= t || t >= map.segments() {
+        return None;
+    }
+    let at = Segments::new(map).conflict(s, t)?;
+    Some(Meet {
+        tlid: map.chain(map.segment_chain(s)).tlid,
+        s,
+        other: map.chain(map.segment_chain(t)).tlid,
+        t,
+        at,
+    })
+}
+
+/// The meet of two segments, if they meet where they may not.
+fn meet_of(map: &Map, s: u32, t: u32) -> Option<Meet>
+    ensures { IfSome result (IsTrueMeet map.now.chains) }
+{
+    if s < t {
+        meet_in_order(map, s, t)
+    } else {
+        meet_in_order(map, t, s)
+    }
+}
+
+/// A meet of the segment at a place of a list with the first one, the second one or the next one of the list, if there is one.
+fn find_beside(map: &Map, suspects: &[u32], place: usize) -> Option<Meet>
+    ensures { IfSome result (IsTrueMeet map.now.chains) }
+{
+    let s = *suspects.get(place)?;
+    for other in [0, 1, place.saturating_add(1)] {
+        if let Some(t) = suspects.get(other) {
+            if let Some(meet) = meet_of(map, s, *t) {
+                return Some(meet);
+            }
+        }
+    }
+    None
+}
+
+/// A meet of two of these segments, where there is one of the first, of the second or of two that follow one another.
+pub fn find_meet(map: &Map, suspects: &[u32]) -> Option<Meet>
+    ensures { IfSome result (IsTrueMeet map.now.chains) }
+{
+    for place in 0..suspects.len() {
+        if let Some(meet) = find_beside(map, suspects, place) {
+            return Some(meet);
+        }
+    }
+    None
+}
+
+/// A meet of two segments with ends at one point that may not meet there, if there are such.
+pub fn find_meet_at_vertex(map: &Map, events: &Events) -> Option<Meet>
+    ensures { IfSome result (IsTrueMeet map.now.chains) }
+{
+    for k in 1..events.len() {
+        let (event, next) = events.at(k - 1);
+        let (e, f) = (last_of(event, next), events.at(k).0);
+        if !are_in_order(map, e, f) {
+            if let Some(meet) = meet_of(map, e.segment, f.segment) {
+                return Some(meet);
+            }
+        }
+    }
+    None
+}
+
+/// Lists what stands before and behind the place, and the segments that end or begin there.
+pub fn list_suspects(
+    line: &Line,
+    outs: &[u32],
+    ins: &[u32],
+    suspects: &mut Vec<u32>,
+) -> Result<(), AllocError> {
+    for s in [line.previous(), line.next()] {
+        if let Some(s) = s {
+            suspects.push(s)?;
+        }
+    }
+    suspects.extend_from_slice(outs)?;
+    suspects.extend_from_slice(ins)
+}

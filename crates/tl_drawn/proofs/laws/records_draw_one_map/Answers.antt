@@ -1,5 +1,0 @@
-use Rattle.tl_drawn.proofs.OneMapLemmas.{one_map}
-use Rattle.tl_drawn.proofs.laws.records_draw_one_map.Goals as goal
-
-pub returns : goal.returns
-returns c = one_map

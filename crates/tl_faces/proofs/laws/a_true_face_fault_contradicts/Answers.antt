@@ -1,5 +1,0 @@
-use Rattle.tl_faces.proofs.Contradicts.{denied}
-use Rattle.tl_faces.proofs.laws.a_true_face_fault_contradicts.Goals as goal
-
-pub returns : goal.returns
-returns c = denied

@@ -1,8 +1,0 @@
-use Rattle.tl_faces.proofs.Neighbours.{face_contradicts, outward_contradicts}
-use Rattle.tl_faces.proofs.laws.disagreements_contradict.Goals as goal
-
-pub returns-clause-face : goal.returns-clause-face
-returns-clause-face c = λ chains one other d. face_contradicts chains one other d
-
-pub returns-clause-outward : goal.returns-clause-outward
-returns-clause-outward c = λ chains one x y d. outward_contradicts chains one x y d

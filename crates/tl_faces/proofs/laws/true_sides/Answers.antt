@@ -1,6 +1,0 @@
-use Rattle.tl_faces.proofs.Along.{by_faces}
-use Rattle.tl_faces.proofs.TrueSides.{true_sides}
-use Rattle.tl_faces.proofs.laws.true_sides.Goals as goal
-
-pub returns : goal.returns
-returns c = λ chains planar agree. true_sides chains planar (by_faces chains planar agree)

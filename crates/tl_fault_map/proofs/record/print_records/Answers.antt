@@ -1,7 +1,0 @@
-use Rattle.tl_fault_map.specs.Records.{records_text}
-use Rattle.tl_output.proofs.PrinterLemmas.{both}
-use Rattle.tl_fault_map.proofs.record.print_records.Goals as goal
-
-pub returns : goal.returns
-unfolding records_text
-returns g c = both (both c.add.ensures c.print_both.ensures) c.add-2.ensures

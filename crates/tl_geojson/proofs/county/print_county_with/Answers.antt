@@ -1,8 +1,0 @@
-use Rattle.tl_geojson.specs.Rings.{county_text_with}
-use Rattle.tl_output.proofs.PrinterLemmas.{both, ends_text}
-use Rattle.tl_geojson.proofs.county.print_county_with.Goals as goal
-
-pub returns : goal.returns
-unfolding county_text_with
-returns g c =
-    ends_text c.finish.result c.new-printer.ensures (both (both c.print_front.ensures c.print_boundaries.ensures) c.add.ensures) c.finish.ensures.prints c.finish.ensures.stop

@@ -1,9 +1,0 @@
-use Rattle.std.proofs.Common.{length}
-use Rattle.tl_output.specs.Printing.{Prints}
-use Rattle.tl_geojson.specs.Features.{features_below, polygon_feature}
-use Rattle.tl_geojson.proofs.polygons.print_polygons.Given as goal
-
-abbrev pub invariant-loop-number : goal.invariant-loop-number
-invariant-loop-number g l =
-    Prints g.S.Sink.contents g.S.Sink.failure_count (l.initial.out, l.initial.printer) (l.out, l.printer)
-    (features_below (length l.map.chains) (polygon_feature l.map) l.number)

@@ -1,7 +1,0 @@
-use Rattle.tl_geojson.specs.Strings.{string_text}
-use Rattle.tl_output.proofs.PrinterLemmas.{both}
-use Rattle.tl_geojson.proofs.strings.print_string.Goals as goal
-
-pub returns : goal.returns
-unfolding string_text
-returns g c = both (both c.add.ensures c.print_escaped.ensures) c.add-2.ensures

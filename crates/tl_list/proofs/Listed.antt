@@ -1,0 +1,135 @@
+-- What a listing says of the records of its text.
+use Rattle.std.proofs.Common.{◌≡◌, ◌≢◌, ◌↔◌, ℕ, inl, inr, Bool, List, [], None}
+use Rattle.std.proofs.Common.{subst, ◌∙◌}
+use Rattle.std.specs.List.{All, Contains}
+use Rattle.std.proofs.lemmas.List.Elements.{All-map}
+use Rattle.tl_record.specs.declared.layout.Layout.{Layout}
+use Rattle.tl_record.specs.declared.options.Options.{Options}
+use Rattle.tl_record.specs.Layout.{layout_with}
+use Rattle.tl_record.specs.declared.stop.Cause.{Cause}
+use Rattle.tl_record.specs.Records.{Records, records_of}
+use Rattle.tl_record.specs.Refusals.{refusals_of}
+use Rattle.tl_record.specs.Searching.{pair_of}
+use Rattle.tl_map_rules.specs.Faults.{IsTrueOf}
+use Rattle.tl_map_rules.specs.Reading.{records_in}
+use Rattle.tl_map_county.specs.TheMap.{TheMap}
+use Rattle.tl_check_verdict.specs.declared.fault.MapFault.{MapFault}
+use Rattle.tl_check_verdict.specs.declared.fault.MapFault.TheVariants as fault
+use Rattle.tl_check_verdict.specs.Sound.{IsSoundFor}
+use Rattle.tl_check_verdict.specs.Truth.{IsTrueOfMap}
+use Rattle.tl_check_verdict.specs.Verdicts.{IsReport}
+use Rattle.tl_check_verdict.specs.Records.{HaveMap, IsTrueOfRecords}
+use Rattle.tl_check_verdict.proofs.OneMap.{both, weaker}
+use Rattle.tl_check_verdict.proofs.Deciding.{not_sound_records}
+use Rattle.tl_list_text.specs.declared.listing.Listing.{Listing}
+use Rattle.tl_list_text.specs.declared.listing.Listing.TheVariants.{Sound, Refused, Faults}
+use Rattle.tl_list_text.specs.MapFaults.{AreFaultsFor}
+use Rattle.tl_list_text.specs.Listings.{AreRecordFaults, AreFaults, IsListingOf}
+use Rattle.tl_list.specs.Telling.{IsTold, Tells, SaysSound, EachFault}
+use Rattle.tl_list.proofs.Emptiness.{map_empty}
+use Rattle.tl_list.proofs.Lists.{held_map, some_first, none_first}
+use Rattle.tl_list.proofs.Truth.{each_is_true_for}
+use Rattle.tl_list.proofs.Told.{told_for}
+use Rattle.tl_list.proofs.Assembling.{first_is}
+
+pub held_so : {X : Type 0} (P : X → Type 0) (xs : List X) (x : X) → All P xs → Contains xs x → P x
+held_so P xs x each held = subst P held.2 (each held.0 x held.1)
+
+-- ---- what is told is true
+
+map_fault_true : (faces : Bool) (all : Records) (f : MapFault) → HaveMap all (λ m. IsTrueOfMap faces m f) → IsTrueOfRecords faces all f
+map_fault_true faces all (fault.Records f) have = absurd have.so
+map_fault_true faces all (fault.Meet meet) have = have
+map_fault_true faces all (fault.Side node first next) have = have
+map_fault_true faces all (fault.PolygonPoint misplaced) have = have
+map_fault_true faces all (fault.Cell odds) have = have
+map_fault_true faces all (fault.Face f) have = have
+
+faults_true : (faces : Bool) (all : Records) (faults : List MapFault) (points_left : Bool) → all.refusal ≡ None → AreFaults faces all faults points_left
+    → All (IsTrueOfRecords faces all) faults
+faults_true faces all faults points_left unrefused (inl of_records) =
+    rw of_records.0.are (All-map (IsTrueOfRecords faces all) fault.Records of_records.0.told (λ k d lt. (unrefused, of_records.0.are_all.each k d lt)))
+faults_true faces all faults points_left unrefused (inr have) = λ k d lt.
+    map_fault_true faces all _
+    (record { map = have.map; is_read = have.is_read; so = each_is_true_for faces have.map faults points_left have.so k d lt })
+
+pub each_true : (options : Options) (text : List ℕ) (listing : Listing) → IsListingOf options text listing → EachFault listing
+    (IsTrueOfRecords options.faces (records_of (layout_with options) text))
+each_true options text (Sound report) is = tt
+each_true options text (Refused list) is = tt
+each_true options text (Faults faults points_left) is =
+    faults_true options.faces (records_of (layout_with options) text) faults.items points_left is.1 is.2
+
+-- ---- sound maps
+
+pub none_is_refused : (layout : Layout) (text : List ℕ) (listed : List (ℕ × Cause)) → listed ≡ refusals_of layout text →
+    (records_of layout text).refusal ≡ None → listed ≡ []
+none_is_refused layout text listed is unrefused = is ∙ none_first _ (first_is layout text ∙ unrefused)
+
+pub sound_alone : (options : Options) (text : List ℕ) (listing : Listing) → IsListingOf options text listing
+    → SaysSound listing ↔ HaveMap (records_of (layout_with options) text) (IsSoundFor options.faces)
+sound_alone options text (Sound report) is =
+    (λ said. weaker (records_of (layout_with options) text) (λ m. IsSoundFor options.faces m × IsReport m report) (IsSoundFor options.faces) (λ m so. so.0) is, λ have. tt)
+sound_alone options text (Refused list) is = (
+  λ said. absurd said,
+  λ have. absurd (is.0 (map_empty pair_of list.items (none_is_refused (layout_with options) text _ is.1 have.is_read.no_refusal))),
+)
+sound_alone options text (Faults faults points_left) is = (
+  λ said. absurd said,
+  λ have.
+      let all = records_of (layout_with options) text in
+      let some = some_first faults.items is.0 in
+      absurd (not_sound_records options.faces all some.0
+      (held_so (IsTrueOfRecords options.faces all) faults.items some.0 (faults_true options.faces all faults.items points_left is.1 is.2) some.1) have),
+)
+
+-- ---- what is true is told
+
+unrefused_where_true : (faces : Bool) (all : Records) (f : MapFault) → IsTrueOfRecords faces all f → all.refusal ≡ None
+unrefused_where_true faces all (fault.Records f) true_one = true_one.0
+unrefused_where_true faces all (fault.Meet meet) true_one = true_one.is_read.no_refusal
+unrefused_where_true faces all (fault.Side node first next) true_one = true_one.is_read.no_refusal
+unrefused_where_true faces all (fault.PolygonPoint misplaced) true_one = true_one.is_read.no_refusal
+unrefused_where_true faces all (fault.Cell odds) true_one = true_one.is_read.no_refusal
+unrefused_where_true faces all (fault.Face f) true_one = true_one.is_read.no_refusal
+
+module _ (faces : Bool) (all : Records) (faults : List MapFault) (points_left : Bool) where
+  -- records that have a map have no fault
+  pub no_map : (P : TheMap → Type 0) → faults ≢ [] → AreRecordFaults all faults → ¬ HaveMap all P
+  no_map P some of_records have =
+      let first = some_first of_records.told (λ none. some (rw none at of_records.are)) in
+      have.is_read.no_fault first.0 (held_so (IsTrueOf (records_in all)) of_records.told first.0 of_records.are_all.each first.1)
+
+  map_told : (f : MapFault) → faults ≢ [] → HaveMap all (λ m. AreFaultsFor faces m faults points_left) → HaveMap all (λ m. IsTrueOfMap faces m f)
+      → IsTold faults points_left f
+  map_told f some have true_one =
+      let one = both all (λ m. AreFaultsFor faces m faults points_left) (λ m. IsTrueOfMap faces m f) have true_one in
+      told_for faces one.map faults points_left some one.so.0 f one.so.1
+
+  fault_told : (f : MapFault) → faults ≢ [] → AreFaults faces all faults points_left → IsTrueOfRecords faces all f → IsTold faults points_left f
+  fault_told (fault.Records f) some (inl of_records) true_one =
+      rw of_records.0.are (held_map fault.Records of_records.0.told f (of_records.0.are_all.every f true_one.1))
+  fault_told (fault.Records f) some (inr have) true_one = absurd (have.is_read.no_fault f true_one.1)
+  fault_told (fault.Meet meet) some (inl of_records) true_one = absurd (no_map _ some of_records.0 true_one)
+  fault_told (fault.Meet meet) some (inr have) true_one = map_told (fault.Meet meet) some have true_one
+  fault_told (fault.Side node first next) some (inl of_records) true_one = absurd (no_map _ some of_records.0 true_one)
+  fault_told (fault.Side node first next) some (inr have) true_one = map_told (fault.Side node first next) some have true_one
+  fault_told (fault.PolygonPoint misplaced) some (inl of_records) true_one = absurd (no_map _ some of_records.0 true_one)
+  fault_told (fault.PolygonPoint misplaced) some (inr have) true_one = map_told (fault.PolygonPoint misplaced) some have true_one
+  fault_told (fault.Cell odds) some (inl of_records) true_one = absurd (no_map _ some of_records.0 true_one)
+  fault_told (fault.Cell odds) some (inr have) true_one = map_told (fault.Cell odds) some have true_one
+  fault_told (fault.Face f) some (inl of_records) true_one = absurd (no_map _ some of_records.0 true_one)
+  fault_told (fault.Face f) some (inr have) true_one = map_told (fault.Face f) some have true_one
+
+pub each_told : (options : Options) (text : List ℕ) (listing : Listing) (f : MapFault) → IsListingOf options text listing
+    → IsTrueOfRecords options.faces (records_of (layout_with options) text) f → Tells listing f
+each_told options text (Sound report) f is true_one =
+    let all = records_of (layout_with options) text in
+    absurd (not_sound_records options.faces all f true_one
+    (weaker all (λ m. IsSoundFor options.faces m × IsReport m report) (IsSoundFor options.faces) (λ m so. so.0) is))
+each_told options text (Refused list) f is true_one =
+    let all = records_of (layout_with options) text in
+    absurd (is.0 (map_empty pair_of list.items
+    (none_is_refused (layout_with options) text _ is.1 (unrefused_where_true options.faces all f true_one))))
+each_told options text (Faults faults points_left) f is true_one =
+    fault_told options.faces (records_of (layout_with options) text) faults.items points_left f is.0 is.2 true_one

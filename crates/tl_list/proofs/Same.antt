@@ -1,0 +1,302 @@
+-- A text has one listing, but for the points at which segments meet.
+use Rattle.std.proofs.Common.{◌≡◌, ◌≢◌, inl, inr, ℕ, suc, ◌≤ℤ◌, Bool, true, false, List, [], ◌∷◌, ◌++◌, map}
+use Rattle.std.proofs.Common.{refl, sym, ap, ap₂, subst, ◌∙◌, arith}
+use Rattle.std.specs.List.{All, Any, Contains}
+use Rattle.std.proofs.lemmas.List.Elements.{All-contains}
+use Rattle.std.proofs.lemmas.Int.{ints}
+use Rattle.tl_record.specs.declared.options.Options.{Options}
+use Rattle.tl_record.specs.Layout.{layout_with}
+use Rattle.tl_record.specs.declared.stop.Cause.{Cause}
+use Rattle.tl_record.specs.declared.refusal.Refusal.{Refusal}
+use Rattle.tl_record.specs.Records.{Records, records_of}
+use Rattle.tl_record.specs.Searching.{pair_of}
+use Rattle.tl_map_rules.specs.Reading.{records_in}
+use Rattle.tl_list_records.proofs.OneListLemmas.{one_list}
+use Rattle.tl_map_county.specs.TheMap.{TheMap}
+use Rattle.tl_check_planar.specs.declared.meet.Meet.{Meet}
+use Rattle.tl_check_planar.specs.Searching.{IsTrueMeet}
+use Rattle.tl_check_sides.specs.declared.fault.Disagreement.{Disagreement}
+use Rattle.tl_check_cells.specs.declared.at_odds.CellsAtOdds.{CellsAtOdds}
+use Rattle.tl_check_cells.proofs.Cells.{one_id}
+use Rattle.tl_check_inside.specs.declared.misplaced.Misplaced.{Misplaced}
+use Rattle.tl_check_meets.specs.Meets.{AreAllMeets}
+use Rattle.tl_list_sides.specs.Disagreements.{HaveSidesAtOdds, AreAllDisagreements}
+use Rattle.tl_list_sides.specs.CellOdds.{AreToldAtOdds, AreAllCellsAtOdds}
+use Rattle.tl_list_sides.proofs.Agreeing.{at_odds}
+use Rattle.tl_list_points.specs.AllMisplaced.{AreAllMisplaced}
+use Rattle.tl_check_verdict.specs.declared.fault.MapFault.{MapFault}
+use Rattle.tl_check_verdict.specs.declared.fault.MapFault.TheVariants as fault
+use Rattle.tl_check_verdict.specs.declared.verdict.Report.{Report}
+use Rattle.tl_check_verdict.specs.Sound.{IsSoundFor}
+use Rattle.tl_check_verdict.specs.Verdicts.{IsReport}
+use Rattle.tl_check_verdict.specs.Records.{HaveMap}
+use Rattle.tl_check_verdict.proofs.OneMap.{both}
+use Rattle.tl_list_text.specs.declared.listing.Listing.{Listing}
+use Rattle.tl_list_text.specs.declared.listing.Listing.TheVariants.{Sound, Refused, Faults}
+use Rattle.tl_list_text.specs.MapFaults.{side_fault, ArePointsTold, AreMapFaults, AreFaceFaults, AreFaultsFor}
+use Rattle.tl_list_text.specs.Listings.{AreFaults, IsListingOf}
+use Rattle.tl_list.specs.Alike.{IsSameFault, AreSameFaults, HaveSameNumbers, AreAlike}
+use Rattle.tl_list.proofs.OneOrder.{AreOne, AreInOne, one_order}
+use Rattle.tl_list.proofs.Listed.{none_is_refused, sound_alone, no_map}
+use Rattle.tl_list.proofs.Emptiness.{map_empty}
+use Rattle.tl_list.proofs.Told.{unsound}
+use Rattle.tl_check_heights.specs.Heights.{height, widest}
+use Rattle.tl_check_faces.specs.declared.odd.OddGap.{OddGap}
+use Rattle.tl_check_faces.specs.declared.fault.FaceFault.{FaceFault}
+use Rattle.tl_check_faces.specs.Odd.{IsOddGap, IsLowestOddGap}
+use Rattle.tl_check_faces.specs.Faults.{IsOfGap}
+use Rattle.tl_check_sweep.specs.Gaps.{order_of, AreAllOddGaps}
+use Rattle.tl_check_sweep.proofs.Keeping.{one_by_order}
+use Rattle.tl_check_sweep.proofs.Lowest.{at_odds as odd_sides, all_lowest}
+use Rattle.tl_check_face_search.proofs.Exact.{one_fault}
+use Rattle.std.specs.List.{AllZip}
+
+-- ---- lists of the same faults
+
+itself : (f : MapFault) → IsSameFault f f
+itself (fault.Records f) = refl
+itself (fault.Meet meet) = (refl, refl)
+itself (fault.Side node first next) = refl
+itself (fault.PolygonPoint misplaced) = refl
+itself (fault.Cell odds) = refl
+itself (fault.Face f) = refl
+
+themselves : (faults : List MapFault) → AreSameFaults faults faults
+themselves [] = tt
+themselves (f ∷ faults) = (itself f, themselves faults)
+
+one_list_same : (a b : List MapFault) → a ≡ b → AreSameFaults a b
+one_list_same a b same = subst (AreSameFaults a) same (themselves a)
+
+joined : (a b c d : List MapFault) → AreSameFaults a b → AreSameFaults c d → AreSameFaults (a ++ c) (b ++ d)
+joined [] [] c d one other = other
+joined [] (g ∷ b) c d one other = absurd one
+joined (f ∷ a) [] c d one other = absurd one
+joined (f ∷ a) (g ∷ b) c d one other = (one.0, joined a b c d one.1 other)
+
+-- what is told of things with the same pairs of numbers
+told_same : {X : Type 0} (first second : X → ℕ) (f : X → MapFault) (P : X → Type 0) →
+    ((x y : X) → P x → P y → AreOne first second x y → IsSameFault (f x) (f y)) → (xs ys : List X) → All P xs → All P ys
+    → AreInOne first second xs ys → AreSameFaults (map f xs) (map f ys)
+told_same first second f P leads [] [] each other one = tt
+told_same first second f P leads [] (y ∷ ys) each other one = absurd one
+told_same first second f P leads (x ∷ xs) [] each other one = absurd one
+told_same first second f P leads (x ∷ xs) (y ∷ ys) each other one = (
+  leads x y (each 0 x (omega arith)) (other 0 y (omega arith)) one.0,
+  told_same first second f P leads xs ys (λ k d lt. each (suc k) d (omega (arith, lt))) (λ k d lt. other (suc k) d (omega (arith, lt))) one.1,
+)
+
+turned_any : {X : Type 0} (first second : X → ℕ) (x : X) (ys : List X) → Any (λ y. (first y ≡ first x) × (second y ≡ second x)) ys → Any
+    (AreOne first second x) ys
+turned_any first second x ys named = (named.0, named.1, named.2, named.3, record { first_is = sym named.4.0; second_is = sym named.4.1 })
+
+module _ (m : TheMap) where
+  meets_in_one : (a b : List Meet) → AreAllMeets m.chains a → AreAllMeets m.chains b → AreInOne (λ x. x.s) (λ x. x.t) a b
+  meets_in_one a b all others = one_order (λ x. x.s) (λ x. x.t) a b all.rising others.rising (named a b all others) (named b a others all)
+    where
+      named : (a b : List Meet) → AreAllMeets m.chains a → AreAllMeets m.chains b → (x : Meet) → Contains a x → Any
+          (AreOne (λ y. y.s) (λ y. y.t) x) b
+      named a b all others x held =
+          let true_one : IsTrueMeet m.chains x = All-contains (IsTrueMeet m.chains) a x all.true_ones held in
+          turned_any (λ y. y.s) (λ y. y.t) x b (others.complete x.s x.t x.at true_one.ordered true_one.told.meet)
+
+  sides_in_one : (a b : List Disagreement) → AreAllDisagreements m.chains a → AreAllDisagreements m.chains b → AreInOne (λ x. x.first) (λ x. x.next) a b
+  sides_in_one a b all others = one_order (λ x. x.first) (λ x. x.next) a b all.rising others.rising (named a b all others) (named b a others all)
+    where
+      named : (a b : List Disagreement) → AreAllDisagreements m.chains a → AreAllDisagreements m.chains b → (x : Disagreement) → Contains a x
+          → Any (AreOne (λ y. y.first) (λ y. y.next) x) b
+      named a b all others x held =
+          turned_any (λ y. y.first) (λ y. y.next) x b
+          (others.complete x.first x.next (All-contains (λ (d : Disagreement). HaveSidesAtOdds m.chains d.first d.next) a x all.true_ones held))
+
+  cells_in_one : (a b : List CellsAtOdds) → AreAllCellsAtOdds m.chains a → AreAllCellsAtOdds m.chains b → AreInOne (λ x. x.first) (λ x. x.second) a b
+  cells_in_one a b all others = one_order (λ x. x.first) (λ x. x.second) a b all.rising others.rising (named a b all others) (named b a others all)
+    where
+      named : (a b : List CellsAtOdds) → AreAllCellsAtOdds m.chains a → AreAllCellsAtOdds m.chains b → (x : CellsAtOdds) → Contains a x
+          → Any (AreOne (λ y. y.first) (λ y. y.second) x) b
+      named a b all others x held =
+          turned_any (λ y. y.first) (λ y. y.second) x b
+          (others.complete x.first x.second x.first_id x.second_id
+          (All-contains (λ (o : CellsAtOdds). AreToldAtOdds m.chains o.first o.second o.first_id o.second_id) a x all.true_ones held))
+
+  same_meets : (a b : List Meet) → AreAllMeets m.chains a → AreAllMeets m.chains b → AreSameFaults (map fault.Meet a) (map fault.Meet b)
+  same_meets a b all others =
+      told_same (λ x. x.s) (λ x. x.t) fault.Meet (IsTrueMeet m.chains)
+      (λ x y p q one. (sym one.first_is, sym one.second_is)) a b all.true_ones others.true_ones (meets_in_one a b all others)
+
+  one_side : (x y : Disagreement) → AreOne (λ z. z.first) (λ z. z.next) x y → IsSameFault (side_fault m.chains x) (side_fault m.chains y)
+  one_side x y one = rw (one.first_is, one.second_is) refl
+
+  same_sides : (a b : List Disagreement) → AreAllDisagreements m.chains a → AreAllDisagreements m.chains b → AreSameFaults
+      (map (side_fault m.chains) a) (map (side_fault m.chains) b)
+  same_sides a b all others =
+      told_same (λ x. x.first) (λ x. x.next) (side_fault m.chains) (λ (d : Disagreement). HaveSidesAtOdds m.chains d.first d.next)
+      (λ x y p q one. one_side x y one) a b all.true_ones others.true_ones (sides_in_one a b all others)
+
+  one_cell : (x y : CellsAtOdds) → AreToldAtOdds m.chains x.first x.second x.first_id x.second_id
+      → AreToldAtOdds m.chains y.first y.second y.first_id y.second_id
+      → AreOne (λ z. z.first) (λ z. z.second) x y → IsSameFault (fault.Cell x) (fault.Cell y)
+  one_cell x y told other one =
+      let p = at_odds m.chains x.first x.second x.first_id x.second_id told in
+      let q = at_odds m.chains y.first y.second y.first_id y.second_id other in
+      let a : x.first_id ≡ y.first_id = one_id m.chains x.first x.first_id y.first_id p.a_has (rw one.first_is q.a_has) in
+      let b : x.second_id ≡ y.second_id = one_id m.chains x.second x.second_id y.second_id p.b_has (rw one.second_is q.b_has) in
+      λ i. fault.Cell (record { first = one.first_is i; second = one.second_is i; first_id = a i; second_id = b i })
+
+  same_cells : (a b : List CellsAtOdds) → AreAllCellsAtOdds m.chains a → AreAllCellsAtOdds m.chains b → AreSameFaults (map fault.Cell a)
+      (map fault.Cell b)
+  same_cells a b all others =
+      told_same (λ x. x.first) (λ x. x.second) fault.Cell
+      (λ (o : CellsAtOdds). AreToldAtOdds m.chains o.first o.second o.first_id o.second_id) one_cell a b all.true_ones others.true_ones
+      (cells_in_one a b all others)
+
+  -- points are left in both or in neither, and there one list tells them
+  module _ (one_points : (a b : List Misplaced) → AreAllMisplaced m a → AreAllMisplaced m b → a ≡ b) where
+    same_points : (s t : List Disagreement) (l r : Bool) (a b : List Misplaced) → AreInOne (λ x. x.first) (λ x. x.next) s t
+        → ArePointsTold m s l a → ArePointsTold m t r b → (a ≡ b) × (l ≡ r)
+    same_points s t true true a b one told other = (told.1 ∙ sym other.1, refl)
+    same_points s t false false a b one told other = (one_points a b told.1 other.1, refl)
+    same_points [] [] true false a b one told other = absurd (told.0 refl)
+    same_points [] [] false true a b one told other = absurd (other.0 refl)
+    same_points [] (y ∷ t) l r a b one told other = absurd one
+    same_points (x ∷ s) [] l r a b one told other = absurd one
+    same_points (x ∷ s) (y ∷ t) true false a b one told other = absurd (let wrong = other.0 in cc)
+    same_points (x ∷ s) (y ∷ t) false true a b one told other = absurd (let wrong = told.0 in cc)
+
+    same_of_map : (f g : List MapFault) (l r : Bool) → AreMapFaults m f l → AreMapFaults m g r → AreSameFaults f g × (l ≡ r)
+    same_of_map f g l r a b =
+        let points = same_points a.sides b.sides l r a.points b.points (sides_in_one a.sides b.sides a.all_sides b.all_sides) a.all_points b.all_points in
+        let told : AreSameFaults
+        (map fault.Meet a.meets ++ map (side_fault m.chains) a.sides ++ map fault.Cell a.cells ++ map fault.PolygonPoint a.points)
+        (map fault.Meet b.meets ++ map (side_fault m.chains) b.sides ++ map fault.Cell b.cells ++ map fault.PolygonPoint b.points) =
+        joined (map fault.Meet a.meets ++ map (side_fault m.chains) a.sides ++ map fault.Cell a.cells)
+        (map fault.Meet b.meets ++ map (side_fault m.chains) b.sides ++ map fault.Cell b.cells) _ _
+        (joined (map fault.Meet a.meets ++ map (side_fault m.chains) a.sides) (map fault.Meet b.meets ++ map (side_fault m.chains) b.sides) _ _
+        (joined (map fault.Meet a.meets) (map fault.Meet b.meets) _ _ (same_meets a.meets b.meets a.all_meets b.all_meets)
+        (same_sides a.sides b.sides a.all_sides b.all_sides))
+        (same_cells a.cells b.cells a.all_cells b.all_cells))
+        (one_list_same _ _ (ap (map fault.PolygonPoint) points.0))
+        in
+        (rw (a.are, b.are) told, points.1)
+
+-- ---- lists of faces that disagree
+
+module _ (m : TheMap) where
+  gaps_in_one : (a b : List OddGap) → AreAllOddGaps widest m.chains a → AreAllOddGaps widest m.chains b
+      → AreInOne (λ g. order_of g.west) (λ g. order_of g.east) a b
+  gaps_in_one a b all others =
+      one_order (λ g. order_of g.west) (λ g. order_of g.east) a b all.in_order others.in_order (named a b all others) (named b a others all)
+    where
+      named : (a b : List OddGap) → AreAllOddGaps widest m.chains a → AreAllOddGaps widest m.chains b → (x : OddGap) → Contains a x
+          → Any (AreOne (λ g. order_of g.west) (λ g. order_of g.east) x) b
+      named a b all others x held =
+          let odd : IsOddGap widest m.chains x = All-contains (IsOddGap widest m.chains) a x all.true_ones held in
+          let found = others.complete (height widest x.at) odd.front odd.back odd.listed (odd_sides widest m.chains x odd) in (
+            found.0,
+            found.1,
+            found.2,
+            found.3,
+            record {
+              first_is = ap order_of odd.is_west ∙ ap order_of (sym found.4.0);
+              second_is = ap order_of odd.is_east ∙ ap order_of (sym found.4.1);
+            },
+          )
+
+  -- of the same two segments there is one lowest gap, and of that one fault
+  one_gap : (x y : OddGap) (f g : FaceFault) → IsLowestOddGap widest m.chains x → IsLowestOddGap widest m.chains y
+      → AreOne (λ g. order_of g.west) (λ g. order_of g.east) x y → IsOfGap widest m x f → IsOfGap widest m y g → f ≡ g
+  one_gap x y f g low low' one of of' =
+      let west : x.west ≡ y.west = one_by_order x.west y.west one.first_is in
+      let east : x.east ≡ y.east = one_by_order x.east y.east one.second_is in
+      let up : height widest x.at ≤ℤ height widest y.at = low.lowest y low'.is (sym west) (sym east) in
+      let down : height widest y.at ≤ℤ height widest x.at = low'.lowest x low.is west east in
+      one_fault m x y f g (omega (arith, ints, up, down)) west east of of'
+
+  one_each : (xs ys : List OddGap) (f g : List FaceFault) → All (IsLowestOddGap widest m.chains) xs → All (IsLowestOddGap widest m.chains) ys
+      → AreInOne (λ g. order_of g.west) (λ g. order_of g.east) xs ys → AllZip (IsOfGap widest m) xs f → AllZip (IsOfGap widest m) ys g → f ≡ g
+  one_each [] [] [] [] low low' one each other = refl
+  one_each [] [] [] (y ∷ g) low low' one each other = absurd other
+  one_each [] [] (x ∷ f) g low low' one each other = absurd each
+  one_each [] (y ∷ ys) f g low low' one each other = absurd one
+  one_each (x ∷ xs) [] f g low low' one each other = absurd one
+  one_each (x ∷ xs) (y ∷ ys) [] g low low' one each other = absurd each
+  one_each (x ∷ xs) (y ∷ ys) (a ∷ f) [] low low' one each other = absurd other
+  one_each (x ∷ xs) (y ∷ ys) (a ∷ f) (b ∷ g) low low' one each other =
+      ap₂ (λ h t. h ∷ t) (one_gap x y a b (low 0 x (omega arith)) (low' 0 y (omega arith)) one.0 each.0 other.0)
+      (one_each xs ys f g (λ k d lt. low (suc k) d (omega (arith, lt))) (λ k d lt. low' (suc k) d (omega (arith, lt))) one.1 each.1 other.1)
+
+  same_faces : (f g : List MapFault) → AreFaceFaults m f → AreFaceFaults m g → AreSameFaults f g
+  same_faces f g a b =
+      one_list_same f g
+      (a.are
+      ∙ ap (map fault.Face)
+      (one_each a.all.gaps b.all.gaps a.told b.told (all_lowest widest m.chains a.all.gaps a.all.are) (all_lowest widest m.chains b.all.gaps b.all.are)
+      (gaps_in_one a.all.gaps b.all.gaps a.all.are b.all.are) a.all.each b.all.each)
+      ∙ sym b.are)
+
+-- ---- listings
+
+-- what is wrong with polygons' points has one list
+abbrev pub OnePoints : Type 0
+OnePoints = (m : TheMap) (a b : List Misplaced) → AreAllMisplaced m a → AreAllMisplaced m b → a ≡ b
+
+same_for : OnePoints → (faces : Bool) (m : TheMap) (f g : List MapFault) (l r : Bool) → f ≢ [] → g ≢ [] → AreFaultsFor faces m f l
+    → AreFaultsFor faces m g r → AreSameFaults f g × (l ≡ r)
+same_for one_points faces m f g l r some_f some_g (inl a) (inl b) = same_of_map m (one_points m) f g l r a b
+same_for one_points faces m f g l r some_f some_g (inl a) (inr b) = absurd (unsound faces m f l some_f a b.1.1.sound)
+same_for one_points faces m f g l r some_f some_g (inr a) (inl b) = absurd (unsound faces m g r some_g b a.1.1.sound)
+same_for one_points faces m f g l r some_f some_g (inr a) (inr b) = (same_faces m f g a.1.1 b.1.1, a.1.0 ∙ sym b.1.0)
+
+same_faults : OnePoints → (faces : Bool) (all : Records) (f g : List MapFault) (l r : Bool) → f ≢ [] → g ≢ [] → AreFaults faces all f l
+    → AreFaults faces all g r → AreSameFaults f g × (l ≡ r)
+same_faults one_points faces all f g l r some_f some_g (inl a) (inl b) = (
+  one_list_same f g (a.0.are ∙ ap (map fault.Records) (one_list (records_in all) a.0.told b.0.told a.0.are_all b.0.are_all) ∙ sym b.0.are),
+  a.1 ∙ sym b.1,
+)
+same_faults one_points faces all f g l r some_f some_g (inl a) (inr have) = absurd (no_map faces all f l _ some_f a.0 have)
+same_faults one_points faces all f g l r some_f some_g (inr have) (inl b) = absurd (no_map faces all g r _ some_g b.0 have)
+same_faults one_points faces all f g l r some_f some_g (inr have) (inr other) =
+    let one = both all (λ m. AreFaultsFor faces m f l) (λ m. AreFaultsFor faces m g r) have other in
+    same_for one_points faces one.map f g l r some_f some_g one.so.0 one.so.1
+
+same_refusals : (a b : List Refusal) → map pair_of a ≡ map pair_of b → a ≡ b
+same_refusals [] [] same = refl
+same_refusals [] (y ∷ b) same = absurd cc
+same_refusals (x ∷ a) [] same = absurd cc
+same_refusals (x ∷ a) (y ∷ b) same =
+    let pair : pair_of x ≡ pair_of y = cc in
+    let line : x.line ≡ y.line = ap (λ (p : ℕ × Cause). p.0) pair in
+    let cause : x.cause ≡ y.cause = ap (λ (p : ℕ × Cause). p.1) pair in
+    let rest : a ≡ b = same_refusals a b cc in
+    λ i. record { line = line i; cause = cause i } ∷ rest i
+
+same_numbers : (faces : Bool) (all : Records) (a b : Report) → HaveMap all (λ m. IsSoundFor faces m × IsReport m a)
+    → HaveMap all (λ m. IsSoundFor faces m × IsReport m b) → HaveSameNumbers a b
+same_numbers faces all a b one other =
+    let same = both all (λ m. IsSoundFor faces m × IsReport m a) (λ m. IsSoundFor faces m × IsReport m b) one other in
+    let p : IsReport same.map a = same.so.0.1 in
+    let q : IsReport same.map b = same.so.1.1 in
+    record {
+      chains = p.chains ∙ sym q.chains;
+      segments = p.segments ∙ sym q.segments;
+      polygons = p.polygons ∙ sym q.polygons;
+      landmarks = p.landmarks ∙ sym q.landmarks;
+    }
+
+pub alike : OnePoints → (options : Options) (text : List ℕ) (a b : Listing) → IsListingOf options text a → IsListingOf options text b → AreAlike a b
+alike one_points options text (Sound report) (Sound other) is too = same_numbers options.faces (records_of (layout_with options) text) report other is too
+alike one_points options text (Sound report) (Refused others) is too =
+    (sound_alone options text (Refused others) too).1 ((sound_alone options text (Sound report) is).0 tt)
+alike one_points options text (Sound report) (Faults others left) is too =
+    (sound_alone options text (Faults others left) too).1 ((sound_alone options text (Sound report) is).0 tt)
+alike one_points options text (Refused list) (Sound other) is too =
+    (sound_alone options text (Refused list) is).1 ((sound_alone options text (Sound other) too).0 tt)
+alike one_points options text (Refused list) (Refused others) is too = same_refusals list.items others.items (is.1 ∙ sym too.1)
+alike one_points options text (Refused list) (Faults others left) is too =
+    absurd (is.0 (map_empty pair_of list.items (none_is_refused (layout_with options) text _ is.1 too.1)))
+alike one_points options text (Faults faults left) (Sound other) is too =
+    (sound_alone options text (Faults faults left) is).1 ((sound_alone options text (Sound other) too).0 tt)
+alike one_points options text (Faults faults left) (Refused others) is too =
+    absurd (too.0 (map_empty pair_of others.items (none_is_refused (layout_with options) text _ too.1 is.1)))
+alike one_points options text (Faults faults left) (Faults others right) is too =
+    same_faults one_points options.faces (records_of (layout_with options) text) faults.items others.items left right is.0 too.0 is.2 too.2

@@ -1,0 +1,99 @@
+-- Each fault that is true of a map is told by the list of all.
+use Rattle.std.proofs.Common.{◌≡◌, ◌≢◌, ℕ, inl, inr, Bool, true, false, Some, List, [], ◌++◌, map, refl, sym, subst}
+use Rattle.std.specs.List.{Contains}
+use Rattle.std.proofs.lemmas.List.Elements.{Contains-append_left, Contains-append_right}
+use Rattle.tl_geom.specs.declared.point.Point.{Point}
+use Rattle.tl_map_county.specs.TheMap.{TheMap}
+use Rattle.tl_map_county.specs.Darts.{dart_start}
+use Rattle.tl_check_sides.specs.declared.fault.Disagreement.{Disagreement}
+use Rattle.tl_check_inside.specs.declared.misplaced.Misplaced.{Misplaced}
+use Rattle.tl_check_cells.specs.declared.at_odds.CellsAtOdds.{CellsAtOdds}
+use Rattle.tl_list_sides.specs.CellOdds.{AreAllCellsAtOdds}
+use Rattle.tl_list_sides.proofs.Emptiness.{cells_agree}
+use Rattle.tl_check_verdict.specs.declared.fault.MapFault.{MapFault}
+use Rattle.tl_check_verdict.specs.declared.fault.MapFault.TheVariants as fault
+use Rattle.tl_check_verdict.specs.Truth.{IsTrueOfMap}
+use Rattle.tl_check_verdict.specs.Sound.{IsSound}
+use Rattle.tl_check_verdict.proofs.Denials.{not_sound_alone}
+use Rattle.tl_check_faces.specs.declared.fault.FaceFault.{FaceFault}
+use Rattle.tl_check_faces.specs.Faults.{IsTrueFaceFault}
+use Rattle.tl_check_face_search.proofs.Exact.{told as of_all_gaps}
+use Rattle.tl_list_text.specs.MapFaults.{side_fault, ArePointsTold, AreMapFaults, AreFaceFaults, AreFaultsFor}
+use Rattle.tl_list.specs.Telling.{IsMeetOf, IsOfSides, IsOfCells, IsTold}
+use Rattle.tl_list.proofs.Emptiness.{odds_deny}
+use Rattle.tl_list.proofs.Lists.{held_map, named_by, some_first}
+use Rattle.tl_list.proofs.Truth.{start_is, each_is_true}
+
+module _ (m : TheMap) (faults : List MapFault) (points_left : Bool) (all : AreMapFaults m faults points_left) where
+  among_meets : (f : MapFault) → Contains (map fault.Meet all.meets) f → Contains faults f
+  among_meets f held = rw all.are (Contains-append_left _ _ f (Contains-append_left _ _ f (Contains-append_left _ _ f held)))
+
+  among_sides : (f : MapFault) → Contains (map (side_fault m.chains) all.sides) f → Contains faults f
+  among_sides f held = rw all.are (Contains-append_left _ _ f (Contains-append_left _ _ f (Contains-append_right (map fault.Meet all.meets) _ f held)))
+
+  among_cells : (f : MapFault) → Contains (map fault.Cell all.cells) f → Contains faults f
+  among_cells f held =
+      rw all.are (Contains-append_left _ _ f (Contains-append_right (map fault.Meet all.meets ++ map (side_fault m.chains) all.sides) _ f held))
+
+  among_points : (f : MapFault) → Contains (map fault.PolygonPoint all.points) f → Contains faults f
+  among_points f held =
+      rw all.are (Contains-append_right (map fault.Meet all.meets ++ map (side_fault m.chains) all.sides ++ map fault.Cell all.cells) _ f held)
+
+  -- a disagreement of two darts is told with the node of the first
+  side_told : (node : Point) (first next : ℕ) (d : Disagreement) → dart_start m.chains first ≡ Some node → d.first ≡ first
+      → d.next ≡ next → side_fault m.chains d ≡ fault.Side node first next
+  side_told node first next d at one other = rw (one, other, start_is m.chains first node at) refl
+
+  some_cell : (cells : List CellsAtOdds) → AreAllCellsAtOdds m.chains cells → (odds : CellsAtOdds) → IsTrueOfMap false m (fault.Cell odds) → cells ≢ []
+  some_cell cells told odds true_one =
+      λ none. odds_deny m.chains odds.first odds.second odds.first_id odds.second_id true_one (cells_agree m.chains (rw none at told))
+
+  point_told : (left : Bool) → ArePointsTold m all.sides left all.points → (misplaced : Misplaced) → IsTrueOfMap false m (fault.PolygonPoint misplaced)
+      → IsTold faults left (fault.PolygonPoint misplaced)
+  point_told false told misplaced true_one =
+      inl (among_points (fault.PolygonPoint misplaced) (held_map fault.PolygonPoint all.points misplaced (told.1.every misplaced true_one)))
+  point_told true told misplaced true_one =
+      let some = some_first all.sides told.0 in
+      inr (refl, named_by IsOfSides faults (side_fault m.chains some.0) (among_sides _ (held_map (side_fault m.chains) all.sides some.0 some.1)) tt)
+
+  pub told : (f : MapFault) → IsTrueOfMap false m f → IsTold faults points_left f
+  told (fault.Records of_records) true_one = absurd true_one
+  told (fault.Meet meet) true_one =
+      let named = all.all_meets.complete meet.s meet.t meet.at true_one.ordered true_one.told.meet in
+      named_by (IsMeetOf meet.s meet.t) faults (fault.Meet named.1) (among_meets _ (held_map fault.Meet all.meets named.1 (named.0, named.2, named.3))) named.4
+  told (fault.Side node first next) true_one =
+      let named = all.all_sides.complete first next (record { is_next = true_one.is_next; differ = true_one.differ }) in
+      subst (Contains faults) (side_told node first next named.1 true_one.at named.4.0 named.4.1)
+      (among_sides _ (held_map (side_fault m.chains) all.sides named.1 (named.0, named.2, named.3)))
+  told (fault.PolygonPoint misplaced) true_one = point_told points_left all.all_points misplaced true_one
+  told (fault.Cell odds) true_one =
+      let some = some_first all.cells (some_cell all.cells all.all_cells odds true_one) in
+      named_by IsOfCells faults (fault.Cell some.0) (among_cells _ (held_map fault.Cell all.cells some.0 some.1)) tt
+  told (fault.Face of_faces) true_one = absurd (cc)
+
+-- ---- where faces may be asked for
+
+module _ (faces : Bool) (m : TheMap) (faults : List MapFault) (points_left : Bool) (some : faults ≢ []) where
+  -- where faults are told that aren't of faces, the map isn't sound
+  pub unsound : AreMapFaults m faults points_left → ¬ IsSound m
+  unsound all =
+      let first = some_first faults some in
+      not_sound_alone m first.0 (subst (IsTrueOfMap false m) first.1.2 (each_is_true m faults points_left all first.1.0 first.0 first.1.1))
+
+  face_told : AreFaceFaults m faults → (f : FaceFault) → IsTrueFaceFault m f → IsTold faults points_left (fault.Face f)
+  face_told all f true_one =
+      subst (λ (fs : List MapFault). Contains fs (fault.Face f)) (sym all.are) (held_map fault.Face all.told f (of_all_gaps m all.told all.all f true_one))
+
+  pub told_for : AreFaultsFor faces m faults points_left → (f : MapFault) → IsTrueOfMap faces m f → IsTold faults points_left f
+  told_for (inl all) (fault.Records f) true_one = absurd true_one
+  told_for (inl all) (fault.Meet meet) true_one = told m faults points_left all (fault.Meet meet) true_one
+  told_for (inl all) (fault.Side node first next) true_one = told m faults points_left all (fault.Side node first next) true_one
+  told_for (inl all) (fault.PolygonPoint misplaced) true_one = told m faults points_left all (fault.PolygonPoint misplaced) true_one
+  told_for (inl all) (fault.Cell odds) true_one = told m faults points_left all (fault.Cell odds) true_one
+  told_for (inl all) (fault.Face f) true_one = absurd (unsound all true_one.1.0)
+  told_for (inr of_faces) (fault.Records f) true_one = absurd true_one
+  told_for (inr of_faces) (fault.Meet meet) true_one = absurd (not_sound_alone m (fault.Meet meet) true_one of_faces.1.1.sound)
+  told_for (inr of_faces) (fault.Side node first next) true_one = absurd (not_sound_alone m (fault.Side node first next) true_one of_faces.1.1.sound)
+  told_for (inr of_faces) (fault.PolygonPoint misplaced) true_one = absurd (not_sound_alone m (fault.PolygonPoint misplaced) true_one of_faces.1.1.sound)
+  told_for (inr of_faces) (fault.Cell odds) true_one = absurd (not_sound_alone m (fault.Cell odds) true_one of_faces.1.1.sound)
+  told_for (inr of_faces) (fault.Face f) true_one = face_told of_faces.1.1 f true_one.1.1.0

@@ -1,0 +1,48 @@
+-- What is told of records that are read.
+use Rattle.std.specs.Prelude.{◌≡◌, ◌≢◌, ℕ, false, List, [], map, None, Bool}
+use Rattle.tl_record.specs.declared.stop.Cause.{Cause}
+use Rattle.tl_record.specs.Records.{Records}
+use Rattle.tl_list_refusals.specs.Listing.{ListsAll}
+use Rattle.tl_map_rules.specs.declared.fault.RecordFault.{RecordFault}
+use Rattle.tl_check_verdict.specs.declared.fault.MapFault.TheVariants as fault
+use Rattle.tl_check_verdict.specs.Sound.{IsSoundFor}
+use Rattle.tl_check_verdict.specs.Verdicts.{IsReport}
+use Rattle.tl_check_verdict.specs.Records.{HaveMap}
+use Rattle.tl_list_text.specs.declared.listing.Listing.{Listing}
+use Rattle.tl_list_text.specs.declared.listing.Listing.TheVariants.{Sound, Refused, Faults}
+use Rattle.tl_list_text.specs.Listings.{AreFaults}
+use Rattle.tl_record.specs.declared.record.Record.{Record}
+use Rattle.tl_list_records.specs.AllFaults.{AreAllFaults}
+use Rattle.tl_list.specs.declared.of_records.Findings.{Findings}
+use Rattle.tl_list.specs.Findings.{IsMapIfAny}
+
+-- the map of the records keeps what is asked of it, and these are its numbers; or no line is refused, and these are all faults
+abbrev pub IsListingOfRecords : (faces : Bool) → Records → Listing → Type 0
+IsListingOfRecords faces all (Sound report) = HaveMap all (λ m. IsSoundFor faces m × IsReport m report)
+IsListingOfRecords faces all (Refused list) = ⊥
+IsListingOfRecords faces all (Faults faults points_left) =
+    (faults.items ≢ []) × (all.refusal ≡ None) × AreFaults faces all faults.items points_left
+
+-- what is listed of records, none of whose lines is refused, and their map
+pub record AreFindingsOfRecords (faces : Bool) (all : Records) (listed : Findings) : Type 0 where
+  pub told : IsListingOfRecords faces all listed.listing
+  pub drawn : IsMapIfAny all listed.map
+
+-- these faults of records are listed
+abbrev pub IsListOf : List RecordFault → Listing → Type 0
+IsListOf told (Sound report) = ⊥
+IsListOf told (Refused list) = ⊥
+IsListOf told (Faults faults points_left) = (faults.items ≡ map fault.Records told) × (points_left ≡ false)
+
+-- all faults of the records are listed, and no map
+pub record AreTold (rs : List Record) (listed : Findings) : Type 0 where
+  pub faults : List RecordFault
+  pub are_all : AreAllFaults rs faults
+  pub told : IsListOf faults listed.listing
+  pub undrawn : listed.map ≡ None
+
+-- these refusals are told
+abbrev pub ListsRefusals : Listing → List (ℕ × Cause) → Type 0
+ListsRefusals (Sound report) refusals = ⊥
+ListsRefusals (Refused list) refusals = ListsAll refusals list.items
+ListsRefusals (Faults faults points_left) refusals = ⊥

@@ -1,0 +1,62 @@
+-- How a list of faults tells one that is true.
+use Rattle.std.specs.Prelude.{◌≡◌, ◌⊎◌, ℕ, ⊤, Bool, true, List}
+use Rattle.std.specs.List.{All, Any, Contains}
+use Rattle.tl_check_verdict.specs.declared.fault.MapFault.{MapFault}
+use Rattle.tl_check_verdict.specs.declared.fault.MapFault.TheVariants.{Records, Meet, Side, PolygonPoint, Cell, Face}
+use Rattle.tl_list_text.specs.declared.listing.Listing.{Listing}
+use Rattle.tl_list_text.specs.declared.listing.Listing.TheVariants as listing
+
+-- the fault is that segments s and t meet
+abbrev pub IsMeetOf : ℕ → ℕ → MapFault → Type 0
+IsMeetOf s t (Records fault) = ⊥
+IsMeetOf s t (Meet meet) = (meet.s ≡ s) × (meet.t ≡ t)
+IsMeetOf s t (Side node first next) = ⊥
+IsMeetOf s t (PolygonPoint fault) = ⊥
+IsMeetOf s t (Cell odds) = ⊥
+IsMeetOf s t (Face fault) = ⊥
+
+-- the fault is of sides
+abbrev pub IsOfSides : MapFault → Type 0
+IsOfSides (Records fault) = ⊥
+IsOfSides (Meet meet) = ⊥
+IsOfSides (Side node first next) = ⊤
+IsOfSides (PolygonPoint fault) = ⊥
+IsOfSides (Cell odds) = ⊥
+IsOfSides (Face fault) = ⊥
+
+-- the fault is of zero-cell ids
+abbrev pub IsOfCells : MapFault → Type 0
+IsOfCells (Records fault) = ⊥
+IsOfCells (Meet meet) = ⊥
+IsOfCells (Side node first next) = ⊥
+IsOfCells (PolygonPoint fault) = ⊥
+IsOfCells (Cell odds) = ⊤
+IsOfCells (Face fault) = ⊥
+
+-- The fault stands in the list. Of two segments that meet, it stands there with some point; of zero-cell ids at odds some
+-- pair stands there; and what is wrong with a polygon's point stands there unless points are left and sides disagree.
+abbrev pub IsTold : List MapFault → Bool → MapFault → Type 0
+IsTold faults points_left (Records fault) = Contains faults (Records fault)
+IsTold faults points_left (Meet meet) = Any (IsMeetOf meet.s meet.t) faults
+IsTold faults points_left (Side node first next) = Contains faults (Side node first next)
+IsTold faults points_left (PolygonPoint fault) = Contains faults (PolygonPoint fault) ⊎ ((points_left ≡ true) × Any IsOfSides faults)
+IsTold faults points_left (Cell odds) = Any IsOfCells faults
+IsTold faults points_left (Face fault) = Contains faults (Face fault)
+
+-- faults are listed, and the fault is told by them
+abbrev pub Tells : Listing → MapFault → Type 0
+Tells (listing.Sound report) fault = ⊥
+Tells (listing.Refused list) fault = ⊥
+Tells (listing.Faults faults points_left) fault = IsTold faults.items points_left fault
+
+-- the listing is that the map is sound
+abbrev pub SaysSound : Listing → Type 0
+SaysSound (listing.Sound report) = ⊤
+SaysSound (listing.Refused list) = ⊥
+SaysSound (listing.Faults faults points_left) = ⊥
+
+-- so is each fault that is listed, if faults are
+abbrev pub EachFault : Listing → (MapFault → Type 0) → Type 0
+EachFault (listing.Sound report) P = ⊤
+EachFault (listing.Refused list) P = ⊤
+EachFault (listing.Faults faults points_left) P = All P faults.items

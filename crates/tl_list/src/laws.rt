@@ -1,0 +1,42 @@
+//! Laws of the definitions, each the contract of a function that does nothing.
+
+ghost use Rattle.std.specs.Prelude.{◌↔◌, ℕ, List};
+ghost use Rattle.tl_record.specs.declared.options.Options.{Options};
+ghost use Rattle.tl_record.specs.Layout.{layout_with};
+ghost use Rattle.tl_record.specs.Records.{records_of};
+ghost use Rattle.tl_check_verdict.specs.declared.fault.MapFault.{MapFault};
+ghost use Rattle.tl_check_verdict.specs.Sound.{IsSoundFor};
+ghost use Rattle.tl_check_verdict.specs.Records.{HaveMap, IsTrueOfRecords};
+ghost use Rattle.tl_list_text.specs.declared.listing.Listing.{Listing};
+ghost use Rattle.tl_list_text.specs.Listings.{IsListingOf};
+ghost use Rattle.tl_list.specs.Telling.{SaysSound, EachFault, Tells};
+ghost use Rattle.tl_list.specs.Alike.{AreAlike};
+
+use tl_list_points::laws::a_map_has_one_list_of_all_misplaced;
+
+/// A listing says that the map is sound exactly where the records have a map that keeps what is asked of it.
+pub fn a_sound_map_alone_is_listed_as_sound()
+    ensures { (options : Options) (text : List ℕ) (listing : Listing) → IsListingOf options text listing →
+        SaysSound listing ↔ HaveMap (records_of (layout_with options) text) (IsSoundFor options.faces) }
+{}
+
+/// Each fault that is listed is true.
+pub fn each_fault_that_is_listed_is_true()
+    ensures { (options : Options) (text : List ℕ) (listing : Listing) → IsListingOf options text listing →
+        EachFault listing (IsTrueOfRecords options.faces (records_of (layout_with options) text)) }
+{}
+
+/// Each fault that is true is told by the list, so that which `tl_build` names of several is among them: itself, but for the point at which
+/// two segments meet, the pair of zero-cell ids, and a polygon's point where points are left.
+pub fn each_fault_that_is_true_is_told()
+    ensures { (options : Options) (text : List ℕ) (listing : Listing) (fault : MapFault) →
+        IsListingOf options text listing → IsTrueOfRecords options.faces (records_of (layout_with options) text) fault → Tells listing fault }
+{}
+
+/// A text has one listing, but for the points at which segments meet, and the nodes and rings of a sound map.
+pub fn a_text_has_one_listing()
+    ensures { (options : Options) (text : List ℕ) (listing other : Listing) → IsListingOf options text listing →
+        IsListingOf options text other → AreAlike listing other }
+{
+    a_map_has_one_list_of_all_misplaced();
+}

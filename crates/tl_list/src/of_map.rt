@@ -1,0 +1,168 @@
+//! All faults of a map, or that it is sound.
+
+ghost use Rattle.std.specs.Prelude.{◌≡◌, [], IfOk, length, true, IfSome};
+ghost use Rattle.tl_map_county.specs.Segments.{segments_before};
+ghost use Rattle.tl_check_planar.specs.Planar.{IsPlanar};
+ghost use Rattle.tl_check_planar.specs.Rectangles.{segment_rect};
+ghost use Rattle.tl_check_inside.specs.Placed.{ArePlaced};
+ghost use Rattle.tl_check_heights.specs.Heights.{widest};
+ghost use Rattle.tl_check_sweep.specs.Gaps.{AreAllOddGaps};
+ghost use Rattle.tl_list_points.specs.Suspects.{AreSuspects};
+ghost use Rattle.tl_check_verdict.specs.Sound.{IsSound};
+ghost use Rattle.tl_check_verdict.specs.Verdicts.{IsReport};
+ghost use Rattle.tl_list.specs.Keeping.OfMap.{IsListingOfMap, IsListingFor};
+
+use crate::met::list_met;
+use crate::planar::list_planar;
+use crate::tell::push_faces;
+use std::alloc::Global;
+use tl_check_face_search::all_face_faults;
+use tl_check_faces::OddGap;
+use tl_check_meets::all_meets;
+use tl_check_meets::laws::planar_where_no_meet_is_listed;
+use tl_check_planar::Segments;
+use tl_check_sweep::{Gaps, SweepReport, Swept, sweep};
+use tl_check_verdict::Report;
+use tl_list_text::Listing;
+use tl_map_county::Map;
+use tl_tree::FlatTree;
+use tl_tree_index::{BoxIndex, Memory, TreeStop};
+use tl_tree_pack::pack;
+
+/// All faults of a map, or its report where it is sound: by a sweep, and where that doesn't tell that the chains are
+/// planar, by a search for all their meets. Of polygons' points those are looked at that the sweep doesn't know to be placed. Where
+/// `faces` are asked for, those that disagree are listed of a map that is sound otherwise. An error says that memory was refused.
+pub fn list_map(alloc: Global, map: &Map, faces: bool) -> Result<Listing, Memory>
+    ensures { IfOk result (IsListingFor faces map.now) }
+{
+    let Ok(report) = sweep(alloc, map, gaps_for(faces)) else {
+        return Err(Memory);
+    };
+    let SweepReport {
+        swept,
+        suspects,
+        gaps,
+    } = report;
+    list_for(alloc, map, swept, suspects, faces, gaps)
+}
+
+/// Which gaps are told: all, where faces are asked for.
+fn gaps_for(faces: bool) -> Gaps
+    ensures { faces ≡ true → result ≡ Gaps.All }
+{
+    if faces { Gaps::All } else { Gaps::First }
+}
+
+/// The same by what the sweep says.
+fn list_for(
+    alloc: Global,
+    map: &Map,
+    swept: Swept,
+    suspects: Vec<u32>,
+    faces: bool,
+    gaps: Option<Vec<OddGap>>,
+) -> Result<Listing, Memory>
+    requires placed { swept ≡ Swept.Placed → IsPlanar map.now.chains × ArePlaced map.now }
+    requires planar { swept ≡ Swept.Planar → IsPlanar map.now.chains }
+    requires suspects { AreSuspects map.now suspects.items }
+    requires all { faces ≡ true → IfSome gaps (λ found. AreAllOddGaps widest map.now.chains found.items) }
+    ensures { IfOk result (IsListingFor faces map.now) }
+{
+    match list_swept(alloc, map, swept, suspects)? {
+        Listing::Sound(report) => list_faces(alloc, map, report, faces, gaps),
+        Listing::Refused(_) => unreachable!(),
+        Listing::Faults {
+            faults,
+            points_left,
+        } => Ok(Listing::Faults {
+            faults,
+            points_left,
+        }),
+    }
+}
+
+/// All faces that disagree of a map that is sound, where they are asked for, or its report.
+fn list_faces(
+    alloc: Global,
+    map: &Map,
+    report: Report,
+    faces: bool,
+    gaps: Option<Vec<OddGap>>,
+) -> Result<Listing, Memory>
+    requires sound { IsSound map.now }
+    requires report { IsReport map.now report }
+    requires all { faces ≡ true → IfSome gaps (λ found. AreAllOddGaps widest map.now.chains found.items) }
+    ensures { IfOk result (IsListingFor faces map.now) }
+{
+    if !faces {
+        return Ok(Listing::Sound(report));
+    }
+    let Ok(disagreeing) = all_face_faults(alloc, map, gaps) else {
+        return Err(Memory);
+    };
+    if disagreeing.is_empty() {
+        return Ok(Listing::Sound(report));
+    }
+    // so that a fault of faces denies that they are true
+    map.has_proper_chains();
+    let mut faults = Vec::new(alloc);
+    push_faces(&mut faults, &disagreeing)?;
+    Ok(Listing::Faults {
+        faults,
+        points_left: false,
+    })
+}
+
+/// All faults but those of faces of a map of which a sweep has said this, or its report where it is sound.
+fn list_swept(alloc: Global, map: &Map, swept: Swept, suspects: Vec<u32>) -> Result<Listing, Memory>
+    requires placed { swept ≡ Swept.Placed → IsPlanar map.now.chains × ArePlaced map.now }
+    requires planar { swept ≡ Swept.Planar → IsPlanar map.now.chains }
+    requires suspects { AreSuspects map.now suspects.items }
+    ensures { IfOk result (IsListingOfMap map.now) }
+{
+    match swept {
+        Swept::Placed => list_planar(alloc, map, Vec::new(alloc)),
+        Swept::Planar => list_planar(alloc, map, suspects),
+        Swept::Meet(_) | Swept::Unknown => list_by_search(alloc, map, suspects),
+    }
+}
+
+/// All faults of a map, or its report where it is sound, by a tree over its segments. It is kept out of where it is called, so that
+/// calls of it can be counted.
+#[inline(never)]
+fn list_by_search(alloc: Global, map: &Map, suspects: Vec<u32>) -> Result<Listing, Memory>
+    requires { AreSuspects map.now suspects.items }
+    ensures { IfOk result (IsListingOfMap map.now) }
+{
+    let Ok(nodes) = pack(alloc, &Segments::new(map)) else {
+        return Err(Memory);
+    };
+    match FlatTree::from_nodes(alloc, &nodes) {
+        Ok(tree) => list_by(alloc, &tree, map, suspects),
+        Err(TreeStop::Memory) => Err(Memory),
+        // A tree that is packed is never so deep.
+        Err(TreeStop::TooDeep) => unreachable!(),
+    }
+}
+
+/// The same by an index that fits the map's segments.
+fn list_by<X: BoxIndex>(
+    alloc: Global,
+    index: &X,
+    map: &Map,
+    suspects: Vec<u32>,
+) -> Result<Listing, Memory>
+    requires fits { X.fits index.now (segments_before map.now.chains (length map.now.chains))
+        (segment_rect map.now.chains) }
+    requires suspects { AreSuspects map.now suspects.items }
+    ensures { IfOk result (IsListingOfMap map.now) }
+{
+    let meets = all_meets(alloc, index, map)?;
+    // So the chains are planar where there is none.
+    planar_where_no_meet_is_listed();
+    if meets.is_empty() {
+        list_planar(alloc, map, suspects)
+    } else {
+        list_met(alloc, index, map, meets, suspects)
+    }
+}

@@ -1,0 +1,158 @@
+//! All that is wrong with the text of a county.
+
+ghost use Rattle.std.specs.Prelude.{◌≡◌, List, true, None, Some, IfOk, IfErr, IfSome, ⊤};
+ghost use Rattle.tl_record.specs.Records.{Records as AllRecords};
+ghost use Rattle.tl_record.specs.Reader.{source_of, standing_of, refusals_to_come};
+ghost use Rattle.tl_record.specs.Searching.{goes_on};
+ghost use Rattle.tl_record.specs.declared.record.Record.{Record};
+ghost use Rattle.tl_list_records.specs.Kept.{KeepsRecords};
+ghost use Rattle.tl_list_text.specs.Listings.{IsListingOf};
+ghost use Rattle.tl_cert_output.specs.Stops.{StopsFor, TellsDevice};
+ghost use Rattle.tl_list.specs.Findings.{AreFindingsOf};
+ghost use Rattle.tl_list.specs.Keeping.Reading.{Keeps, AreWhole};
+ghost use Rattle.tl_list.specs.Keeping.OfMap.{IsListingFor};
+ghost use Rattle.tl_list.specs.Keeping.OfRecords.{AreFindingsOfRecords, AreTold, ListsRefusals};
+
+use crate::of_map::list_map;
+use crate::reading::{BothKept, read_all};
+use crate::tell::push_records;
+use std::alloc::Global;
+use std::hash::RandomState;
+use tl_cert_output::Stop;
+use tl_check_verdict::fault_of_records;
+use tl_list_records::{KeptRecords, all_record_faults};
+use tl_list_refusals::list_refusals;
+use tl_list_text::Listing;
+use tl_map_county::Map;
+use tl_record::{Options, RecordReader, Source};
+
+/// All that is wrong with a county, and the map that its records draw.
+#[derive(Drop)]
+pub struct Findings {
+    /// What is told of it.
+    pub listing: Listing,
+    /// The map of its records, where they have one.
+    pub map: Option<Map>,
+}
+
+/// Lists all that is wrong with a county, from the text of its record files, with the columns that the options choose of
+/// type I, or says that its map is sound. Where they ask for faces, those that disagree are listed of a map with which nothing else is
+/// wrong: each two segments that face one another along a line of one height and name different sides, and each that faces the outside
+/// and names a polygon.
+///
+/// The records are read once. Each of two segments that meet stands in the list with one point at which they do.
+pub fn list_faults<R: Source>(
+    alloc: Global,
+    hasher: RandomState,
+    records: &mut R,
+    options: Options,
+) -> Result<Listing, Stop>
+    // Where the bytes are known: all lines that are refused; or where none is, all faults of the records; or where there
+    // is none, all faults of their map; or where there is none, the map's numbers.
+    ensures listing { IfOk result (λ listing. IfSome (R.remaining records.old)
+        (λ text. IsListingOf options text listing)) }
+    // It stops where memory was refused, or a read failed.
+    ensures stops { IfErr result (StopsFor ⊤) }
+    // `Device` is answered where a read failed in this call, and nowhere else.
+    ensures failures { TellsDevice (R.failure_count records.old) (R.failure_count records.new) result }
+{
+    let Findings { listing, map } = list_with_map(alloc, hasher, records, options)?;
+    drop(map);
+    Ok(listing)
+}
+
+/// Lists all that is wrong with a county as [`list_faults`] does, and hands out the map of its records, where they have one.
+pub fn list_with_map<R: Source>(
+    alloc: Global,
+    hasher: RandomState,
+    records: &mut R,
+    options: Options,
+) -> Result<Findings, Stop>
+    // The listing is that of `list_faults`, and the map is that of the text's records; there is none exactly where a line is
+    // refused or the records have a fault.
+    ensures listed { IfOk result (λ listed. IfSome (R.remaining records.old)
+        (λ text. AreFindingsOf options text listed)) }
+    // It stops where memory was refused, or a read failed.
+    ensures stops { IfErr result (StopsFor ⊤) }
+    // `Device` is answered where a read failed in this call, and nowhere else.
+    ensures failures { TellsDevice (R.failure_count records.old) (R.failure_count records.new) result }
+{
+    let mut reader = RecordReader::with(records, options);
+    match read_all(alloc, &mut reader)? {
+        Some(both) => list_kept(alloc, hasher, both, reader.skipped(), options.faces),
+        None => list_refused(alloc, &mut reader),
+    }
+}
+
+/// All lines that are refused, where a reader stopped at one.
+fn list_refused<R: Source>(alloc: Global, reader: &mut RecordReader<R>) -> Result<Findings, Stop>
+    requires { goes_on (standing_of reader.old) ≡ true }
+    ensures listed { IfOk result (λ listed. IfSome (refusals_to_come R.remaining reader.old)
+        (ListsRefusals listed.listing) × (listed.map ≡ None)) }
+    ensures stops { IfErr result (StopsFor ⊤) }
+    ensures failures { TellsDevice (R.failure_count (source_of reader.old))
+        (R.failure_count (source_of reader.new)) result }
+    ensures same_reference { R.reference (source_of reader.new) ≡ R.reference (source_of reader.old) }
+{
+    let list = list_refusals(alloc, reader)?;
+    Ok(Findings {
+        listing: Listing::Refused(list),
+        map: None,
+    })
+}
+
+/// All faults of records that are kept, so many of whose text's lines were passed over, or all of their map. The map is drawn
+/// first: of records that draw one no fault is true, and none is looked for.
+fn list_kept(
+    alloc: Global,
+    hasher: RandomState,
+    both: BothKept,
+    skipped: u64,
+    faces: bool,
+) -> Result<Findings, Stop>
+    requires { (rs : List Record) × Keeps rs both }
+    ensures listed { (all : AllRecords) (rs : List Record) → AreWhole all skipped rs → Keeps rs both →
+        IfOk result (AreFindingsOfRecords faces all) }
+    ensures stops { IfErr result (λ stop. stop ≡ Stop.Memory) }
+{
+    let BothKept { collected, kept } = both;
+    match collected.build(alloc, hasher, skipped) {
+        Ok(map) => {
+            drop(kept);
+            list_drawn(alloc, map, faces)
+        }
+        Err(stop) => {
+            fault_of_records(stop)?;
+            list_told(alloc, kept)
+        }
+    }
+}
+
+/// All faults of records that have one, as those of a county.
+fn list_told(alloc: Global, kept: KeptRecords) -> Result<Findings, Stop>
+    ensures listed { (rs : List Record) → KeepsRecords rs kept → IfOk result (AreTold rs) }
+    ensures stops { IfErr result (λ stop. stop ≡ Stop.Memory) }
+{
+    let told = all_record_faults(alloc, kept)?;
+    let mut faults = Vec::new(alloc);
+    push_records(&mut faults, &told)?;
+    Ok(Findings {
+        listing: Listing::Faults {
+            faults,
+            points_left: false,
+        },
+        map: None,
+    })
+}
+
+/// All faults of a map, or its report.
+fn list_drawn(alloc: Global, map: Map, faces: bool) -> Result<Findings, Stop>
+    ensures listed { IfOk result (λ listed. (listed.map ≡ Some map) × IsListingFor faces map listed.listing) }
+    ensures stops { IfErr result (λ stop. stop ≡ Stop.Memory) }
+{
+    let listing = list_map(alloc, &map, faces)?;
+    Ok(Findings {
+        listing,
+        map: Some(map),
+    })
+}

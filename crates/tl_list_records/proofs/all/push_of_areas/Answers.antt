@@ -1,0 +1,12 @@
+use Rattle.std.proofs.Common.{◌∙◌}
+use Rattle.tl_list_records.proofs.LimitLemmas.{landmarks_counted}
+use Rattle.tl_list_records.proofs.PartLemmas.{kept_areas}
+use Rattle.tl_list_records.proofs.all.push_of_areas.Goals as goal
+
+pub returns : goal.returns
+returns c = λ rs codes keeps before.
+    let areas = kept_areas rs c.args.polygons.items c.sort_keys.new.keys.items c.args.names.now c.args.landmarks.items c.sort_numbers.new.numbers.items c.args.links.now c.in_ok-lands.lands.items keeps c.sort_keys.ensures.moved c.sort_numbers.ensures.moved c.in_ok-lands.ensures.moved in
+    record {
+      told = c.in_ok-push_areas.ensures rs codes (rw (c.deref.ensures.value, c.deref-2.ensures.value, c.deref-3.ensures.value) areas) before;
+      landmarks = c.count_distinct.ensures ∙ landmarks_counted rs c.sort_numbers.new.numbers.items c.sort_numbers.ensures.ordered areas.of_landmarks;
+    }

@@ -1,0 +1,17 @@
+use Rattle.std.proofs.Common.{◌∷◌}
+use Rattle.std.proofs.lemmas.Result.{on_ok_weaker}
+use Rattle.tl_map_rules.specs.declared.entry.LinkEntry.{LinkEntry}
+use Rattle.tl_list_records.specs.Keeping.Told.{Tells}
+use Rattle.tl_list_records.specs.Keeping.Numbers.{IsMissing}
+use Rattle.tl_list_records.specs.Keeping.Keys.{link_fault}
+use Rattle.tl_list_records.proofs.AreaLemmas.{told_duplicate_polygons, told_unknown_sides, told_unknown_lands, told_unknown_links}
+use Rattle.tl_list_records.proofs.areas.push_areas.Goals as goal
+
+pub returns : goal.returns
+returns c = λ rs codes are before.
+    let polygons = c.args.polygons.now in
+    let eight = told_duplicate_polygons rs codes polygons _ _ c.requires.polygons are.of_polygons c.in_ok-push_repeated_keys.ensures before in
+    let nine = told_unknown_sides rs (8 ∷ codes) c.args.names.now polygons _ _ are.of_sides are.of_polygons c.in_ok-push_unknown_sides.ensures eight in
+    let ten = told_unknown_lands rs (9 ∷ 8 ∷ codes) c.args.lands.now c.args.landmarks.now _ _ are.of_lands are.of_landmarks c.in_ok-push_missing.ensures nine in
+    on_ok_weaker c.push_unknown_links.result (λ (tells : Tells (IsMissing link_fault (λ (l : LinkEntry). l.key) c.args.links.now polygons) c.push_missing.new.faults.items c.push_unknown_links.new.faults.items).
+    told_unknown_links rs (10 ∷ 9 ∷ 8 ∷ codes) c.args.links.now polygons _ _ are.of_links are.of_polygons tells ten) c.push_unknown_links.ensures

@@ -1,0 +1,16 @@
+use Rattle.std.proofs.Common.{◌∷◌, length}
+use Rattle.std.proofs.lemmas.Result.{on_ok_weaker}
+use Rattle.tl_list_records.specs.declared.numbers.Numbered.TheVariants.{DuplicateSides}
+use Rattle.tl_list_records.specs.Keeping.Told.{Tells}
+use Rattle.tl_list_records.specs.Keeping.Numbers.{fault_of, StandsNext}
+use Rattle.tl_list_records.proofs.TlidLemmas.{told_chains_without_sides, told_sides_without_chain, told_duplicate_sides}
+use Rattle.tl_list_records.proofs.tlids.push_sides.Goals as goal
+
+pub returns : goal.returns
+returns c = λ rs codes of_chains of_sides before.
+    let chains = c.args.chains.now in
+    let sides = c.args.sides.now in
+    let five = told_chains_without_sides rs codes chains sides _ _ of_chains of_sides c.in_ok-push_missing.ensures before in
+    let six = told_sides_without_chain rs (5 ∷ codes) sides chains _ _ of_sides of_chains c.in_ok-push_missing-2.ensures five in
+    on_ok_weaker c.push_repeats.result (λ (tells : Tells (StandsNext (fault_of DuplicateSides) sides (length sides)) c.push_missing-2.new.faults.items c.push_repeats.new.faults.items).
+    told_duplicate_sides rs (6 ∷ 5 ∷ codes) sides _ _ c.requires.sides of_sides tells six) c.push_repeats.ensures

@@ -1,9 +1,0 @@
-use Rattle.std.proofs.Common.{take}
-use Rattle.tl_output.specs.Printing.{Prints}
-use Rattle.tl_verdict.specs.Messages.{map_fault_text}
-use Rattle.tl_listing.specs.Texts.{lines}
-use Rattle.tl_listing.proofs.print.print_fault_lines.Given as goal
-
-abbrev pub invariant-loop-fault : goal.invariant-loop-fault
-invariant-loop-fault g l =
-    Prints g.S.Sink.contents g.S.Sink.failure_count (l.initial.out, l.initial.printer) (l.out, l.printer) (lines map_fault_text (take l.fault-index l.list))

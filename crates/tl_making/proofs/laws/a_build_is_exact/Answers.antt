@@ -1,5 +1,0 @@
-use Rattle.tl_making.proofs.LawLemmas.{build_is_exact}
-use Rattle.tl_making.proofs.laws.a_build_is_exact.Goals as goal
-
-pub returns : goal.returns
-returns g = build_is_exact

@@ -1,5 +1,0 @@
-use Rattle.tl_making.proofs.LawLemmas.{built_is_valid}
-use Rattle.tl_making.proofs.laws.what_was_built_is_valid.Goals as goal
-
-pub returns : goal.returns
-returns g = built_is_valid

@@ -1,0 +1,12 @@
+use Rattle.std.proofs.Common.{◌<◌, ◌∙◌, length}
+use Rattle.std.proofs.lemmas.List.{length-map}
+use Rattle.tl_map_county.specs.Chains.{CompleteChain}
+use Rattle.tl_map_county.proofs.RowLemmas.{row_read, cut_read}
+use Rattle.tl_map_county.proofs.chains.Chains.points.Goals as goal
+
+pub returns : goal.returns
+returns c =
+    let row = c.index-row.result.now in
+    let within : c.args.c < length c.self.inside.rows.items = simp length-map at (rw (← c.self.view_is) at c.requires) in
+    rw (← c.self.view_is) (row_read (λ (chain : CompleteChain). chain.points) c.self.inside.points.items c.self.inside.rows.items c.args.c row within c.index-row.ensures
+    ∙ cut_read row.first row.count c.self.inside.points.items c.deref.result.now c.deref.ensures.value)

@@ -1,0 +1,12 @@
+use Rattle.std.proofs.Common.{◌≡◌, rules}
+use Rattle.std.proofs.lemmas.Fn.{always_returns_same}
+use Rattle.std.proofs.lemmas.List.Sorted.{IsPermutation-trans}
+use Rattle.tl_map_county.specs.declared.nodes.DartStart.{DartStart}
+use Rattle.tl_map_county.proofs.nodes.sort_starts.Goals as goal
+
+pub returns-clause-ordered : goal.returns-clause-ordered
+returns-clause-ordered c =
+    c.sort_unstable_by_key.ensures.sorted (λ (x : DartStart). x.point) (always_returns_same _ (λ a r. r ≡ a.0.now.point) _ (λ a r q k. search rules))
+
+pub returns-clause-moved : goal.returns-clause-moved
+returns-clause-moved c = IsPermutation-trans _ _ _ c.in_ok-presort_by_rank.ensures c.sort_unstable_by_key.ensures.permutation

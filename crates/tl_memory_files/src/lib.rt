@@ -1,6 +1,0 @@
-//! Files in memory, for tests and for who has no other: a [`FileSystem`](tl_files::FileSystem) that knows its bytes.
-#![tactic(auto)]
-
-mod in_memory;
-
-pub use in_memory::{Draft, FilesInMemory, Held};

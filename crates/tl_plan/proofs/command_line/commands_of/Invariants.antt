@@ -1,6 +1,0 @@
-use Rattle.std.proofs.Common.{◌≡◌, map, take}
-use Rattle.tl_plan.specs.Keeping.{told_of, named_told}
-use Rattle.tl_plan.proofs.command_line.commands_of.Given as goal
-
-abbrev pub invariant-loop-named : goal.invariant-loop-named
-invariant-loop-named l = map told_of l.commands.items ≡ map named_told (take l.named-index l.names)

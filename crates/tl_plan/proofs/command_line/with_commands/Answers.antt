@@ -1,7 +1,0 @@
-use Rattle.std.proofs.lemmas.Result.{IfOk-weaker}
-use Rattle.tl_plan.proofs.CommandsLemmas.{commands_in_turn}
-use Rattle.tl_plan.proofs.command_line.with_commands.Goals as goal
-
-pub returns-in-Ok : goal.returns-in-Ok
-returns-in-Ok c = λ names told.
-    rw c.in-Ok.is (IfOk-weaker c.subcommands.result _ _ (λ whole added. commands_in_turn c.in-Ok.program whole _ names added told) c.subcommands.ensures)

@@ -1,4 +1,0 @@
-use Rattle.tl_plan.proofs.first_word.is_name.Goals as goal
-
-pub returns : goal.returns
-returns c = c.is_among.ensures

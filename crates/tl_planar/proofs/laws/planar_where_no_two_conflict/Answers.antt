@@ -1,5 +1,0 @@
-use Rattle.tl_planar.proofs.Planes.{planar_free, free_planar}
-use Rattle.tl_planar.proofs.laws.planar_where_no_two_conflict.Goals as goal
-
-pub returns : goal.returns
-returns c = λ chains. (planar_free chains, free_planar chains)

@@ -1,8 +1,0 @@
-use Rattle.tl_record.specs.Layout.{layout_with}
-use Rattle.tl_record.specs.Refusals.{refusals_of}
-use Rattle.tl_refusals.proofs.ListLemmas.{lists_text}
-use Rattle.tl_refusals.proofs.list.refused_lines.Goals as goal
-
-pub returns-clause-refusals : goal.returns-clause-refusals
-returns-clause-refusals g c =
-    lists_text (refusals_of (layout_with c.args.options)) (g.R.Source.remaining c.args.records.now) _ _ c.list_refusals.result c.with-reader.ensures.refusals c.list_refusals.ensures.refusals

@@ -1,5 +1,0 @@
-use Rattle.tl_sides.specs.Headed.{AreHeaded}
-use Rattle.tl_sides.proofs.headed.headed_darts.Given as goal
-
-abbrev pub invariant-loop-dart : goal.invariant-loop-dart
-invariant-loop-dart l = AreHeaded l.map.chains l.dart l.darts.items

@@ -1,8 +1,0 @@
-use Rattle.tl_slabs.proofs.Transport.{not_east, on_both}
-use Rattle.tl_slabs.proofs.laws.what_is_west_stays_west.Goals as goal
-
-pub returns : goal.returns
-returns c = λ K u w r near near' west spans spans' h. (
-  not_east K u w near near' west r spans spans' h,
-  on_both K u w near near' west r spans spans' h,
-)

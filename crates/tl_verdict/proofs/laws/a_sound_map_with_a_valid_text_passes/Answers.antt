@@ -1,5 +1,0 @@
-use Rattle.tl_verdict.proofs.Deciding.{passes}
-use Rattle.tl_verdict.proofs.laws.a_sound_map_with_a_valid_text_passes.Goals as goal
-
-pub returns : goal.returns
-returns c = passes

@@ -1,5 +1,0 @@
-use Rattle.tl_verdict.proofs.Deciding.{not_valid_text}
-use Rattle.tl_verdict.proofs.laws.a_valid_text_has_no_fault.Goals as goal
-
-pub returns : goal.returns
-returns c = not_valid_text
