@@ -14,6 +14,7 @@ sys.path.append(str(Path(__file__).resolve().parents[1] / "tests"))
 from folders import TOP
 
 import certificates
+import cited
 import core
 import counties
 import devices
@@ -76,6 +77,7 @@ def parts():
         ("progress", progress.play_all),
         ("rows", rows.play_all),
         ("rows over the core", core.play_all),
+        ("what pages name", cited.play_all),
     ]
     if geojson.can_play():
         found.append(("files of GeoJSON", geojson.play_all))

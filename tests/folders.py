@@ -17,6 +17,7 @@ FOLDERS = [
     "tests/formats",  # what is written for other programs: certificates, GeoJSON and pictures
     "tests/installed",  # the manual page and the completions, what is shown meanwhile, and many counties
     "tests/size",  # answers at full size
+    "tests/pages",  # what pages and comments name
     # Of the two modules `run` the tests' is that of the examples.
     "examples",
     "install",
