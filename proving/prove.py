@@ -231,7 +231,8 @@ def main():
     signal.signal(signal.SIGINT, signal.SIG_DFL)
     rt.rtlib.guarded()
     rt.Crate.cuts_libraries = True
-    # Contracts that no call can meet are searched for by the gate alone: here that would take a twentieth of the time.
+    # Contracts that no call can meet are searched for by the gate alone: here that would take a twentieth of the time. The kit has
+    # no option that leaves the search out; it is added wherever the prover's help names it.
     help_of = rt.rtlib.help_of
     rt.rtlib.help_of = lambda command: help_of(command).replace("--empty-contracts", "")
     rt.Crate.allowed = rt.handles_of(str(TOP))
