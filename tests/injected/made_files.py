@@ -6,9 +6,9 @@ usage: made_files.py [PROGRAM]
 
 OUT is a file that is none of the kind, one of the files that are read under that or another name, an old one of the kind, a
 link, a pipe, a device, a folder that isn't there, or may not be written; beside it lies what a killed run left, another run's
-file, one of the files that are read, or a file of somebody else's; the disk is full; and the program is killed at each of its
-writes. What stood under OUT has to stay until the new file is whole. It needs a C compiler, cc, and glibc, whose write it
-stands before.
+file, one of the files that are read, or a file of somebody else's; such a file comes while the program reads; the disk is full;
+and the program is killed at each of its writes. What stood under OUT has to stay until the new file is whole. It needs a C
+compiler, cc, and glibc, whose write it stands before.
 """
 
 import fcntl
@@ -301,6 +301,25 @@ class Play:
             self.count(is_well, f"{name} beside a pipe: {answer}")
             self.clear()
 
+    def meanwhile(self):
+        """A file of somebody else's comes under OUT while the program reads: it waits for a pipe then."""
+        pipe = self.folder / "pipe"
+        os.mkfifo(pipe)
+        making = [([*words, "made", "pipe"], COUNTY.read_bytes()) for words in self.MAKING]
+        for words, text in (*making, (["convert", "pipe", "made"], (EXAMPLES / "county.CERT").read_bytes())):
+            begun = {"cwd": self.folder, "stdin": subprocess.DEVNULL, "stdout": subprocess.PIPE, "stderr": subprocess.PIPE}
+            with subprocess.Popen([self.program, *words], **begun) as ran:
+                # The program has opened the pipe when this comes back, and has asked before whether OUT may be made.
+                with open(pipe, "wb") as writer:
+                    self.made.write_bytes(b"another's")
+                    writer.write(text)
+                printed, told = ran.communicate()
+            answer = ran.returncode, printed, told
+            stays = self.made.read_bytes() == b"another's" and not self.beside.exists()
+            self.count(answer == DEVICE and stays, f"{words[0]} under a name that is taken meanwhile: {answer}")
+            self.clear()
+        pipe.unlink()
+
     def full_disk(self):
         """Files may not grow beyond so many bytes."""
         def small():
@@ -340,7 +359,7 @@ def play_all(program=PROGRAM):
     with tempfile.TemporaryDirectory() as folder:
         play = Play(program, folder)
         of_what_stands = (play.standing, play.inputs, play.inputs_beside, play.read_only, play.links, play.others, play.beside_it)
-        for part in (*of_what_stands, play.full_disk, play.kills):
+        for part in (*of_what_stands, play.meanwhile, play.full_disk, play.kills):
             part()
     return play.passed, play.failed
 
