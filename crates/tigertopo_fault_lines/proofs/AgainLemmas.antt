@@ -1,5 +1,5 @@
 -- Lines that are held are those of the text, which is that of the files that are read again.
-use Rattle.std.proofs.Common.{◌≡◌, ◌∙◌, ◌⊎◌, ℕ, zero, suc, Bool, List, [], ◌∷◌, ◌++◌, Option, None, Some, IfSome, Result, Ok, Err, IfOk, IfErr, length, take, slice_get, refl, ap, subst, inl, inr}
+use Rattle.std.proofs.Common.{◌≡◌, ◌⊎◌, ℕ, zero, suc, Bool, List, [], ◌∷◌, ◌++◌, Option, None, Some, IfSome, Result, Ok, Err, IfOk, IfErr, length, take, slice_get, refl, ap, subst, inl, inr}
 use Rattle.std.specs.Prelude.{IsSomeAnd}
 use Rattle.tigertopo_text.specs.Joining.{joined}
 use Rattle.tigertopo_text.proofs.JoiningLemmas.{joined_bytes-known}

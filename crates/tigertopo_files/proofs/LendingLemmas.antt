@@ -1,5 +1,5 @@
 -- Files that are opened, lent to what reads them, and closed.
-use Rattle.std.proofs.Common.{◌≡◌, ◌⊎◌, inl, inr, ℕ, zero, suc, ◌+◌, ◌<◌, Bool, true, false, List, [], ◌∷◌, ◌++◌, map, take, length, Contains, Option, Some, None, Result, Ok, Err, IfOk, IfErr, IfSome, IfNone, refl, sym, ap, subst, ◌∙◌, arith}
+use Rattle.std.proofs.Common.{◌≡◌, ◌⊎◌, inl, inr, ℕ, zero, suc, ◌+◌, ◌<◌, Bool, true, false, List, [], ◌∷◌, ◌++◌, map, take, length, Contains, Option, Some, None, Result, Ok, Err, IfOk, IfErr, refl, sym, ap, subst, ◌∙◌, arith}
 use Rattle.std.proofs.Math.Seq.{take-length}
 use Rattle.std.proofs.lemmas.List.Elements.{Contains-append_left, Contains-append_right, Contains-push}
 use Rattle.std.proofs.lemmas.List.Sums.{sum_by-cons}
@@ -13,9 +13,9 @@ use Rattle.tl_cert_output.specs.Stops.{StopsFor, TellsDevice}
 use Rattle.tigertopo_text.specs.Joining.{joined_bytes, closed, failures_of}
 use Rattle.tigertopo_text.proofs.FailureLemmas.{some_failed}
 use Rattle.tigertopo_files.specs.Files.{Under, bytes_under}
-use Rattle.tigertopo_files.specs.Log.{Log, Fails, LogsAgain, together, with_opened}
+use Rattle.tigertopo_files.specs.Log.{Log, Fails, together, with_opened}
 use Rattle.tigertopo_files.specs.World.{World, Does, Failed, SomeMissing, MayStop, LogsReading}
-use Rattle.tigertopo_files.specs.Reading.{DoesAgain, MayFail, SomePassing, Tells, TellsReads, all_names, failures_in, single_under, text_under}
+use Rattle.tigertopo_files.specs.Reading.{MayFail, SomePassing, Tells, TellsReads, all_names, failures_in, single_under, text_under}
 use Rattle.tl_cert_output.proofs.StopLemmas.{stops_for}
 
 -- ---- the joined text
@@ -57,20 +57,13 @@ module _ {A B : Type 0} (f : A → ℕ) (h : B → A) where
       by_many zero is = some_reader single (omega (arith, is, some))
       by_many (suc n) is = some_source f readers (some_failed f readers (omega (arith, is)))
 
--- of one of two sources nothing was read
+-- of the one of two sources nothing was read
 pub tells_joined : {T : Type 0} (other : Type 0) (old new single : ℕ) (r : Result T Stop) → old ≡ 0 → single ≡ 0 → TellsDevice old new r → TellsReads other (new + single) r
 tells_joined other old new single (Ok t) fresh none tells = omega (arith, fresh, none, tells)
 tells_joined other old new single (Err (Record line cause)) fresh none tells = omega (arith, fresh, none, tells)
 tells_joined other old new single (Err Memory) fresh none tells = omega (arith, fresh, none, tells)
 tells_joined other old new single (Err Device) fresh none tells = inl (omega (arith, fresh, none, tells))
 tells_joined other old new single (Err Budget) fresh none tells = omega (arith, fresh, none, tells)
-
-pub tells_single : {T : Type 0} (other : Type 0) (joined old new : ℕ) (r : Result T Stop) → joined ≡ 0 → old ≡ 0 → TellsDevice old new r → TellsReads other (joined + new) r
-tells_single other joined old new (Ok t) none fresh tells = omega (arith, fresh, none, tells)
-tells_single other joined old new (Err (Record line cause)) none fresh tells = omega (arith, fresh, none, tells)
-tells_single other joined old new (Err Memory) none fresh tells = omega (arith, fresh, none, tells)
-tells_single other joined old new (Err Device) none fresh tells = inl (omega (arith, fresh, none, tells))
-tells_single other joined old new (Err Budget) none fresh tells = omega (arith, fresh, none, tells)
 
 -- ---- one of the files can't be opened
 
@@ -116,30 +109,9 @@ module _ {T : Type 0} (answers : T → Type 0) (stops : Stop → Type 0) (failed
   was_read (Err Device) count answered stopped tells fails = record { answered = tt; stopped = tt; device = λ e. elim tells [ inl some ↦ inl (fails some) | inr why ↦ inr why ] }
   was_read (Err Budget) count answered stopped tells fails = record { answered = tt; stopped = stopped; device = λ e. absurd (cc) }
 
--- what fails, told more widely
-pub tells_wider : {T : Type 0} (answers : T → Type 0) (stops : Stop → Type 0) (failed other : Type 0) (r : Result T Stop) → (failed → other) → Tells answers stops failed r → Tells answers stops other r
-tells_wider answers stops failed other r wider tells = record {
-  answered = tells.answered;
-  stopped = tells.stopped;
-  device = λ e. elim (tells.device e) [ inl fails ↦ inl (wider fails) | inr why ↦ inr why ];
-}
-
 -- of sources that never fail no read does
 never_fails : {A : Type 0} (knows : Bool) (before after : Log) → MayFail (λ (source : A). 0) → Fails knows before after
 never_fails knows before after fails = let some = fails.1 in absurd (omega (arith, some))
-
--- what is found of files that are read once more
-module _ {T : Type 0} (answers : T → Type 0) (stops : Stop → Type 0) (failed : Type 0) where
-  pub found_again : (t : T) → answers t → Tells (λ found. IfSome found answers) stops failed (Ok (Some t))
-  found_again t so = record { answered = so; stopped = tt; device = λ e. absurd (cc) }
-
-  pub passed_again : Tells (λ (found : Option T). IfSome found answers) stops failed (Ok None)
-  passed_again = record { answered = tt; stopped = tt; device = λ e. absurd (cc) }
-
-  pub stopped_again : (r : Result (Option T) Stop) (stop : Stop) → IsErrAnd r (λ told. told ≡ stop) → Tells answers stops failed (Err stop) → Tells (λ found. IfSome found answers) stops failed r
-  stopped_again (Ok t) stop is why = absurd is
-  stopped_again (Err told) stop is why =
-      subst (λ s. Tells (λ found. IfSome found answers) stops failed (Err s)) (sym is) (record { answered = tt; stopped = why.stopped; device = λ e. why.device (let same : stop ≡ Device = let all = e in cc in ap Err same) })
 
 -- ---- what is done
 
@@ -160,7 +132,7 @@ module _ {T A : Type 0} (f : A → ℕ) (w : World) (names : List (List ℕ)) (a
       (length (together names), 0, whole is ∙ ap (λ n. record w.log { opened = w.log.opened ++ take (length (together names)) (together names); failures = n }) (omega (arith)))
   log_of (Err Budget) is = (length (together names), whole is)
 
-  pub does_lend : (r : Result T Stop) → Tells answers stops (SomeMissing w.before names ⊎ MayFail f) r → (w.knows ≡ true → w.logged ≡ with_opened w.log names) → Does w names None answers stops r
+  does_lend : (r : Result T Stop) → Tells answers stops (SomeMissing w.before names ⊎ MayFail f) r → (w.knows ≡ true → w.logged ≡ with_opened w.log names) → Does w names None answers stops r
   does_lend r tells logs = record {
     answered = tells.answered;
     stopped = tells.stopped;
@@ -173,22 +145,6 @@ module _ {T A : Type 0} (f : A → ℕ) (w : World) (names : List (List ℕ)) (a
       unmade_of : (r : Result T Stop) → IfErr r (λ stop. w.after ≡ w.before)
       unmade_of (Ok t) = tt
       unmade_of (Err stop) = stays
-
-  pub does_again : (r : Result (Option T) Stop) → Tells (λ found. IfSome found answers) stops (SomeMissing w.before names ⊎ MayFail f) r → IfOk r (λ found. IfNone found (SomePassing w.before names))
-      → (w.knows ≡ true → w.logged ≡ w.log) → DoesAgain w names answers stops r
-  does_again r tells passing logs = record {
-    told = tells_wider (λ found. IfSome found answers) stops _ _ r fails_so tells;
-    passing = passing;
-    stays = stays;
-    logged = λ known. nothing_logged r (logs known);
-  }
-    where
-      nothing_logged : {U : Type 0} (r : Result U Stop) → w.logged ≡ w.log → LogsAgain w.log w.logged r
-      nothing_logged (Ok done) same = same
-      nothing_logged (Err (Record line cause)) same = same
-      nothing_logged (Err Memory) same = same
-      nothing_logged (Err Device) same = (0, same ∙ ap (λ n. record w.log { failures = n }) (omega arith))
-      nothing_logged (Err Budget) same = same
 
 -- the same of files of which no read fails
 pub does_lend_well : {T A : Type 0} (w : World) (names : List (List ℕ)) (answers : T → Type 0) (stops : Stop → Type 0) → w.after ≡ w.before → (r : Result T Stop)

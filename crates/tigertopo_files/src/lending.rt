@@ -2,7 +2,6 @@
 
 ghost use Rattle.std.specs.Prelude.{◌≡◌, ◌⊎◌, ◌+◌, ◌<◌, ℕ, List, Option, None, IfOk, IfErr, IfSome, IfNone, map, option_map, string_bytes, vec_len};
 ghost use Rattle.std.specs.Bool.{OnFalse};
-ghost use Rattle.tigertopo_files.specs.Files.{bytes_under};
 ghost use Rattle.tigertopo_files.specs.Reading.{MayFail, SomePassing, Tells, TellsReads, all_names, failures_in, left_in, single_under, text_under};
 ghost use Rattle.tigertopo_files.specs.World.{MayStop, SomeMissing};
 ghost use Rattle.tl_cert_output.specs.declared.stop.Stop.{Stop};
@@ -47,9 +46,9 @@ pub trait Reading {
             (R.failure_count joined.new + S.failure_count single.new) result };
 }
 
-/// A source, or none, which has no bytes.
+// A source, or none, which has no bytes.
 #[derive(Drop)]
-pub struct Single<R> {
+struct Single<R> {
     source: Option<R>,
 }
 

@@ -23,12 +23,12 @@ mod system;
 
 pub use beginning::{FileKind, may_be_left, may_go};
 pub use file_system::{Draft, FileSystem, Room};
-pub use lending::{Reading, Single, read_each, read_each_again};
+pub use lending::{Reading, read_each, read_each_again};
 pub use looking::{Lookup, Seen, Spot, Standing, name_beside, room_of, stands_under};
 pub use making::make_file;
 pub use names::all_names;
 pub use new_file::{NewBytes, NewFile, Place};
-pub use opening::{Opener, open_each};
+pub use opening::Opener;
 pub use place::SystemPlace;
 pub use reading::ShownReader;
 pub use system::SystemFiles;

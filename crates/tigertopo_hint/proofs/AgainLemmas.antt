@@ -1,13 +1,8 @@
 -- Files that are read again, by what stands under their names and what is logged.
-use Rattle.std.proofs.Common.{◌≡◌, ◌⊎◌, ℕ, ◌+◌, ◌<◌, Bool, true, false, List, [], ◌∷◌, Option, None, Some, IfSome, IfNone, Result, Ok, Err, IfErr, Contains, refl, sym, ap, subst, inl, inr, ◌∙◌, arith}
-use Rattle.std.specs.Result.{IsErrAnd}
-use Rattle.tl_record.specs.Searching.{CountsSkip}
-use Rattle.tl_record.specs.declared.refusal.RefusalStop.{RefusalStop}
-use Rattle.tl_record.specs.declared.refusal.RefusalStop.TheVariants.{Device as ReadFailed, Endless}
-use Rattle.tigertopo_where.specs.Finding.{Answers}
+use Rattle.std.proofs.Common.{◌≡◌, ◌⊎◌, ℕ, ◌<◌, Bool, true, false, List, [], ◌∷◌, None, Err, Contains, refl, ap, subst, inl, inr, ◌∙◌, arith}
 use Rattle.tigertopo_files.specs.Files.{Under, bytes_under}
-use Rattle.tigertopo_files.specs.Log.{Log, Fails, LogsAgain}
-use Rattle.tigertopo_files.specs.Reading.{DoesAgain, SomePassing, TellsReads}
+use Rattle.tigertopo_files.specs.Log.{Log, Fails}
+use Rattle.tigertopo_files.specs.Reading.{DoesAgain, SomePassing}
 use Rattle.tigertopo_files.specs.World.{World, Failed, SomeMissing}
 use Rattle.tl_cert_output.specs.declared.stop.Stop.{Stop}
 use Rattle.tl_cert_output.specs.declared.stop.Stop.TheVariants.{Record, Memory, Device, Budget}
@@ -15,46 +10,6 @@ use Rattle.tl_cert_output.specs.Stops.{StopsFor}
 use Rattle.tl_cert_output.proofs.StopLemmas.{stops_for}
 use Rattle.tigertopo_hint.specs.Again.{FailsAgain, HasNoEnd, SomeEndless}
 use Rattle.tigertopo_hint.proofs.HintLemmas.{only}
-
--- ---- what is read of one file
-
--- what holds of a text that is known
-pub of_known : {T : Type 0} (holds : List ℕ → T → Type 0) (known : Option (List ℕ)) (value : T) → Answers known holds (Ok value) → IfSome known (λ text. holds text value)
-of_known holds None value given = tt
-of_known holds (Some text) value given = given
-
--- it is given up where a text has no end
-has_no_end : {T : Type 0} (holds : List ℕ → T → Type 0) (known : Option (List ℕ)) → Answers known holds (Err Endless) → HasNoEnd known
-has_no_end holds None given = tt
-has_no_end holds (Some text) given = given
-
--- its lines can't be read to their end
-pub unread : {T : Type 0} (holds : List ℕ → T → Type 0) (known : Option (List ℕ)) (joined old new : ℕ) (stop : RefusalStop) → Answers known holds (Err stop) → CountsSkip {T = T} old new (Err stop)
-    → joined ≡ 0 → old ≡ 0 → (0 < joined + new) ⊎ HasNoEnd known
-unread holds known joined old new ReadFailed given counts none fresh = inl (omega (arith, none, fresh, counts))
-unread holds known joined old new Endless given counts none fresh = inr (has_no_end holds known given)
-
--- ---- the log
-
--- nothing was logged
-pub logs_none : {T : Type 0} (l m : Log) (r : Result T Stop) → m ≡ l → LogsAgain l m r
-logs_none l m (Ok done) same = same
-logs_none l m (Err (Record line cause)) same = same
-logs_none l m (Err Memory) same = same
-logs_none l m (Err Device) same = (0, same ∙ ap (λ n. record l { failures = n }) (omega arith))
-logs_none l m (Err Budget) same = same
-
--- the stop is passed on
-passed : (T U : Type 0) (l q : Log) (stop : Stop) → LogsAgain {T = T} l q (Err stop) → LogsAgain {T = U} l q (Err stop)
-passed T U l q (Record line cause) logs = logs
-passed T U l q Memory logs = logs
-passed T U l q Device logs = logs
-passed T U l q Budget logs = logs
-
-pub logs_passed : (T : Type 0) {U : Type 0} (l m q : Log) (r : Result U Stop) (stop : Stop) → IsErrAnd r (λ told. told ≡ stop) → m ≡ l → LogsAgain {T = T} m q (Err stop) → LogsAgain l q r
-logs_passed T l m q (Ok done) stop is same logs = absurd is
-logs_passed T {U} l m q (Err told) stop is same logs =
-    passed T U l q told (subst (λ (from : Log). LogsAgain {T = T} from q (Err told)) same (subst (λ (s : Stop). LogsAgain {T = T} m q (Err s)) (sym is) logs))
 
 -- ---- why files can't be read again
 

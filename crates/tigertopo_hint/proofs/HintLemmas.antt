@@ -1,6 +1,6 @@
 -- What is told behind a stop.
-use Rattle.std.proofs.Common.{◌≡◌, ℕ, zero, suc, ◌+◌, ◌<◌, ◌≤◌, List, [], ◌∷◌, ◌++◌, Option, None, Some, IfSome, Result, Ok, Err, IfOk, IfErr, OnOk, map, length, drop, get_or, slice_get, refl, sym, ap, inl, inr, Contains, ◌∙◌, arith, append_assoc, append-nil, drop-cons, add-one}
-use Rattle.std.proofs.lemmas.List.{drop_all, length-map, get_or-map}
+use Rattle.std.proofs.Common.{◌≡◌, ℕ, zero, suc, ◌+◌, ◌<◌, ◌≤◌, List, [], ◌∷◌, ◌++◌, Option, None, Some, IfSome, Result, Ok, Err, IfOk, IfErr, OnOk, map, length, drop, get_or, slice_get, refl, sym, ap, inl, inr, Contains, ◌∙◌, arith, append_assoc, drop-cons, add-one}
+use Rattle.std.proofs.lemmas.List.{length-map, get_or-map}
 use Rattle.std.proofs.lemmas.Option.{slice_get-get_or, slice_get_past}
 use Rattle.std.specs.Io.KnownBytes.{Appends}
 use Rattle.tl_record.specs.declared.layout.Layout.{Layout}
@@ -115,10 +115,6 @@ counts_more texts i counts grown count known within is counted pushed before =
     let same : count ≡ line_count (get_or texts i []) = rw is at counted in
     let split : drop i texts ≡ get_or texts i [] ∷ drop (i + 1) texts = rw (add-one, drop-cons texts i []) refl in
     rw (pushed, append_assoc, same) (rw split at before)
-
-pub counts_all : (texts : List (List ℕ)) (i : ℕ) (counts : List ℕ) → length texts ≤ i → counts ++ map line_count (drop i texts) ≡ map line_count texts → counts ≡ map line_count texts
-counts_all texts i counts past before =
-    sym (append-nil counts) ∙ ap (λ (l : List (List ℕ)). counts ++ map line_count l) (sym (drop_all i texts past)) ∙ before
 
 -- what holds of what was made
 pub made_then : {V E : Type 0} (P Q : V → Type 0) (r : Result V E) → IfOk r P → ((v : V) → P v → Q v) → IfOk r Q

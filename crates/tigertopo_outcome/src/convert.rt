@@ -1,6 +1,6 @@
 //! Certificates in version 2.
 
-ghost use Rattle.std.specs.Prelude.{◌≡◌, ◌∷◌, [], Some, None, string_bytes};
+ghost use Rattle.std.specs.Prelude.{◌≡◌, ◌∷◌, [], Some, string_bytes};
 ghost use Rattle.tl_cert.specs.Text.{certificate_text};
 ghost use Rattle.tigertopo_files.specs.Files.{bytes_under, IsFree};
 ghost use Rattle.tigertopo_files.specs.World.{Does, world};

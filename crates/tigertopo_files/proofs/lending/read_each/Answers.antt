@@ -1,7 +1,6 @@
 use Rattle.std.proofs.Common.{inl, inr, map, string_bytes}
 use Rattle.std.specs.Option.{option_map}
 use Rattle.tl_cert_output.proofs.StopLemmas.{stops_for}
-use Rattle.tigertopo_files.specs.Reading.{text_under, single_under}
 use Rattle.tigertopo_files.proofs.LendingLemmas.{either_failed, missing_joined, missing_single, not_opened, was_read}
 use Rattle.tigertopo_files.proofs.lending.read_each.Goals as goal
 
