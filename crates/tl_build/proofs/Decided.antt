@@ -6,7 +6,7 @@ use Rattle.tl_check_planar.specs.Planar.{IsPlanar}
 use Rattle.tl_check_sides.specs.Sides.{SidesAgree}
 use Rattle.tl_check_sides.specs.Walks.{AreWalks}
 use Rattle.tl_check_inside.specs.Placed.{ArePlaced}
-use Rattle.tl_check_cells.specs.Cells.{CellsAgree}
+use Rattle.tl_check_sides.specs.Cells.Cells.{CellsAgree}
 use Rattle.tl_cert.specs.Certificates.{TheCertificate}
 use Rattle.tl_tree_index.specs.declared.index.Memory.{Memory}
 use Rattle.tl_check_verdict.specs.declared.fault.MapFault.{MapFault}

@@ -5,7 +5,7 @@ ghost use Rattle.tl_check_planar.specs.Planar.{IsPlanar};
 ghost use Rattle.tl_check_sides.specs.Sides.{SidesAgree};
 ghost use Rattle.tl_check_sides.specs.Walks.{AreWalks};
 ghost use Rattle.tl_check_inside.specs.Placed.{ArePlaced};
-ghost use Rattle.tl_check_cells.specs.Cells.{CellsAgree};
+ghost use Rattle.tl_check_sides.specs.Cells.Cells.{CellsAgree};
 ghost use Rattle.tl_check_crossings.specs.Headings.{AreProper};
 ghost use Rattle.tl_check_verdict.specs.Sound.{IsSound};
 ghost use Rattle.tl_check_verdict.specs.Truth.{IsTrueOfMap};
@@ -20,7 +20,7 @@ use tl_build_propose::{
 };
 use tl_cert::Certificate;
 use tl_cert_output::Stop;
-use tl_check_cells::find_cells_at_odds;
+use tl_check_sides::cells::find_cells_at_odds;
 use tl_check_verdict::{MapFault, report};
 use tl_map_county::Map;
 use tl_tree_index::Memory;

@@ -7,7 +7,7 @@ use Rattle.tl_check_sides.specs.Sides.{SidesAgree}
 use Rattle.tl_check_sides.specs.Walks.{AreWalks}
 use Rattle.tl_check_sides.proofs.Boundaries.{boundary_of}
 use Rattle.tl_check_inside.specs.Placed.{ArePlaced}
-use Rattle.tl_check_cells.specs.Cells.{CellsAgree}
+use Rattle.tl_check_sides.specs.Cells.Cells.{CellsAgree}
 use Rattle.tl_check_verdict.specs.declared.verdict.Report.{Report}
 use Rattle.tl_check_verdict.specs.Sound.{AreClosed, IsSound}
 use Rattle.tl_check_verdict.specs.Verdicts.{IsReport, AreNumbers}

@@ -4,13 +4,13 @@ ghost use Rattle.std.specs.Prelude.{◌<◌, ◌≤◌, ◌^◌, [], length, OnO
 ghost use Rattle.tl_tree_index.specs.Preorder.{IsPreorder};
 ghost use Rattle.tl_tree_index.specs.Trees.{depth, tree_of};
 ghost use Rattle.tl_check_sides.specs.Keeping.Rounded.{AreSized, HaveTaken};
-ghost use Rattle.tl_check_cells.specs.Cells.{CellsAgree};
+ghost use Rattle.tl_check_sides.specs.Cells.Cells.{CellsAgree};
 ghost use Rattle.tl_check_verdict.specs.Valid.{AreCounts, IsTree};
 ghost use Rattle.tl_check.specs.Keeping.Parts.{LeadsBehindTree, MayEnd};
 
 use crate::state::{Halt, State};
 use std::alloc::Global;
-use tl_check_cells::find_cells_at_odds;
+use tl_check_sides::cells::find_cells_at_odds;
 use tl_check_planar::{Meeting, Segments, first_meet};
 use tl_check_sides::Rounds;
 use tl_check_verdict::{CertFault, MapFault};

@@ -15,3 +15,4 @@ pub mod WalkFacts
 pub mod Boundaries
 pub mod Lasting
 pub mod Lent
+pub mod Cells

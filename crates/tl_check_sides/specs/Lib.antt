@@ -5,3 +5,4 @@ pub mod Headed
 pub mod Rounds
 pub mod Walks
 pub mod Keeping
+pub mod Cells

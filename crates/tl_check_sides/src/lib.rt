@@ -8,6 +8,7 @@
 //! Who lists rounds, or looks at the darts of each node, begins with the darts that [`sort_darts`] gives.
 #![tactic(auto)]
 
+pub mod cells;
 mod fault;
 mod headed;
 pub mod laws;

@@ -7,7 +7,7 @@ use Rattle.tl_check_planar.specs.Planar.{IsPlanar}
 use Rattle.tl_check_planar.specs.Searching.{AreBeyond}
 use Rattle.tl_check_sides.specs.Sides.{SidesAgree}
 use Rattle.tl_check_inside.specs.Placed.{ArePlaced}
-use Rattle.tl_check_cells.specs.Cells.{CellsAgree}
+use Rattle.tl_check_sides.specs.Cells.Cells.{CellsAgree}
 use Rattle.tl_check_faces.specs.Truth.{AreFacesTrue}
 use Rattle.tl_cert.specs.Certificates.{TheCertificate}
 use Rattle.tl_cert.specs.Beginnings.{IsTextOf}

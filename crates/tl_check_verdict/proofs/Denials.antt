@@ -21,7 +21,7 @@ use Rattle.tl_check_sides.proofs.Headings.{with_heads}
 use Rattle.tl_check_inside.specs.declared.misplaced.Misplaced.{Misplaced}
 use Rattle.tl_check_inside.specs.declared.misplaced.Misplaced.TheVariants.{OnChain, Outside, InOther}
 use Rattle.tl_check_inside.specs.Placed.{ArePlaced, IsTrueMisplaced}
-use Rattle.tl_check_cells.specs.Cells.{CellsAgree, AreCellsAtOdds}
+use Rattle.tl_check_sides.specs.Cells.Cells.{CellsAgree, AreCellsAtOdds}
 use Rattle.tl_cert.specs.Certificates.{TheCertificate}
 use Rattle.tl_check_verdict.specs.declared.fault.MapFault.{MapFault}
 use Rattle.tl_check_verdict.specs.declared.fault.MapFault.TheVariants.{Records, Meet, Side, PolygonPoint, Cell, Face}

@@ -6,7 +6,7 @@ use Rattle.tl_map_county.specs.TheMap.{TheMap}
 use Rattle.tl_check_planar.specs.Planar.{IsPlanar}
 use Rattle.tl_check_sides.specs.Sides.{SidesAgree, IsClosed}
 use Rattle.tl_check_inside.specs.Placed.{ArePlaced}
-use Rattle.tl_check_cells.specs.Cells.{CellsAgree}
+use Rattle.tl_check_sides.specs.Cells.Cells.{CellsAgree}
 use Rattle.tl_check_faces.specs.Truth.{AreFacesTrue}
 
 -- the boundary of each polygon, and that of the outside, is closed rings

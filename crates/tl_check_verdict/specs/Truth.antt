@@ -11,7 +11,7 @@ use Rattle.tl_check_sides.specs.Sides.{IsNext, dart_right}
 use Rattle.tl_check_sides.specs.Rounds.{IsRoundFault}
 use Rattle.tl_check_sides.specs.Walks.{IsWalkFault}
 use Rattle.tl_check_inside.specs.Placed.{IsTrueMisplaced}
-use Rattle.tl_check_cells.specs.Cells.{AreCellsAtOdds}
+use Rattle.tl_check_sides.specs.Cells.Cells.{AreCellsAtOdds}
 use Rattle.tl_check_faces.specs.Faults.{IsTrueFaceFault}
 use Rattle.tl_check_faces.specs.Truth.{AreFacesTrue}
 use Rattle.tl_cert.specs.Certificates.{TheCertificate}

@@ -4,7 +4,7 @@ ghost use Rattle.std.specs.Prelude.{◌≡◌, ◌++◌, codes, decimal};
 ghost use Rattle.tl_check_verdict.specs.Messages.{tree_text, round_text, walk_text};
 
 use std::fmt;
-use tl_check_cells::CellsAtOdds;
+use tl_check_sides::cells::CellsAtOdds;
 use tl_check_faces::FaceFault;
 use tl_check_inside::Misplaced;
 use tl_check_planar::Meet;

@@ -7,7 +7,7 @@ ghost use Rattle.tl_check_planar.specs.Planar.{IsPlanar};
 ghost use Rattle.tl_check_planar.specs.Searching.{AreBeyond};
 ghost use Rattle.tl_check_sides.specs.Sides.{SidesAgree};
 ghost use Rattle.tl_check_inside.specs.Placed.{ArePlaced};
-ghost use Rattle.tl_check_cells.specs.Cells.{CellsAgree};
+ghost use Rattle.tl_check_sides.specs.Cells.Cells.{CellsAgree};
 ghost use Rattle.tl_check_faces.specs.Truth.{AreFacesTrue};
 ghost use Rattle.tl_cert.specs.Certificates.{TheCertificate};
 ghost use Rattle.tl_check_verdict.specs.declared.fault.MapFault.{MapFault};

@@ -5,7 +5,7 @@ use Rattle.std.specs.List.{Any, Contains}
 use Rattle.tl_map_county.specs.TheMap.{TheMap, MapChain}
 use Rattle.tl_check_sides.specs.declared.fault.Disagreement.{Disagreement}
 use Rattle.tl_check_inside.specs.declared.misplaced.Misplaced.{Misplaced}
-use Rattle.tl_check_cells.specs.Cells.{CellsAgree, AreCellsAtOdds}
+use Rattle.tl_check_sides.specs.Cells.Cells.{CellsAgree, AreCellsAtOdds}
 use Rattle.tl_check_meets.specs.Meets.{AreAllMeets}
 use Rattle.tl_list_sides.specs.Disagreements.{AreAllDisagreements}
 use Rattle.tl_list_sides.specs.CellOdds.{AreAllCellsAtOdds}

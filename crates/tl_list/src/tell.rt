@@ -4,7 +4,7 @@ ghost use Rattle.std.specs.Prelude.{◌≡◌, ◌∷◌, [], ◌++◌, OnOk, ma
 ghost use Rattle.tl_list_sides.specs.Disagreements.{AreAllDisagreements};
 ghost use Rattle.tl_list_text.specs.MapFaults.{side_fault};
 
-use tl_check_cells::CellsAtOdds;
+use tl_check_sides::cells::CellsAtOdds;
 use tl_check_faces::FaceFault;
 use tl_check_inside::Misplaced;
 use tl_check_planar::Meet;

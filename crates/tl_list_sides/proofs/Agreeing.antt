@@ -3,8 +3,8 @@ use Rattle.std.proofs.Common.{◌≡◌, ◌⊎◌, inl, inr, ℕ, zero, suc, �
 use Rattle.std.proofs.lemmas.Bool.{cases_lt, cases_eq}
 use Rattle.tl_map_county.specs.TheMap.{MapChain}
 use Rattle.tl_map_county.specs.Darts.{dart_start, dart_cell}
-use Rattle.tl_check_cells.specs.Cells.{HasCell, HaveOneStart, CellsAgree, AreCellsAtOdds}
-use Rattle.tl_check_cells.proofs.Cells.{one_id}
+use Rattle.tl_check_sides.specs.Cells.Cells.{HasCell, HaveOneStart, CellsAgree, AreCellsAtOdds}
+use Rattle.tl_check_sides.proofs.Cells.Cells.{one_id}
 use Rattle.tl_check_meets.proofs.Deciding.{Decided, same_point, same_option}
 use Rattle.tl_list_sides.specs.CellOdds.{IsFirstWithId, IsFirstAtStart, IsFirstOfBoth, AreToldAtOdds}
 

@@ -7,8 +7,8 @@ use Rattle.tl_map_county.specs.TheMap.{MapChain}
 use Rattle.tl_map_county.specs.Darts.{dart_start, dart_left}
 use Rattle.tl_check_sides.specs.declared.fault.Disagreement.{Disagreement}
 use Rattle.tl_check_sides.specs.Sides.{SidesAgree, dart_right}
-use Rattle.tl_check_cells.specs.declared.at_odds.CellsAtOdds.{CellsAtOdds}
-use Rattle.tl_check_cells.specs.Cells.{CellsAgree, AreCellsAtOdds}
+use Rattle.tl_check_sides.specs.declared.cells.at_odds.CellsAtOdds.{CellsAtOdds}
+use Rattle.tl_check_sides.specs.Cells.Cells.{CellsAgree, AreCellsAtOdds}
 use Rattle.tl_check_meets.proofs.Deciding.{Decided, same_option}
 use Rattle.tl_list_sides.specs.Disagreements.{AreAllDisagreements}
 use Rattle.tl_list_sides.specs.CellOdds.{AreAllCellsAtOdds}

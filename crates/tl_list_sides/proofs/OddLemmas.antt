@@ -4,8 +4,8 @@ use Rattle.std.specs.Option.{option_eq}
 use Rattle.std.proofs.lemmas.Bool.{cases_lt, cases_eq, eqb-true, eqb-false, true≢false}
 use Rattle.std.proofs.lemmas.List.{get_or_default}
 use Rattle.tl_map_county.specs.TheMap.{MapChain}
-use Rattle.tl_check_cells.specs.Cells.{HasCell, HaveOneStart}
-use Rattle.tl_check_cells.proofs.Cells.{one_id}
+use Rattle.tl_check_sides.specs.Cells.Cells.{HasCell, HaveOneStart}
+use Rattle.tl_check_sides.proofs.Cells.Cells.{one_id}
 use Rattle.tl_check_meets.specs.Orders.{IsPairBefore}
 use Rattle.tl_list_sides.specs.declared.starts.CellStart.{CellStart}
 use Rattle.tl_list_sides.specs.CellOdds.{IsFirstWithId, IsFirstOfBoth, AreToldAtOdds}

@@ -8,7 +8,7 @@ use Rattle.tl_map_county.specs.TheMap.{MapChain}
 use Rattle.tl_check_sides.specs.Sides.{dart_count}
 use Rattle.tl_check_sides.specs.declared.headed.HeadedDart.{HeadedDart}
 use Rattle.tl_check_sides.specs.Headed.{AreSorted, IsHeaded, AreHeaded, AreDartsSorted}
-use Rattle.tl_check_cells.proofs.Places.{AnyTwo, moved}
+use Rattle.tl_check_sides.proofs.Cells.Places.{AnyTwo, moved}
 use Rattle.tl_list_sides.specs.Keeping.Around.{nowhere, AreAround, IsPlaced}
 
 -- sorted, they are all darts about their nodes

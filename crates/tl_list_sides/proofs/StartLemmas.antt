@@ -12,9 +12,9 @@ use Rattle.tl_map_county.specs.TheMap.{MapChain}
 use Rattle.tl_map_county.specs.Darts.{dart_start, dart_cell}
 use Rattle.tl_map_county.specs.Nodes.{AreNodes}
 use Rattle.tl_map_county.proofs.NodeLemmas.{one_number}
-use Rattle.tl_check_cells.specs.Cells.{HasCell, HaveOneStart}
-use Rattle.tl_check_cells.proofs.Cells.{has_within}
-use Rattle.tl_check_cells.proofs.Places.{AnyTwo, from_pairs, moved}
+use Rattle.tl_check_sides.specs.Cells.Cells.{HasCell, HaveOneStart}
+use Rattle.tl_check_sides.proofs.Cells.Cells.{has_within}
+use Rattle.tl_check_sides.proofs.Cells.Places.{AnyTwo, from_pairs, moved}
 use Rattle.tl_check_sides.specs.Sides.{dart_count}
 use Rattle.tl_list_sides.specs.declared.starts.CellStart.{CellStart}
 use Rattle.tl_list_sides.specs.Keeping.Starts.{no_start, start_at, IsCellStart, AreListed, AreById, AreSorted, first_of, IsFirstIn, AreFirstsOf}

@@ -7,10 +7,10 @@ use Rattle.std.proofs.lemmas.List.{get_or_append_left, get_or-append_right}
 use Rattle.std.proofs.lemmas.List.Elements.{All-nil, All-cons, All-append, All-weaker}
 use Rattle.std.proofs.lemmas.List.Sorted.{All-permutation, Contains-permutation}
 use Rattle.tl_map_county.specs.TheMap.{MapChain}
-use Rattle.tl_check_cells.specs.declared.at_odds.CellsAtOdds.{CellsAtOdds}
-use Rattle.tl_check_cells.specs.Cells.{HasCell, HaveOneStart}
-use Rattle.tl_check_cells.proofs.Cells.{one_id}
-use Rattle.tl_check_cells.proofs.Places.{AnyTwo, from_pairs, moved}
+use Rattle.tl_check_sides.specs.declared.cells.at_odds.CellsAtOdds.{CellsAtOdds}
+use Rattle.tl_check_sides.specs.Cells.Cells.{HasCell, HaveOneStart}
+use Rattle.tl_check_sides.proofs.Cells.Cells.{one_id}
+use Rattle.tl_check_sides.proofs.Cells.Places.{AnyTwo, from_pairs, moved}
 use Rattle.tl_check_meets.specs.Orders.{IsPairBefore}
 use Rattle.tl_list_sides.specs.declared.starts.CellStart.{CellStart}
 use Rattle.tl_list_sides.specs.CellOdds.{IsFirstWithId, IsFirstAtStart, IsFirstOfBoth, IsIdAtOdds, IsStartAtOdds, AreToldAtOdds, AreAllCellsAtOdds}

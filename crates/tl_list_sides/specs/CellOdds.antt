@@ -2,8 +2,8 @@
 use Rattle.std.specs.Prelude.{◌≡◌, ◌≢◌, ◌⊎◌, ℕ, ◌<◌, List, All}
 use Rattle.std.specs.List.{Any}
 use Rattle.tl_map_county.specs.TheMap.{MapChain}
-use Rattle.tl_check_cells.specs.declared.at_odds.CellsAtOdds.{CellsAtOdds}
-use Rattle.tl_check_cells.specs.Cells.{HasCell, HaveOneStart}
+use Rattle.tl_check_sides.specs.declared.cells.at_odds.CellsAtOdds.{CellsAtOdds}
+use Rattle.tl_check_sides.specs.Cells.Cells.{HasCell, HaveOneStart}
 use Rattle.tl_check_meets.specs.Orders.{AreRising}
 
 -- the first dart that has the id

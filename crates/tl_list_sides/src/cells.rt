@@ -8,7 +8,7 @@ ghost use Rattle.tl_list_sides.specs.Keeping.Odds.{AreFirsts, HaveTold, ArePairs
 
 use crate::starts::{CellStart, first_at_nodes, list_starts, sort_by_id};
 use std::alloc::Global;
-use tl_check_cells::CellsAtOdds;
+use tl_check_sides::cells::CellsAtOdds;
 use tl_map_county::Map;
 use tl_tree_index::Memory;
 

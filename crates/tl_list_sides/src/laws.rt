@@ -4,8 +4,8 @@ ghost use Rattle.std.specs.Prelude.{◌≡◌, ◌↔◌, ℕ, List, []};
 ghost use Rattle.tl_map_county.specs.TheMap.{MapChain};
 ghost use Rattle.tl_check_sides.specs.declared.fault.Disagreement.{Disagreement};
 ghost use Rattle.tl_check_sides.specs.Sides.{SidesAgree};
-ghost use Rattle.tl_check_cells.specs.declared.at_odds.CellsAtOdds.{CellsAtOdds};
-ghost use Rattle.tl_check_cells.specs.Cells.{CellsAgree, AreCellsAtOdds};
+ghost use Rattle.tl_check_sides.specs.declared.cells.at_odds.CellsAtOdds.{CellsAtOdds};
+ghost use Rattle.tl_check_sides.specs.Cells.Cells.{CellsAgree, AreCellsAtOdds};
 ghost use Rattle.tl_list_sides.specs.CellOdds.{AreToldAtOdds, AreAllCellsAtOdds};
 ghost use Rattle.tl_list_sides.specs.Disagreements.{AreAllDisagreements};
 

@@ -6,7 +6,7 @@ use Rattle.tl_check_planar.specs.Planar.{IsPlanar}
 use Rattle.tl_check_planar.specs.Searching.{meeting_segments, AreBeyond}
 use Rattle.tl_check_sides.specs.Sides.{SidesAgree}
 use Rattle.tl_check_inside.specs.Placed.{ArePlaced}
-use Rattle.tl_check_cells.specs.Cells.{CellsAgree}
+use Rattle.tl_check_sides.specs.Cells.Cells.{CellsAgree}
 use Rattle.tl_check_points.specs.Rings.{TheRings, AreBoxed}
 use Rattle.tl_check_sides.specs.Lists.{and_list}
 use Rattle.tl_check_sides.specs.Rounds.{AreRounds, IsRoundFault}

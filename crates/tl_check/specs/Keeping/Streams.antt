@@ -8,7 +8,7 @@ use Rattle.tl_check_planar.specs.Planar.{IsPlanar}
 use Rattle.tl_check_planar.specs.Searching.{meeting_segments, AreBeyond}
 use Rattle.tl_check_sides.specs.Sides.{SidesAgree}
 use Rattle.tl_check_inside.specs.Placed.{ArePlaced}
-use Rattle.tl_check_cells.specs.Cells.{CellsAgree}
+use Rattle.tl_check_sides.specs.Cells.Cells.{CellsAgree}
 use Rattle.tl_cert.specs.declared.place.NextPart.{NextPart}
 use Rattle.tl_cert.specs.declared.place.NextPart.TheVariants as place
 use Rattle.tl_cert.specs.declared.place.CertPart.{CertPart}

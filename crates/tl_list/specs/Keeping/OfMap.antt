@@ -4,7 +4,7 @@ use Rattle.tl_map_county.specs.TheMap.{TheMap}
 use Rattle.tl_check_sides.specs.declared.fault.Disagreement.{Disagreement}
 use Rattle.tl_check_sides.specs.Sides.{SidesAgree}
 use Rattle.tl_check_sides.specs.Walks.{AreWalks}
-use Rattle.tl_check_cells.specs.declared.at_odds.CellsAtOdds.{CellsAtOdds}
+use Rattle.tl_check_sides.specs.declared.cells.at_odds.CellsAtOdds.{CellsAtOdds}
 use Rattle.tl_check_inside.specs.declared.misplaced.Misplaced.{Misplaced}
 use Rattle.tl_list_sides.specs.Disagreements.{AreAllDisagreements}
 use Rattle.tl_list_sides.specs.CellOdds.{AreAllCellsAtOdds}

@@ -4,7 +4,7 @@ use Rattle.std.specs.List.{AllPairs, Any}
 use Rattle.std.specs.List.Sorted.{IsSortedBy}
 use Rattle.std.specs.Ordering.{nat_cmp, ordering_then, is_lt}
 use Rattle.tl_map_county.specs.TheMap.{MapChain}
-use Rattle.tl_check_cells.specs.declared.at_odds.CellsAtOdds.{CellsAtOdds}
+use Rattle.tl_check_sides.specs.declared.cells.at_odds.CellsAtOdds.{CellsAtOdds}
 use Rattle.tl_list_sides.specs.declared.starts.CellStart.{CellStart}
 use Rattle.tl_list_sides.specs.CellOdds.{IsFirstAtStart, AreToldAtOdds}
 use Rattle.tl_list_sides.specs.Keeping.Starts.{start_at, first_of, IsCellStart}

@@ -7,7 +7,7 @@ use Rattle.tl_geom.specs.declared.point.Point.{Point}
 use Rattle.tl_map_county.specs.TheMap.{MapChain}
 use Rattle.tl_map_county.specs.Darts.{dart_start}
 use Rattle.tl_map_county.specs.Nodes.{AreNodes}
-use Rattle.tl_check_cells.specs.Cells.{HasCell}
+use Rattle.tl_check_sides.specs.Cells.Cells.{HasCell}
 use Rattle.tl_check_meets.specs.Orders.{AreRising}
 use Rattle.tl_list_sides.specs.declared.starts.CellStart.{CellStart}
 

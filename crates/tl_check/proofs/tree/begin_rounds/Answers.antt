@@ -1,7 +1,7 @@
 use Rattle.std.proofs.Common.{subst}
 use Rattle.std.proofs.lemmas.Result.{err_from_is_err_and}
 use Rattle.std.specs.Option.{IfSome}
-use Rattle.tl_check_cells.specs.Cells.{AreCellsAtOdds}
+use Rattle.tl_check_sides.specs.Cells.Cells.{AreCellsAtOdds}
 use Rattle.tl_check.proofs.tree.begin_rounds.Goals as goal
 
 pub returns-in-Some-clause-halts : goal.returns-in-Some-clause-halts

@@ -4,7 +4,6 @@
 //! that have ids have one id exactly where they start at one point. [`find_cells_at_odds`] decides this, and names two
 //! darts whose ids are at odds where they don't agree. What that is stands in `specs/Cells`, which speaks of darts,
 //! ids and points alone.
-#![tactic(auto)]
 
 mod at_odds;
 mod find;

@@ -1,11 +1,11 @@
 //! The search for two ids that are at odds.
 
 ghost use Rattle.std.specs.Prelude.{◌≡◌, ℕ, ◌*◌, length, IsTrue, IsFalse, IsNone, IfSome, IfOk};
-ghost use Rattle.tl_check_cells.specs.Cells.{HasCell, HaveNoCells, CellsAgree, AreCellsAtOdds};
-ghost use Rattle.tl_check_cells.specs.Keeping.Kept.{KeepFirst};
+ghost use Rattle.tl_check_sides.specs.Cells.Cells.{HasCell, HaveNoCells, CellsAgree, AreCellsAtOdds};
+ghost use Rattle.tl_check_sides.specs.Cells.Keeping.Kept.{KeepFirst};
 
-use crate::at_odds::CellsAtOdds;
-use crate::kept::{NodeCell, find_repeat, sort_by_id};
+use crate::cells::at_odds::CellsAtOdds;
+use crate::cells::kept::{NodeCell, find_repeat, sort_by_id};
 use std::alloc::Global;
 use tl_map_county::Map;
 use tl_tree_index::Memory;

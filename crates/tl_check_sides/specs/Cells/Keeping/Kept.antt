@@ -7,9 +7,9 @@ use Rattle.tl_geom.specs.declared.point.Point.{Point}
 use Rattle.tl_map_county.specs.TheMap.{MapChain}
 use Rattle.tl_map_county.specs.Darts.{dart_start}
 use Rattle.tl_map_county.specs.Nodes.{AreNodes}
-use Rattle.tl_check_cells.specs.declared.at_odds.CellsAtOdds.{CellsAtOdds}
-use Rattle.tl_check_cells.specs.declared.kept.NodeCell.{NodeCell}
-use Rattle.tl_check_cells.specs.Cells.{HasCell}
+use Rattle.tl_check_sides.specs.declared.cells.at_odds.CellsAtOdds.{CellsAtOdds}
+use Rattle.tl_check_sides.specs.declared.cells.kept.NodeCell.{NodeCell}
+use Rattle.tl_check_sides.specs.Cells.Cells.{HasCell}
 
 -- what is kept at a place
 abbrev pub kept_at : List (Option NodeCell) → ℕ → Option NodeCell

@@ -1,8 +1,8 @@
 use Rattle.std.proofs.Common.{◌≡◌, Some, sym, ap, subst, ◌∙◌, arith}
 use Rattle.std.proofs.lemmas.Bool.{false≢true}
-use Rattle.tl_check_cells.specs.Keeping.Kept.{KeepFirst}
-use Rattle.tl_check_cells.proofs.Cells.{IsHere, first_at, keep_on, keep_more, odd_here}
-use Rattle.tl_check_cells.proofs.find.keep_first.Goals as goal
+use Rattle.tl_check_sides.specs.Cells.Keeping.Kept.{KeepFirst}
+use Rattle.tl_check_sides.proofs.Cells.Cells.{IsHere, first_at, keep_on, keep_more, odd_here}
+use Rattle.tl_check_sides.proofs.cells.find.keep_first.Goals as goal
 
 pub loop-dart-preserved-in_default : goal.loop-dart-preserved-in_default
 loop-dart-preserved-in_default c =

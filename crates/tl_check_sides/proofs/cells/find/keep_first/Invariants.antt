@@ -1,5 +1,5 @@
-use Rattle.tl_check_cells.specs.Keeping.Kept.{KeepFirst}
-use Rattle.tl_check_cells.proofs.find.keep_first.Given as goal
+use Rattle.tl_check_sides.specs.Cells.Keeping.Kept.{KeepFirst}
+use Rattle.tl_check_sides.proofs.cells.find.keep_first.Given as goal
 
 -- the darts so far are kept
 abbrev pub invariant-loop-dart : goal.invariant-loop-dart

@@ -1,7 +1,7 @@
 use Rattle.std.proofs.Common.{refl, sym, arith}
 use Rattle.std.proofs.lemmas.Bool.{false≢true}
-use Rattle.tl_check_cells.proofs.Rising.{all_two, neighbours_more}
-use Rattle.tl_check_cells.proofs.kept.find_repeat.Goals as goal
+use Rattle.tl_check_sides.proofs.Cells.Rising.{all_two, neighbours_more}
+use Rattle.tl_check_sides.proofs.cells.kept.find_repeat.Goals as goal
 
 pub loop-place-preserved : goal.loop-place-preserved
 loop-place-preserved c =

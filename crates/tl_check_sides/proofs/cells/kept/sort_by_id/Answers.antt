@@ -1,7 +1,7 @@
 use Rattle.std.proofs.Common.{◌≡◌, rules}
 use Rattle.std.proofs.lemmas.Fn.{always_returns_same}
-use Rattle.tl_check_cells.specs.Keeping.Kept.{kept_id}
-use Rattle.tl_check_cells.proofs.kept.sort_by_id.Goals as goal
+use Rattle.tl_check_sides.specs.Cells.Keeping.Kept.{kept_id}
+use Rattle.tl_check_sides.proofs.cells.kept.sort_by_id.Goals as goal
 
 pub returns-clause-ordered : goal.returns-clause-ordered
 returns-clause-ordered c =

@@ -9,8 +9,8 @@ use Rattle.std.proofs.lemmas.Bool.Decides.{nat_tests}
 use Rattle.std.proofs.lemmas.Cmp.{nat_cmp_total}
 use Rattle.std.proofs.lemmas.List.{get_or_default}
 use Rattle.std.proofs.lemmas.List.Sorted.{ranks_by, sorted_far}
-use Rattle.tl_check_cells.specs.declared.kept.NodeCell.{NodeCell}
-use Rattle.tl_check_cells.specs.Keeping.Kept.{kept_at, kept_id, AreById, HaveTwoIds}
+use Rattle.tl_check_sides.specs.declared.cells.kept.NodeCell.{NodeCell}
+use Rattle.tl_check_sides.specs.Cells.Keeping.Kept.{kept_at, kept_id, AreById, HaveTwoIds}
 
 -- an id that isn't below another and not above it is that one
 same_id : (a b : ℕ) → is_lt (nat_cmp a b) ≡ false → is_lt (nat_cmp b a) ≡ false → a ≡ b

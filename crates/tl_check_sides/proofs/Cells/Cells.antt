@@ -11,11 +11,11 @@ use Rattle.tl_geom.specs.declared.point.Point.{Point}
 use Rattle.tl_map_county.specs.TheMap.{MapChain}
 use Rattle.tl_map_county.specs.Darts.{is_along, dart_start, dart_cell}
 use Rattle.tl_map_county.proofs.NodeLemmas.{one_number}
-use Rattle.tl_check_cells.specs.declared.at_odds.CellsAtOdds.{CellsAtOdds}
-use Rattle.tl_check_cells.specs.declared.kept.NodeCell.{NodeCell}
-use Rattle.tl_check_cells.specs.Cells.{HasCell, CellsAgree, AreCellsAtOdds}
-use Rattle.tl_check_cells.specs.Keeping.Kept.{kept_at, IsKept, IsOfNode, KeepFirst, HaveTwoIds, AreRepeat, HasRepeat}
-use Rattle.tl_check_cells.proofs.Places.{AnyTwo, from_pairs, moved}
+use Rattle.tl_check_sides.specs.declared.cells.at_odds.CellsAtOdds.{CellsAtOdds}
+use Rattle.tl_check_sides.specs.declared.cells.kept.NodeCell.{NodeCell}
+use Rattle.tl_check_sides.specs.Cells.Cells.{HasCell, CellsAgree, AreCellsAtOdds}
+use Rattle.tl_check_sides.specs.Cells.Keeping.Kept.{kept_at, IsKept, IsOfNode, KeepFirst, HaveTwoIds, AreRepeat, HasRepeat}
+use Rattle.tl_check_sides.proofs.Cells.Places.{AnyTwo, from_pairs, moved}
 
 -- a dart that has an id is one of the chains'
 pub has_within : (chains : List MapChain) (d id : ℕ) → HasCell chains d id → d < 2 * length chains

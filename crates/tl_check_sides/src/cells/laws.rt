@@ -2,7 +2,7 @@
 
 ghost use Rattle.std.specs.Prelude.{ℕ, List};
 ghost use Rattle.tl_map_county.specs.TheMap.{MapChain};
-ghost use Rattle.tl_check_cells.specs.Cells.{CellsAgree, AreCellsAtOdds};
+ghost use Rattle.tl_check_sides.specs.Cells.Cells.{CellsAgree, AreCellsAtOdds};
 
 /// Where two darts are at odds, cells don't agree.
 pub fn cells_at_odds_do_not_agree()

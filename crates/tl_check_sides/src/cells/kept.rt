@@ -3,9 +3,9 @@
 ghost use Rattle.std.specs.Prelude.{◌≡◌, IsNone, IfSome};
 ghost use Rattle.std.specs.List.{AllPairs};
 ghost use Rattle.std.specs.List.Sorted.{IsPermutation};
-ghost use Rattle.tl_check_cells.specs.Keeping.Kept.{kept_id, AreById, HaveTwoIds, AreRepeat, HasRepeat};
+ghost use Rattle.tl_check_sides.specs.Cells.Keeping.Kept.{kept_id, AreById, HaveTwoIds, AreRepeat, HasRepeat};
 
-use crate::at_odds::CellsAtOdds;
+use crate::cells::at_odds::CellsAtOdds;
 
 /// A dart and the id at its start.
 #[derive(Clone, Copy)]

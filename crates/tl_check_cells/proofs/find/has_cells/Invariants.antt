@@ -1,5 +1,0 @@
-use Rattle.tl_check_cells.proofs.Cells.{HaveNoneBelow}
-use Rattle.tl_check_cells.proofs.find.has_cells.Given as goal
-
-abbrev pub invariant-loop-dart : goal.invariant-loop-dart
-invariant-loop-dart l = HaveNoneBelow l.map.chains l.dart
