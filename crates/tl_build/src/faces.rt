@@ -1,7 +1,7 @@
 //! Faces of maps that are found to be sound.
 
 ghost use Rattle.std.specs.Prelude.{◌≡◌, IfErr, IfOk, MatchOption, All, IfSome, [], option_map};
-ghost use Rattle.tl_check_heights.specs.Heights.{widest};
+ghost use Rattle.tl_check_planar.specs.ByHeight.Heights.{widest};
 ghost use Rattle.tl_check_faces.specs.Facing.{FacesAgree};
 ghost use Rattle.tl_check_faces.specs.Odd.{IsLowestOddGap};
 ghost use Rattle.tl_check_verdict.specs.declared.fault.MapFault.TheVariants.{Face};

@@ -10,9 +10,9 @@ use Rattle.tl_geom.specs.Rectangle.{rect_of}
 use Rattle.tl_geom.proofs.Polynomials.{num, ◌⊕◌, ◌⊖◌, ◌⊗◌, same}
 use Rattle.tl_geom.proofs.Rectangles.{by_meeting, shared_meets}
 use Rattle.tl_geom.proofs.Signs.{product_at_least}
-use Rattle.tl_check_heights.specs.Heights.{height, widest, AreNear, low_end, high_end}
-use Rattle.tl_check_heights.specs.Neighbours.{IsWestOf}
-use Rattle.tl_check_heights.proofs.Rising.{ends_of, higher, near_back}
+use Rattle.tl_check_planar.specs.ByHeight.Heights.{height, widest, AreNear, low_end, high_end}
+use Rattle.tl_check_planar.specs.ByHeight.Neighbours.{IsWestOf}
+use Rattle.tl_check_planar.proofs.ByHeight.Rising.{ends_of, higher, near_back}
 
 -- a point west of both ends of a line, and between them by latitude, isn't east of it
 not_east : (c e p : Point) → p.x <ℤ c.x → p.x <ℤ e.x → c.y ≤ℤ p.y → p.y ≤ℤ e.y → pos 0 ≤ℤ turn_of c e p

@@ -9,11 +9,11 @@ use Rattle.tl_tree_index.proofs.Times.{same_or}
 use Rattle.tl_check_planar.proofs.Numbering.{below_total, HaveSameEnds}
 use Rattle.tl_check_active.specs.declared.events.End.{End}
 use Rattle.tl_check_active.specs.declared.events.Event.{Event}
-use Rattle.tl_check_heights.specs.Neighbours.{IsNumbered}
+use Rattle.tl_check_planar.specs.ByHeight.Neighbours.{IsNumbered}
 use Rattle.tl_check_active.specs.Keeping.Ended.{event_by, events_at, events_in, AreListed, IsNextAlong}
 use Rattle.tl_check_active.specs.Events.{AreMet, AreEventsOf, joined}
 use Rattle.tl_check_active.specs.Ranges.{IsInRange}
-use Rattle.tl_check_heights.proofs.Numbered.{one_segment}
+use Rattle.tl_check_planar.proofs.ByHeight.Numbered.{one_segment}
 use Rattle.tl_check_active.proofs.Joining.{joined-push}
 use Rattle.tl_check_active.proofs.Listing.{event_one, event_other, events_more}
 use Rattle.tl_check_active.proofs.Meeting.{one_after}

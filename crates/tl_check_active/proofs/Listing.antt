@@ -9,8 +9,8 @@ use Rattle.tl_map_county.specs.TheMap.{MapChain}
 use Rattle.tl_map_county.specs.Segments.{IsSegmentOf, Joins}
 use Rattle.tl_tree_index.proofs.Times.{same_or}
 use Rattle.tl_check_active.specs.declared.events.Event.{Event}
-use Rattle.tl_check_heights.specs.Heights.{height, widest}
-use Rattle.tl_check_heights.specs.Neighbours.{IsNumbered}
+use Rattle.tl_check_planar.specs.ByHeight.Heights.{height, widest}
+use Rattle.tl_check_planar.specs.ByHeight.Neighbours.{IsNumbered}
 use Rattle.tl_check_active.proofs.Bits.{bit}
 use Rattle.tl_check_active.specs.Events.{IsEvent, begins_at, ends_at, AreEventsOf}
 

@@ -10,9 +10,9 @@ use Rattle.tl_geom.specs.declared.segment.Segment.{Segment}
 use Rattle.tl_geom.specs.Plane.{turn_of, IsSame, whole}
 use Rattle.tl_map_county.specs.TheMap.{MapChain}
 use Rattle.tl_check_planar.proofs.Numbering.{HaveSameEnds}
-use Rattle.tl_check_heights.specs.Heights.{height, widest, low_end, high_end}
-use Rattle.tl_check_heights.specs.Neighbours.{IsNumbered, IsWestOf, AreApartOrAtEnds, AreTested}
-use Rattle.tl_check_heights.proofs.Numbered.{one_segment, on_same}
+use Rattle.tl_check_planar.specs.ByHeight.Heights.{height, widest, low_end, high_end}
+use Rattle.tl_check_planar.specs.ByHeight.Neighbours.{IsNumbered, IsWestOf, AreApartOrAtEnds, AreTested}
+use Rattle.tl_check_planar.proofs.ByHeight.Numbered.{one_segment, on_same}
 
 -- what is no is not yes
 pub never : {A : Type 0} → false ≡ true → A

@@ -7,8 +7,8 @@ use Rattle.std.specs.Ordering.{int_cmp, is_ge, is_le, MatchOrdering}
 use Rattle.tl_geom.specs.declared.point.Point.{Point}
 use Rattle.tl_geom.specs.declared.segment.Segment.{Segment}
 use Rattle.tl_geom.specs.Plane.{turn_of}
-use Rattle.tl_check_heights.specs.Heights.{low_end, high_end}
-use Rattle.tl_check_heights.specs.Neighbours.{IsWestOf}
+use Rattle.tl_check_planar.specs.ByHeight.Heights.{low_end, high_end}
+use Rattle.tl_check_planar.specs.ByHeight.Neighbours.{IsWestOf}
 use Rattle.tl_check_active.proofs.Tests.{le_test, is_west}
 
 ge_cases : (z : ℤ) (o : Ordering) → MatchOrdering o (z <ℤ pos 0) (z ≡ pos 0) (pos 0 <ℤ z) → pos 0 ≤ℤ z → IsTrue (is_ge o)

@@ -3,8 +3,8 @@ use Rattle.std.proofs.Common.{List, arith}
 use Rattle.std.proofs.lemmas.Int.{ints}
 use Rattle.tl_geom.specs.declared.point.Point.{Point}
 use Rattle.tl_map_county.specs.TheMap.{MapChain}
-use Rattle.tl_check_heights.specs.Heights.{widest, AreNear}
-use Rattle.tl_check_heights.specs.Neighbours.{IsWide}
+use Rattle.tl_check_planar.specs.ByHeight.Heights.{widest, AreNear}
+use Rattle.tl_check_planar.specs.ByHeight.Neighbours.{IsWide}
 use Rattle.tl_check_active.specs.Ranges.{IsInRange, AreInRange}
 
 pub near_by_range : (p q : Point) → IsInRange p → IsInRange q → AreNear widest p q

@@ -1,8 +1,8 @@
 -- What becomes of the list of active segments at a bend of a chain.
 use Rattle.std.specs.Prelude.{◌≡◌, ℕ, List, [], ◌∷◌, ◌++◌}
 use Rattle.tl_map_county.specs.TheMap.{MapChain}
-use Rattle.tl_check_heights.specs.Heights.{widest}
-use Rattle.tl_check_heights.specs.Neighbours.{AreTested, EachTwo}
+use Rattle.tl_check_planar.specs.ByHeight.Heights.{widest}
+use Rattle.tl_check_planar.specs.ByHeight.Neighbours.{AreTested, EachTwo}
 use Rattle.tl_check_active.specs.Lined.{TheLine, list_of}
 
 -- segment s stands in the stead of another, and where neighbours were tested, they are

@@ -6,8 +6,8 @@ use Rattle.tl_map_county.specs.TheMap.{MapChain}
 use Rattle.tl_map_county.specs.Segments.{segments_before}
 use Rattle.tl_check_active.specs.declared.events.Event.{Event}
 use Rattle.tl_check_active.specs.Vertices.{MayMeet}
-use Rattle.tl_check_heights.specs.Heights.{height, widest, low_end, high_end}
-use Rattle.tl_check_heights.specs.Neighbours.{IsNumbered}
+use Rattle.tl_check_planar.specs.ByHeight.Heights.{height, widest, low_end, high_end}
+use Rattle.tl_check_planar.specs.ByHeight.Neighbours.{IsNumbered}
 
 -- the end of its segment that an event is at
 abbrev pub end_at : Event → Segment → Point

@@ -3,7 +3,7 @@ use Rattle.std.specs.Prelude.{ℕ, pos, negsuc, ◌≤ℤ◌, List}
 use Rattle.tl_geom.specs.declared.point.Point.{Point}
 use Rattle.tl_geom.specs.declared.segment.Segment.{Segment}
 use Rattle.tl_map_county.specs.TheMap.{MapChain}
-use Rattle.tl_check_heights.specs.Neighbours.{IsNumbered}
+use Rattle.tl_check_planar.specs.ByHeight.Neighbours.{IsNumbered}
 
 -- its longitude is a signed number of 32 bits
 pub record IsInRange (p : Point) : Type 0 where

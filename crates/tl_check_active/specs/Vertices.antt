@@ -3,7 +3,7 @@ use Rattle.std.specs.Prelude.{◌≡◌, ◌⊎◌, ℕ, ◌+◌, if◌then◌el
 use Rattle.tl_map_county.specs.TheMap.{MapChain}
 use Rattle.tl_map_county.specs.Segments.{IsSegmentOf}
 use Rattle.tl_check_active.specs.declared.events.Event.{Event}
-use Rattle.tl_check_heights.specs.Slabs.{IsEndPlace}
+use Rattle.tl_check_planar.specs.ByHeight.Slabs.{IsEndPlace}
 
 -- the event is at point p of chain c
 pub record IsAtPlace (chains : List MapChain) (e : Event) (c p : ℕ) : Type 0 where

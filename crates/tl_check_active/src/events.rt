@@ -3,8 +3,8 @@ ghost use Rattle.std.specs.Prelude.{◌≡◌, ◌+◌, ◌/◌, ◌%◌, ◌==�
 ghost use Rattle.std.specs.Prelude.{All, IfOk, IfSome, Some, length};
 ghost use Rattle.tl_geom.specs.Plane.{end_a, end_b};
 ghost use Rattle.tl_map_county.specs.Segments.{segments_before};
-ghost use Rattle.tl_check_heights.specs.Heights.{widest};
-ghost use Rattle.tl_check_heights.specs.Neighbours.{IsNumbered, IsWide};
+ghost use Rattle.tl_check_planar.specs.ByHeight.Heights.{widest};
+ghost use Rattle.tl_check_planar.specs.ByHeight.Neighbours.{IsNumbered, IsWide};
 ghost use Rattle.tl_check_active.specs.declared.events.Event.{Event};
 ghost use Rattle.tl_check_active.specs.Keeping.Ended.{event_by, events_at, events_in, AreListed, IsNextAlong};
 ghost use Rattle.tl_check_active.specs.Events.{one_or_two, AreMet, AreEvents, joined};
@@ -62,9 +62,9 @@ impl Model for Events {
 impl Events {
     ghost use Rattle.std.specs.Prelude.{◌≡◌, ◌<◌, All, IfOk, List, Some, length, slice_index_or};
     ghost use Rattle.std.specs.List.Sorted.{IsPermutation};
-    ghost use Rattle.tl_check_heights.specs.Heights.{widest};
+    ghost use Rattle.tl_check_planar.specs.ByHeight.Heights.{widest};
     ghost use Rattle.tl_check_active.specs.declared.events.Event.{Event};
-    ghost use Rattle.tl_check_heights.specs.Neighbours.{IsWide};
+    ghost use Rattle.tl_check_planar.specs.ByHeight.Neighbours.{IsWide};
     ghost use Rattle.tl_check_active.specs.Events.{AreAt, AreMet, one_or_two, AreEvents, joined};
     ghost use Rattle.tl_check_active.specs.Ranges.{AreInRange};
 

@@ -1,6 +1,6 @@
 //! The heights of points, and the ends of segments by them.
 ghost use Rattle.std.specs.Prelude.{◌≡◌, ◌+ℤ◌, pos, int_lt};
-ghost use Rattle.tl_check_heights.specs.Heights.{height as height_by, widest, low_end, high_end};
+ghost use Rattle.tl_check_planar.specs.ByHeight.Heights.{height as height_by, widest, low_end, high_end};
 
 use tl_geom::{Point, Segment};
 

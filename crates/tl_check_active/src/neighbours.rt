@@ -1,8 +1,8 @@
 //! What is tested of segments that stand side by side.
 ghost use Rattle.std.specs.Prelude.{◌↔◌, ◌≤ℤ◌, ◌⊎◌, pos, IsTrue};
 ghost use Rattle.tl_geom.specs.Plane.{turn_of};
-ghost use Rattle.tl_check_heights.specs.Heights.{widest};
-ghost use Rattle.tl_check_heights.specs.Neighbours.{IsWestOf, AreApartOrAtEnds, AreTested};
+ghost use Rattle.tl_check_planar.specs.ByHeight.Heights.{widest};
+ghost use Rattle.tl_check_planar.specs.ByHeight.Neighbours.{IsWestOf, AreApartOrAtEnds, AreTested};
 
 use crate::heights::{ends, is_lower};
 use tl_geom::{Contact, Point, Rect, Segment, contact, turn};

@@ -1,7 +1,7 @@
 //! What leaves the list of active segments at a vertex and what enters it, with the tests of all that become neighbours there.
 ghost use Rattle.std.specs.Prelude.{◌≡◌, ◌++◌, ◌∷◌, ℕ, Some, [], IfOk, IsTrue, length};
-ghost use Rattle.tl_check_heights.specs.Heights.{widest};
-ghost use Rattle.tl_check_heights.specs.Neighbours.{AreTested, EachTwo};
+ghost use Rattle.tl_check_planar.specs.ByHeight.Heights.{widest};
+ghost use Rattle.tl_check_planar.specs.ByHeight.Neighbours.{AreTested, EachTwo};
 ghost use Rattle.tl_check_active.specs.Bent.{IsBent};
 ghost use Rattle.tl_check_active.specs.Lined.{list_of};
 

@@ -5,7 +5,7 @@ use Rattle.std.specs.List.{AllZip}
 use Rattle.std.proofs.lemmas.List.Elements.{All-head}
 use Rattle.tl_map_county.specs.TheMap.{TheMap}
 use Rattle.tl_check_planar.specs.Planar.{IsPlanar}
-use Rattle.tl_check_heights.specs.Heights.{widest}
+use Rattle.tl_check_planar.specs.ByHeight.Heights.{widest}
 use Rattle.tl_check_faces.specs.Facing.{FacesAgree}
 use Rattle.tl_check_faces.specs.Lists.{AreAllNear}
 use Rattle.tl_check_faces.specs.declared.odd.OddGap.{OddGap}

@@ -4,11 +4,11 @@ use Rattle.tl_geom.specs.declared.rational.Rational.{Rational}
 use Rattle.tl_geom.specs.declared.segment.Segment.{Segment}
 use Rattle.tl_map_county.specs.TheMap.{MapChain}
 use Rattle.tl_check_planar.specs.Planar.{IsPlanar}
-use Rattle.tl_check_heights.specs.Heights.{AreNear, low_end, high_end, turn_at}
-use Rattle.tl_check_heights.specs.Neighbours.{IsNumbered, IsWestOf, AreTested, AreApartOrAtEnds}
-use Rattle.tl_check_heights.specs.Slabs.{IsActive}
-use Rattle.tl_check_heights.proofs.Rising.{AreEndsOf, above_zero}
-use Rattle.tl_check_heights.proofs.Lying.{heights_of}
+use Rattle.tl_check_planar.specs.ByHeight.Heights.{AreNear, low_end, high_end, turn_at}
+use Rattle.tl_check_planar.specs.ByHeight.Neighbours.{IsNumbered, IsWestOf, AreTested, AreApartOrAtEnds}
+use Rattle.tl_check_planar.specs.ByHeight.Slabs.{IsActive}
+use Rattle.tl_check_planar.proofs.ByHeight.Rising.{AreEndsOf, above_zero}
+use Rattle.tl_check_planar.proofs.ByHeight.Lying.{heights_of}
 use Rattle.tl_check_faces.specs.Lists.{AreAllNear}
 use Rattle.tl_check_faces.specs.Disagreements.{IsInSlab, IsMidway}
 use Rattle.tl_check_faces.proofs.Lines.{IsWestward, level_with, turn_of_west, met}

@@ -7,9 +7,9 @@ use Rattle.tl_geom.specs.declared.point.Point.{Point}
 use Rattle.tl_geom.specs.declared.segment.Segment.{Segment}
 use Rattle.tl_map_county.specs.TheMap.{MapChain}
 use Rattle.tl_map_county.specs.Segments.{segments_before}
-use Rattle.tl_check_heights.specs.Heights.{height, widest}
-use Rattle.tl_check_heights.specs.Neighbours.{IsNumbered}
-use Rattle.tl_check_heights.specs.Slabs.{IsActive, IsListOf}
+use Rattle.tl_check_planar.specs.ByHeight.Heights.{height, widest}
+use Rattle.tl_check_planar.specs.ByHeight.Neighbours.{IsNumbered}
+use Rattle.tl_check_planar.specs.ByHeight.Slabs.{IsActive, IsListOf}
 use Rattle.tl_check_faces.specs.Lists.{AreAllNear}
 use Rattle.tl_check_faces.specs.declared.odd.OddGap.{OddGap}
 use Rattle.tl_check_faces.specs.Odd.{IsOddGap}

@@ -11,8 +11,8 @@ use Rattle.tl_geom.proofs.Places.{same_sym, same_trans}
 use Rattle.tl_map_county.specs.declared.sides.Side.{Side}
 use Rattle.tl_map_county.specs.TheMap.{TheMap, MapChain}
 use Rattle.tl_check_planar.proofs.Numbering.{HaveSameEnds}
-use Rattle.tl_check_heights.specs.Heights.{height, widest, low_end, high_end}
-use Rattle.tl_check_heights.proofs.Numbered.{one_segment}
+use Rattle.tl_check_planar.specs.ByHeight.Heights.{height, widest, low_end, high_end}
+use Rattle.tl_check_planar.proofs.ByHeight.Numbered.{one_segment}
 use Rattle.tl_check_faces.specs.Disagreements.{IsMidway}
 use Rattle.tl_check_faces.specs.Odd.{IsOddGap}
 use Rattle.tl_check_faces.specs.declared.odd.OddGap.{OddGap}

@@ -4,7 +4,7 @@ use Rattle.tl_geom.specs.declared.point.Point.{Point}
 use Rattle.tl_geom.specs.declared.rational.Rational.{Rational}
 use Rattle.tl_geom.proofs.Polynomials.{num, ◌⊕◌, ◌⊖◌, ◌⊗◌, same}
 use Rattle.tl_geom.specs.declared.segment.Segment.{Segment}
-use Rattle.tl_check_heights.specs.Heights.{height, widest, low_end, high_end}
+use Rattle.tl_check_planar.specs.ByHeight.Heights.{height, widest, low_end, high_end}
 use Rattle.tl_check_faces.specs.Disagreements.{IsMidway, twice_risen}
 
 -- how far it has risen midway, twice, by the numbers on the way to it

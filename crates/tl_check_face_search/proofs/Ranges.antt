@@ -7,8 +7,8 @@ use Rattle.tl_geom.specs.declared.point.Point.{Point}
 use Rattle.tl_geom.specs.declared.segment.Segment.{Segment}
 use Rattle.tl_map_county.specs.TheMap.{MapChain}
 use Rattle.tl_check_planar.specs.Keeping.Apart.{one_found}
-use Rattle.tl_check_heights.specs.Heights.{height, widest, AreNear, low_end, high_end}
-use Rattle.tl_check_heights.proofs.Rising.{ends_of}
+use Rattle.tl_check_planar.specs.ByHeight.Heights.{height, widest, AreNear, low_end, high_end}
+use Rattle.tl_check_planar.proofs.ByHeight.Rising.{ends_of}
 use Rattle.tl_check_faces.specs.Lists.{AreAllNear}
 use Rattle.tl_check_active.specs.Ranges.{IsInRange}
 use Rattle.tl_check_active.proofs.Wide.{near_by_range}

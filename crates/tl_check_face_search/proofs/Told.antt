@@ -12,9 +12,9 @@ use Rattle.tl_map_county.specs.Segments.{segments_before, IsSegmentOf}
 use Rattle.tl_check_planar.specs.Planar.{IsPlanar}
 use Rattle.tl_check_planar.specs.Keeping.Apart.{one_found}
 use Rattle.tl_check_planar.proofs.Numbering.{one_chain, below_total}
-use Rattle.tl_check_heights.specs.Heights.{height, widest}
-use Rattle.tl_check_heights.specs.Neighbours.{IsNumbered}
-use Rattle.tl_check_heights.specs.Slabs.{IsListOf}
+use Rattle.tl_check_planar.specs.ByHeight.Heights.{height, widest}
+use Rattle.tl_check_planar.specs.ByHeight.Neighbours.{IsNumbered}
+use Rattle.tl_check_planar.specs.ByHeight.Slabs.{IsListOf}
 use Rattle.tl_check_faces.specs.Facing.{IsStrictlyOn}
 use Rattle.tl_check_faces.specs.Lists.{west_side, east_side, AreAllNear}
 use Rattle.tl_check_faces.specs.Odd.{IsOddGap, NamesWest, NamesEast, IsNamedWest, IsNamedEast, first_number, last_number}

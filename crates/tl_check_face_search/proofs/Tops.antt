@@ -7,11 +7,11 @@ use Rattle.tl_geom.specs.declared.segment.Segment.{Segment}
 use Rattle.tl_map_county.specs.TheMap.{MapChain}
 use Rattle.tl_map_county.specs.Segments.{segments_before}
 use Rattle.tl_check_planar.proofs.Numbering.{below_total, HaveSameEnds}
-use Rattle.tl_check_heights.specs.Heights.{height, low_end, high_end}
-use Rattle.tl_check_heights.specs.Neighbours.{IsNumbered}
-use Rattle.tl_check_heights.specs.Slabs.{IsActive}
-use Rattle.tl_check_heights.proofs.Rising.{AreEndsOf, ends_of}
-use Rattle.tl_check_heights.proofs.Numbered.{one_segment}
+use Rattle.tl_check_planar.specs.ByHeight.Heights.{height, low_end, high_end}
+use Rattle.tl_check_planar.specs.ByHeight.Neighbours.{IsNumbered}
+use Rattle.tl_check_planar.specs.ByHeight.Slabs.{IsActive}
+use Rattle.tl_check_planar.proofs.ByHeight.Rising.{AreEndsOf, ends_of}
+use Rattle.tl_check_planar.proofs.ByHeight.Numbered.{one_segment}
 use Rattle.tl_check_faces.specs.Lists.{AreAllNear}
 use Rattle.tl_check_sweep.proofs.Unique.{own_near}
 

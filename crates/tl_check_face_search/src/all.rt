@@ -1,7 +1,7 @@
 //! All faces that disagree, as a user is told of them.
 ghost use Rattle.std.specs.Prelude.{◌≡◌, ◌↔◌, [], All, IfOk, IfSome};
 ghost use Rattle.tl_check_planar.specs.Planar.{IsPlanar};
-ghost use Rattle.tl_check_heights.specs.Heights.{widest};
+ghost use Rattle.tl_check_planar.specs.ByHeight.Heights.{widest};
 ghost use Rattle.tl_check_faces.specs.Facing.{FacesAgree};
 ghost use Rattle.tl_check_faces.specs.Odd.{IsLowestOddGap};
 ghost use Rattle.tl_check_faces.specs.Faults.{IsTrueFaceFault};

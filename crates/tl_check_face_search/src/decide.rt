@@ -1,7 +1,7 @@
 //! Whether faces agree: by what a sweep has told of gaps, and where that is nothing, slab by slab.
 ghost use Rattle.std.specs.Prelude.{◌≡◌, [], None, Some, All, IfOk, IfSome};
 ghost use Rattle.tl_check_planar.specs.Planar.{IsPlanar};
-ghost use Rattle.tl_check_heights.specs.Heights.{widest};
+ghost use Rattle.tl_check_planar.specs.ByHeight.Heights.{widest};
 ghost use Rattle.tl_check_faces.specs.Facing.{FacesAgree};
 ghost use Rattle.tl_check_faces.specs.Odd.{IsLowestOddGap};
 ghost use Rattle.tl_check_faces.specs.declared.fault.FaceFault.{FaceFault};

@@ -2,7 +2,7 @@
 ghost use Rattle.std.specs.Prelude.{◌≡◌, ◌<◌, length};
 ghost use Rattle.tl_map_county.specs.Segments.{segments_before};
 ghost use Rattle.tl_check_planar.specs.Planar.{IsPlanar};
-ghost use Rattle.tl_check_heights.specs.Heights.{height, widest};
+ghost use Rattle.tl_check_planar.specs.ByHeight.Heights.{height, widest};
 ghost use Rattle.tl_check_faces.specs.Odd.{IsLowestOddGap};
 ghost use Rattle.tl_check_faces.specs.Faults.{side_key, IsTrueFaceFault, IsWestFace, IsEastFace, IsOfGap};
 ghost use Rattle.tl_check_face_search.specs.Keeping.Told.{IsFaceOf};

@@ -1,7 +1,7 @@
 //! Gaps whose facing sides differ, told slab by slab.
 ghost use Rattle.std.specs.Prelude.{◌≡◌, [], All, IfOk};
 ghost use Rattle.tl_check_planar.specs.Planar.{IsPlanar};
-ghost use Rattle.tl_check_heights.specs.Heights.{height, widest};
+ghost use Rattle.tl_check_planar.specs.ByHeight.Heights.{height, widest};
 ghost use Rattle.tl_check_faces.specs.Facing.{FacesAgree};
 ghost use Rattle.tl_check_faces.specs.Lists.{AreAllNear};
 ghost use Rattle.tl_check_faces.specs.Odd.{IsLowestOddGap};

@@ -3,7 +3,7 @@ ghost use Rattle.std.specs.Prelude.{◌≢◌, List};
 ghost use Rattle.std.specs.List.{AllPairs, Contains};
 ghost use Rattle.tl_map_county.specs.TheMap.{TheMap};
 ghost use Rattle.tl_check_planar.specs.Planar.{IsPlanar};
-ghost use Rattle.tl_check_heights.specs.Heights.{widest};
+ghost use Rattle.tl_check_planar.specs.ByHeight.Heights.{widest};
 ghost use Rattle.tl_check_faces.specs.Lists.{AreAllNear};
 ghost use Rattle.tl_check_faces.specs.declared.fault.FaceFault.{FaceFault};
 ghost use Rattle.tl_check_faces.specs.Faults.{IsTrueFaceFault};

@@ -1,6 +1,6 @@
 //! Places of segments midway between a height and the next.
 ghost use Rattle.std.specs.Prelude.{◌≡◌, ◌<◌, ◌^◌, ◌-ℤ◌, ◌+ℤ◌, ◌*ℤ◌, ◌<ℤ◌, pos, unsigned_abs};
-ghost use Rattle.tl_check_heights.specs.Heights.{height as height_by, widest, low_end, high_end};
+ghost use Rattle.tl_check_planar.specs.ByHeight.Heights.{height as height_by, widest, low_end, high_end};
 ghost use Rattle.tl_check_faces.specs.Disagreements.{IsMidway};
 
 use tl_check_active::{ends, height};

@@ -1,5 +1,5 @@
 //! That the points of a map's chains are near one another.
-ghost use Rattle.tl_check_heights.specs.Heights.{widest};
+ghost use Rattle.tl_check_planar.specs.ByHeight.Heights.{widest};
 ghost use Rattle.tl_check_faces.specs.Lists.{AreAllNear};
 ghost use Rattle.tl_check_active.specs.Ranges.{IsInRange};
 ghost use Rattle.tl_check_face_search.specs.Keeping.Ranges.{ArePointsInRange};

@@ -1,9 +1,9 @@
 //! Which of two segments is west of the other, and which are active above a height.
 ghost use Rattle.std.specs.Prelude.{◌≡◌, ◌≢◌, ◌↔◌, false, IsTrue};
 ghost use Rattle.tl_check_planar.specs.Planar.{IsPlanar};
-ghost use Rattle.tl_check_heights.specs.Heights.{height as height_by, widest};
-ghost use Rattle.tl_check_heights.specs.Neighbours.{AreTested};
-ghost use Rattle.tl_check_heights.specs.Slabs.{IsActive};
+ghost use Rattle.tl_check_planar.specs.ByHeight.Heights.{height as height_by, widest};
+ghost use Rattle.tl_check_planar.specs.ByHeight.Neighbours.{AreTested};
+ghost use Rattle.tl_check_planar.specs.ByHeight.Slabs.{IsActive};
 ghost use Rattle.tl_check_faces.specs.Lists.{AreAllNear};
 ghost use Rattle.tl_check_face_search.specs.Keeping.Slabs.{IsBegun};
 

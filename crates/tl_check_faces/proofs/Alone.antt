@@ -14,8 +14,8 @@ use Rattle.tl_check_planar.specs.Planar.{IsOnSegment, IsChainEnd, MayShareWithin
 use Rattle.tl_check_planar.specs.Keeping.Apart.{one_found}
 use Rattle.tl_check_planar.proofs.Ends.{at_vertex}
 use Rattle.tl_check_planar.proofs.Numbering.{HaveSameEnds}
-use Rattle.tl_check_heights.specs.Neighbours.{IsNumbered}
-use Rattle.tl_check_heights.proofs.Numbered.{one_segment}
+use Rattle.tl_check_planar.specs.ByHeight.Neighbours.{IsNumbered}
+use Rattle.tl_check_planar.proofs.ByHeight.Numbered.{one_segment}
 use Rattle.tl_check_faces.specs.Facing.{IsStrictlyOn}
 use Rattle.tl_check_faces.proofs.Ends.{IsEndIn, chain_end, on_place}
 use Rattle.tl_check_faces.proofs.Items.{IsNoEnd}

@@ -13,8 +13,8 @@ use Rattle.tl_map_county.specs.TheMap.{MapChain}
 use Rattle.tl_map_county.specs.Segments.{segments_before}
 use Rattle.tl_check_planar.specs.Planar.{IsOnSegment, IsOnChain, IsPlanar}
 use Rattle.tl_check_planar.proofs.Numbering.{below_total}
-use Rattle.tl_check_heights.specs.Neighbours.{IsNumbered}
-use Rattle.tl_check_heights.proofs.Numbered.{one_segment, on_same}
+use Rattle.tl_check_planar.specs.ByHeight.Neighbours.{IsNumbered}
+use Rattle.tl_check_planar.proofs.ByHeight.Numbered.{one_segment, on_same}
 use Rattle.tl_check_faces.specs.Facing.{IsStrictlyOn, IsClearBetween, IsClearFrom, IsSideToward, FacesAgree, step_x, step_y}
 use Rattle.tl_check_faces.proofs.Steep.{IsSpanned}
 use Rattle.tl_check_faces.proofs.Bounds.{IsSteep}

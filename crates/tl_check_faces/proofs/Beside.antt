@@ -7,7 +7,7 @@ use Rattle.tl_geom.specs.declared.rational.Rational.{Rational}
 use Rattle.tl_geom.specs.declared.segment.Segment.{Segment}
 use Rattle.tl_geom.proofs.Polynomials.{num, ◌⊕◌, ◌⊖◌, ◌⊗◌, same, same_by}
 use Rattle.tl_geom.proofs.Signs.{mono, mono_lt, product_at_least, product_above, times_zero}
-use Rattle.tl_check_heights.specs.Heights.{turn_at}
+use Rattle.tl_check_planar.specs.ByHeight.Heights.{turn_at}
 use Rattle.tl_check_faces.specs.Facing.{step_x, step_y}
 use Rattle.tl_check_faces.proofs.Touching.{IsApart, line_to, touch_right, touch_left}
 

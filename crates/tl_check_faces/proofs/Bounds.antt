@@ -9,8 +9,8 @@ use Rattle.tl_geom.proofs.Polynomials.{num, ◌⊖◌, ◌⊗◌, same}
 use Rattle.tl_geom.proofs.Signs.{mono, product_at_least}
 use Rattle.tl_map_county.specs.TheMap.{MapChain}
 use Rattle.tl_check_planar.specs.Keeping.Apart.{one_found}
-use Rattle.tl_check_heights.specs.Heights.{AreNear}
-use Rattle.tl_check_heights.specs.Neighbours.{IsNumbered}
+use Rattle.tl_check_planar.specs.ByHeight.Heights.{AreNear}
+use Rattle.tl_check_planar.specs.ByHeight.Neighbours.{IsNumbered}
 use Rattle.tl_check_faces.proofs.Steep.{IsNearTo}
 
 -- neither coordinate is further from 0 than the bound

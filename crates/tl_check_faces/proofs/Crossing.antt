@@ -8,8 +8,8 @@ use Rattle.tl_geom.specs.Plane.{cross}
 use Rattle.tl_geom.proofs.Polynomials.{num, ◌⊕◌, ◌⊖◌, ◌⊗◌, same, same_by_two}
 use Rattle.tl_geom.proofs.Signs.{cancel_lt, product_above}
 use Rattle.tl_geom.proofs.Places.{place, place_on}
-use Rattle.tl_check_heights.specs.Heights.{turn_at}
-use Rattle.tl_check_heights.proofs.Lying.{turned}
+use Rattle.tl_check_planar.specs.ByHeight.Heights.{turn_at}
+use Rattle.tl_check_planar.proofs.ByHeight.Lying.{turned}
 use Rattle.tl_check_faces.specs.Rays.{CrossesAt}
 use Rattle.tl_check_faces.proofs.Numbers.{above_by}
 

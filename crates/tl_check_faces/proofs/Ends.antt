@@ -17,7 +17,7 @@ use Rattle.tl_check_planar.specs.Meets.{IsSharedBy, IsAllowed}
 use Rattle.tl_check_planar.specs.Keeping.Apart.{one_found}
 use Rattle.tl_check_planar.proofs.Ends.{at_vertex}
 use Rattle.tl_check_planar.proofs.Planes.{planar_free, one_points}
-use Rattle.tl_check_heights.specs.Neighbours.{IsNumbered}
+use Rattle.tl_check_planar.specs.ByHeight.Neighbours.{IsNumbered}
 
 -- the rational point is an end of a segment of a chain
 pub record IsSomeEnd (chains : List MapChain) (r : Rational) : Type 0 where

@@ -10,10 +10,10 @@ use Rattle.tl_map_county.specs.TheMap.{MapChain}
 use Rattle.tl_tree_index.specs.Hits.{times}
 use Rattle.tl_check_planar.specs.Planar.{IsPlanar}
 use Rattle.tl_check_planar.proofs.Numbering.{below_total}
-use Rattle.tl_check_heights.specs.Heights.{low_end, high_end}
-use Rattle.tl_check_heights.specs.Neighbours.{IsWestOf, AreTested, EachTwo}
-use Rattle.tl_check_heights.specs.Slabs.{IsActive, IsListOf}
-use Rattle.tl_check_heights.proofs.Walking.{all_head, all_tail}
+use Rattle.tl_check_planar.specs.ByHeight.Heights.{low_end, high_end}
+use Rattle.tl_check_planar.specs.ByHeight.Neighbours.{IsWestOf, AreTested, EachTwo}
+use Rattle.tl_check_planar.specs.ByHeight.Slabs.{IsActive, IsListOf}
+use Rattle.tl_check_planar.proofs.ByHeight.Walking.{all_head, all_tail}
 use Rattle.tl_check_faces.specs.Lists.{west_side, east_side, AreFacingFrom, AreSlabsFacing, AreAllNear}
 use Rattle.tl_check_faces.proofs.Steep.{IsSpanned}
 use Rattle.tl_check_faces.proofs.Bounds.{IsSteep}

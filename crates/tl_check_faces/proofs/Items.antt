@@ -15,10 +15,10 @@ use Rattle.tl_map_county.specs.TheMap.{MapChain}
 use Rattle.tl_map_county.specs.Segments.{segments_before}
 use Rattle.tl_check_planar.specs.Planar.{IsPlanar}
 use Rattle.tl_check_planar.proofs.Ends.{products_by_same}
-use Rattle.tl_check_heights.specs.Heights.{height, height_of, AreNear, low_end, high_end}
-use Rattle.tl_check_heights.specs.Neighbours.{IsNumbered}
-use Rattle.tl_check_heights.proofs.Rising.{AreEndsOf, ends_of}
-use Rattle.tl_check_heights.proofs.Lying.{heights_of}
+use Rattle.tl_check_planar.specs.ByHeight.Heights.{height, height_of, AreNear, low_end, high_end}
+use Rattle.tl_check_planar.specs.ByHeight.Neighbours.{IsNumbered}
+use Rattle.tl_check_planar.proofs.ByHeight.Rising.{AreEndsOf, ends_of}
+use Rattle.tl_check_planar.proofs.ByHeight.Lying.{heights_of}
 use Rattle.tl_check_faces.specs.Facing.{IsOfChain}
 use Rattle.tl_check_faces.proofs.Steep.{IsSpanned, one_height}
 use Rattle.tl_check_faces.proofs.Bounds.{IsSteep}

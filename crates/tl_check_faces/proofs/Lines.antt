@@ -7,10 +7,10 @@ use Rattle.tl_geom.specs.declared.segment.Segment.{Segment}
 use Rattle.tl_geom.specs.Plane.{IsOn, IsSame, cross}
 use Rattle.tl_geom.proofs.Polynomials.{num, ◌⊕◌, ◌⊖◌, ◌⊗◌, same, same_by_two}
 use Rattle.tl_geom.proofs.Signs.{cancel, product_above, product_at_least, times_zero}
-use Rattle.tl_check_heights.specs.Heights.{height, height_of, low_end, high_end, turn_at}
-use Rattle.tl_check_heights.proofs.Order.{lean}
-use Rattle.tl_check_heights.proofs.Rising.{AreEndsOf}
-use Rattle.tl_check_heights.proofs.Lying.{lies_on}
+use Rattle.tl_check_planar.specs.ByHeight.Heights.{height, height_of, low_end, high_end, turn_at}
+use Rattle.tl_check_planar.proofs.ByHeight.Order.{lean}
+use Rattle.tl_check_planar.proofs.ByHeight.Rising.{AreEndsOf}
+use Rattle.tl_check_planar.proofs.ByHeight.Lying.{lies_on}
 use Rattle.tl_check_faces.proofs.Numbers.{above_by, below_by, zero_by}
 use Rattle.tl_check_faces.proofs.Steep.{IsSpanned}
 

@@ -13,13 +13,13 @@ use Rattle.tl_map_county.specs.declared.sides.Side.TheVariants.{Outside}
 use Rattle.tl_map_county.specs.TheMap.{MapChain}
 use Rattle.tl_check_planar.specs.Planar.{IsPlanar}
 use Rattle.tl_check_planar.proofs.Numbering.{HaveSameEnds}
-use Rattle.tl_check_heights.specs.Heights.{height, height_of, AreNear, low_end, high_end, turn_at}
-use Rattle.tl_check_heights.specs.Neighbours.{IsNumbered}
-use Rattle.tl_check_heights.specs.Slabs.{IsActive, IsListOf}
-use Rattle.tl_check_heights.proofs.Rising.{AreEndsOf, ends_of}
-use Rattle.tl_check_heights.proofs.Lying.{lies_on}
-use Rattle.tl_check_heights.proofs.Numbered.{one_segment}
-use Rattle.tl_check_heights.proofs.Walking.{all_head, all_tail}
+use Rattle.tl_check_planar.specs.ByHeight.Heights.{height, height_of, AreNear, low_end, high_end, turn_at}
+use Rattle.tl_check_planar.specs.ByHeight.Neighbours.{IsNumbered}
+use Rattle.tl_check_planar.specs.ByHeight.Slabs.{IsActive, IsListOf}
+use Rattle.tl_check_planar.proofs.ByHeight.Rising.{AreEndsOf, ends_of}
+use Rattle.tl_check_planar.proofs.ByHeight.Lying.{lies_on}
+use Rattle.tl_check_planar.proofs.ByHeight.Numbered.{one_segment}
+use Rattle.tl_check_planar.proofs.ByHeight.Walking.{all_head, all_tail}
 use Rattle.tl_check_faces.specs.Lists.{west_side, east_side, AreAllNear}
 use Rattle.tl_check_faces.specs.Disagreements.{facing_west, facing_east, IsFaceDisagreement, IsOutwardDisagreement, IsInSlab, IsMidway, HaveOneHeight, twice_rise, twice_risen}
 use Rattle.tl_check_faces.proofs.Lines.{straight_by, height_by}

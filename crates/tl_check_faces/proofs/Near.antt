@@ -5,7 +5,7 @@ use Rattle.tl_geom.specs.declared.point.Point.{Point}
 use Rattle.tl_geom.specs.declared.rational.Rational.{Rational}
 use Rattle.tl_geom.proofs.Polynomials.{num, ◌⊕◌, ◌⊖◌, ◌⊗◌, same}
 use Rattle.tl_geom.proofs.Signs.{mono, cancel_lt, product_at_least, at_least_of_product, above_of_product, sign}
-use Rattle.tl_check_heights.specs.Heights.{turn_at}
+use Rattle.tl_check_planar.specs.ByHeight.Heights.{turn_at}
 use Rattle.tl_check_faces.specs.Facing.{step_x, step_y}
 use Rattle.tl_check_faces.specs.Truth.{IsNearer}
 use Rattle.tl_check_faces.proofs.Crossing.{IsEastUp, IsWestUp}

@@ -12,10 +12,10 @@ use Rattle.tl_map_county.specs.Segments.{segments_before}
 use Rattle.tl_tree_index.specs.Hits.{times}
 use Rattle.tl_check_planar.specs.Planar.{IsPlanar}
 use Rattle.tl_check_planar.proofs.Numbering.{below_total}
-use Rattle.tl_check_heights.specs.Heights.{AreNear}
-use Rattle.tl_check_heights.specs.Neighbours.{IsNumbered, AreTested, EachTwo}
-use Rattle.tl_check_heights.specs.Slabs.{IsActive, IsListOf, IsPointOf}
-use Rattle.tl_check_heights.proofs.Walking.{all_head, all_tail}
+use Rattle.tl_check_planar.specs.ByHeight.Heights.{AreNear}
+use Rattle.tl_check_planar.specs.ByHeight.Neighbours.{IsNumbered, AreTested, EachTwo}
+use Rattle.tl_check_planar.specs.ByHeight.Slabs.{IsActive, IsListOf, IsPointOf}
+use Rattle.tl_check_planar.proofs.ByHeight.Walking.{all_head, all_tail}
 use Rattle.tl_check_faces.specs.Facing.{FacesAgree}
 use Rattle.tl_check_faces.specs.Lists.{west_side, east_side, AreAllNear}
 use Rattle.tl_check_faces.specs.Disagreements.{FacingSide, facing_west, facing_east, IsFaceDisagreement, IsOutwardDisagreement, IsInSlab, HaveOneHeight}

@@ -15,10 +15,10 @@ use Rattle.tl_map_county.specs.Segments.{segments_before}
 use Rattle.tl_tree_index.specs.Hits.{times, AreHits}
 use Rattle.tl_check_planar.proofs.Numbering.{below_total, HaveSameEnds}
 use Rattle.tl_check_inside.specs.Inside.{flanks_at, balance, is_polygon}
-use Rattle.tl_check_heights.specs.Heights.{low_end, high_end, turn_at}
-use Rattle.tl_check_heights.specs.Neighbours.{IsNumbered}
-use Rattle.tl_check_heights.proofs.Lying.{heights_of, lies_on}
-use Rattle.tl_check_heights.proofs.Numbered.{one_segment}
+use Rattle.tl_check_planar.specs.ByHeight.Heights.{low_end, high_end, turn_at}
+use Rattle.tl_check_planar.specs.ByHeight.Neighbours.{IsNumbered}
+use Rattle.tl_check_planar.proofs.ByHeight.Lying.{heights_of, lies_on}
+use Rattle.tl_check_planar.proofs.ByHeight.Numbered.{one_segment}
 use Rattle.tl_check_faces.specs.Rays.{IsCrossedAt, IsCountAt}
 use Rattle.tl_check_faces.specs.Facing.{IsOff}
 use Rattle.tl_check_faces.specs.Truth.{LiesAt, HasOnePolygon}

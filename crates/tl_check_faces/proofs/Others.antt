@@ -7,10 +7,10 @@ use Rattle.tl_geom.specs.declared.segment.Segment.{Segment}
 use Rattle.tl_geom.specs.Plane.{IsOn}
 use Rattle.tl_map_county.specs.TheMap.{MapChain}
 use Rattle.tl_check_planar.specs.Planar.{IsPlanar}
-use Rattle.tl_check_heights.specs.Heights.{height, low_end, high_end, turn_at}
-use Rattle.tl_check_heights.specs.Neighbours.{IsNumbered}
-use Rattle.tl_check_heights.proofs.Rising.{AreEndsOf, ends_of, higher}
-use Rattle.tl_check_heights.proofs.Lying.{lies_on}
+use Rattle.tl_check_planar.specs.ByHeight.Heights.{height, low_end, high_end, turn_at}
+use Rattle.tl_check_planar.specs.ByHeight.Neighbours.{IsNumbered}
+use Rattle.tl_check_planar.proofs.ByHeight.Rising.{AreEndsOf, ends_of, higher}
+use Rattle.tl_check_planar.proofs.ByHeight.Lying.{lies_on}
 use Rattle.tl_check_faces.specs.Facing.{IsStrictlyOn, step_y}
 use Rattle.tl_check_faces.specs.Truth.{IsNearer}
 use Rattle.tl_check_faces.proofs.Crossing.{IsEast, IsWest}

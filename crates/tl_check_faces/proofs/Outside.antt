@@ -11,7 +11,7 @@ use Rattle.tl_map_county.specs.TheMap.{MapChain}
 use Rattle.tl_map_county.specs.Segments.{segments_before}
 use Rattle.tl_tree_index.specs.Hits.{AreHits}
 use Rattle.tl_check_inside.specs.Inside.{is_polygon}
-use Rattle.tl_check_heights.specs.Neighbours.{IsNumbered}
+use Rattle.tl_check_planar.specs.ByHeight.Neighbours.{IsNumbered}
 use Rattle.tl_check_faces.specs.Facing.{IsOff}
 use Rattle.tl_check_faces.specs.Truth.{LiesAt}
 use Rattle.tl_check_faces.proofs.Crossing.{IsEastUp, IsWestUp}

@@ -8,10 +8,10 @@ use Rattle.tl_geom.proofs.Polynomials.{num, ◌⊖◌, ◌⊗◌, same}
 use Rattle.tl_geom.proofs.Signs.{mono, product_at_least}
 use Rattle.tl_map_county.specs.TheMap.{MapChain}
 use Rattle.tl_check_planar.proofs.Numbering.{HaveSameEnds}
-use Rattle.tl_check_heights.specs.Heights.{height, height_of, AreNear, low_end, high_end, turn_at}
-use Rattle.tl_check_heights.specs.Neighbours.{IsNumbered}
-use Rattle.tl_check_heights.proofs.Rising.{AreEndsOf, ends_of, higher}
-use Rattle.tl_check_heights.proofs.Numbered.{one_segment}
+use Rattle.tl_check_planar.specs.ByHeight.Heights.{height, height_of, AreNear, low_end, high_end, turn_at}
+use Rattle.tl_check_planar.specs.ByHeight.Neighbours.{IsNumbered}
+use Rattle.tl_check_planar.proofs.ByHeight.Rising.{AreEndsOf, ends_of, higher}
+use Rattle.tl_check_planar.proofs.ByHeight.Numbered.{one_segment}
 use Rattle.tl_check_faces.specs.Facing.{step_y}
 use Rattle.tl_check_faces.specs.Truth.{IsNearer}
 use Rattle.tl_check_faces.proofs.Crossing.{IsEastUp, IsWestUp, IsEast, IsWest}

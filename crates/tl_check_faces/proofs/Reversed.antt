@@ -10,11 +10,11 @@ use Rattle.tl_geom.proofs.Polynomials.{num, ◌⊕◌, ◌⊖◌, ◌⊗◌, sam
 use Rattle.tl_geom.proofs.Signs.{cancel, zero_product, product_above, times_zero, sign}
 use Rattle.tl_map_county.specs.TheMap.{MapChain}
 use Rattle.tl_check_planar.specs.Planar.{IsPlanar}
-use Rattle.tl_check_heights.specs.Heights.{height, height_of, low_end, high_end, turn_at}
-use Rattle.tl_check_heights.specs.Neighbours.{IsNumbered}
-use Rattle.tl_check_heights.proofs.Order.{lean}
-use Rattle.tl_check_heights.proofs.Rising.{AreEndsOf}
-use Rattle.tl_check_heights.proofs.Lying.{heights_of, lies_on}
+use Rattle.tl_check_planar.specs.ByHeight.Heights.{height, height_of, low_end, high_end, turn_at}
+use Rattle.tl_check_planar.specs.ByHeight.Neighbours.{IsNumbered}
+use Rattle.tl_check_planar.proofs.ByHeight.Order.{lean}
+use Rattle.tl_check_planar.proofs.ByHeight.Rising.{AreEndsOf}
+use Rattle.tl_check_planar.proofs.ByHeight.Lying.{heights_of, lies_on}
 use Rattle.tl_check_faces.proofs.Numbers.{le_lt, lt_le}
 use Rattle.tl_check_faces.proofs.Steep.{IsSpanned}
 use Rattle.tl_check_faces.proofs.Lines.{AreLevel, IsMet, met}

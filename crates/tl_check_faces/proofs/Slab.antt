@@ -10,10 +10,10 @@ use Rattle.tl_geom.proofs.Signs.{mono, cancel_lt, cancel_le}
 use Rattle.tl_geom.proofs.Places.{point_same}
 use Rattle.tl_map_county.specs.TheMap.{MapChain}
 use Rattle.tl_check_planar.specs.Keeping.Apart.{one_found}
-use Rattle.tl_check_heights.specs.Heights.{height, height_of, AreNear, low_end, high_end}
-use Rattle.tl_check_heights.specs.Neighbours.{IsNumbered}
-use Rattle.tl_check_heights.specs.Slabs.{IsActive, IsPointOf}
-use Rattle.tl_check_heights.proofs.Rising.{AreEndsOf, ends_of, higher, higher_west}
+use Rattle.tl_check_planar.specs.ByHeight.Heights.{height, height_of, AreNear, low_end, high_end}
+use Rattle.tl_check_planar.specs.ByHeight.Neighbours.{IsNumbered}
+use Rattle.tl_check_planar.specs.ByHeight.Slabs.{IsActive, IsPointOf}
+use Rattle.tl_check_planar.proofs.ByHeight.Rising.{AreEndsOf, ends_of, higher, higher_west}
 use Rattle.tl_check_faces.specs.Lists.{AreAllNear}
 use Rattle.tl_check_faces.proofs.Steep.{IsNearTo, IsSpanned, north, south, level, not_north, not_south}
 use Rattle.tl_check_faces.proofs.Bounds.{IsBounded, AreBounded, IsSteep, some_bound}

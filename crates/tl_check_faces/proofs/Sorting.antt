@@ -15,9 +15,9 @@ use Rattle.tl_tree_index.proofs.Times.{same_or, times-same, times-other}
 use Rattle.tl_check_planar.specs.Planar.{IsPlanar}
 use Rattle.tl_check_planar.specs.Keeping.Apart.{one_found}
 use Rattle.tl_check_planar.proofs.Numbering.{one_chain, one_place, HaveSameEnds}
-use Rattle.tl_check_heights.specs.Heights.{height, height_of, low_end, high_end}
-use Rattle.tl_check_heights.specs.Neighbours.{IsNumbered}
-use Rattle.tl_check_heights.proofs.Numbered.{one_segment}
+use Rattle.tl_check_planar.specs.ByHeight.Heights.{height, height_of, low_end, high_end}
+use Rattle.tl_check_planar.specs.ByHeight.Neighbours.{IsNumbered}
+use Rattle.tl_check_planar.proofs.ByHeight.Numbered.{one_segment}
 use Rattle.tl_check_faces.proofs.Steep.{IsSpanned}
 use Rattle.tl_check_faces.proofs.Numbers.{le_lt}
 use Rattle.tl_check_faces.proofs.Lines.{IsWestward, met}

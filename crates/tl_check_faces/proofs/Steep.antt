@@ -8,8 +8,8 @@ use Rattle.tl_geom.specs.Plane.{IsSame, whole}
 use Rattle.tl_geom.proofs.Polynomials.{num, ◌⊖◌, ◌⊗◌, same}
 use Rattle.tl_geom.proofs.Signs.{mono, cancel_lt, cancel_le, product_at_least, zero_product}
 use Rattle.tl_check_planar.proofs.Ends.{same_by_products}
-use Rattle.tl_check_heights.specs.Heights.{height, height_of, AreNear, low_end, high_end, turn_at}
-use Rattle.tl_check_heights.proofs.Rising.{AreEndsOf, ends_of}
+use Rattle.tl_check_planar.specs.ByHeight.Heights.{height, height_of, AreNear, low_end, high_end, turn_at}
+use Rattle.tl_check_planar.proofs.ByHeight.Rising.{AreEndsOf, ends_of}
 use Rattle.tl_check_faces.proofs.Crossing.{IsEastUp, IsWestUp, IsEast, IsWest}
 
 -- K is above the difference of the longitudes of a rational point and a point, over the d of the first

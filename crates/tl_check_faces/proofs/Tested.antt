@@ -8,12 +8,12 @@ use Rattle.tl_map_county.specs.TheMap.{MapChain}
 use Rattle.tl_tree_index.specs.Hits.{times}
 use Rattle.tl_tree_index.proofs.Times.{times-same, same_or, times-other}
 use Rattle.tl_check_planar.specs.Planar.{IsPlanar}
-use Rattle.tl_check_heights.specs.Heights.{height, height_of, low_end, high_end, turn_at, Spans, IsNotEast}
-use Rattle.tl_check_heights.specs.Neighbours.{IsWestOf, AreTested, EachTwo}
-use Rattle.tl_check_heights.specs.Slabs.{IsActive, IsListOf}
-use Rattle.tl_check_heights.proofs.Lying.{heights_of}
-use Rattle.tl_check_heights.proofs.Transport.{not_east}
-use Rattle.tl_check_heights.proofs.Walking.{IsIn, in_by_times, all_head, all_tail}
+use Rattle.tl_check_planar.specs.ByHeight.Heights.{height, height_of, low_end, high_end, turn_at, Spans, IsNotEast}
+use Rattle.tl_check_planar.specs.ByHeight.Neighbours.{IsWestOf, AreTested, EachTwo}
+use Rattle.tl_check_planar.specs.ByHeight.Slabs.{IsActive, IsListOf}
+use Rattle.tl_check_planar.proofs.ByHeight.Lying.{heights_of}
+use Rattle.tl_check_planar.proofs.ByHeight.Transport.{not_east}
+use Rattle.tl_check_planar.proofs.ByHeight.Walking.{IsIn, in_by_times, all_head, all_tail}
 use Rattle.tl_check_faces.proofs.Numbers.{le_lt}
 use Rattle.tl_check_faces.proofs.Lines.{IsWestward, level_with, turn_of_east}
 use Rattle.tl_check_faces.proofs.Items.{Item, numbered, ends_of_item, one_west, scaled, scaled_above, IsLine}

@@ -10,11 +10,11 @@ use Rattle.tl_geom.proofs.Polynomials.{num, ◌⊗◌, same}
 use Rattle.tl_geom.proofs.Places as places
 use Rattle.tl_map_county.specs.TheMap.{MapChain}
 use Rattle.tl_check_planar.specs.Planar.{IsPlanar}
-use Rattle.tl_check_heights.specs.Heights.{height, height_of, low_end, high_end, turn_at}
-use Rattle.tl_check_heights.specs.Neighbours.{IsNumbered, IsWestOf, AreApartOrAtEnds}
-use Rattle.tl_check_heights.proofs.Order.{turn_whole, turn_first, turn_last}
-use Rattle.tl_check_heights.proofs.Rising.{AreEndsOf}
-use Rattle.tl_check_heights.proofs.Lying.{heights_of, at_first, at_last}
+use Rattle.tl_check_planar.specs.ByHeight.Heights.{height, height_of, low_end, high_end, turn_at}
+use Rattle.tl_check_planar.specs.ByHeight.Neighbours.{IsNumbered, IsWestOf, AreApartOrAtEnds}
+use Rattle.tl_check_planar.proofs.ByHeight.Order.{turn_whole, turn_first, turn_last}
+use Rattle.tl_check_planar.proofs.ByHeight.Rising.{AreEndsOf}
+use Rattle.tl_check_planar.proofs.ByHeight.Lying.{heights_of, at_first, at_last}
 use Rattle.tl_check_faces.specs.Facing.{IsStrictlyOn}
 use Rattle.tl_check_faces.proofs.Steep.{IsSpanned}
 use Rattle.tl_check_faces.proofs.Lines.{AreLevel}

@@ -10,10 +10,10 @@ use Rattle.tl_geom.proofs.Signs.{cancel, above_of_product}
 use Rattle.tl_map_county.specs.TheMap.{MapChain}
 use Rattle.tl_map_county.specs.Segments.{segments_before}
 use Rattle.tl_check_planar.specs.Planar.{IsPlanar}
-use Rattle.tl_check_heights.specs.Heights.{height_of}
-use Rattle.tl_check_heights.specs.Neighbours.{IsNumbered}
-use Rattle.tl_check_heights.specs.Slabs.{IsListOf}
-use Rattle.tl_check_heights.proofs.Numbered.{one_segment, on_same}
+use Rattle.tl_check_planar.specs.ByHeight.Heights.{height_of}
+use Rattle.tl_check_planar.specs.ByHeight.Neighbours.{IsNumbered}
+use Rattle.tl_check_planar.specs.ByHeight.Slabs.{IsListOf}
+use Rattle.tl_check_planar.proofs.ByHeight.Numbered.{one_segment, on_same}
 use Rattle.tl_check_faces.specs.Facing.{IsOff, IsStrictlyBetween, IsOnRay, IsClearBetween, IsClearFrom, step_x}
 use Rattle.tl_check_faces.specs.Lists.{AreAllNear}
 use Rattle.tl_check_faces.specs.Disagreements.{IsInSlab, HaveOneHeight}

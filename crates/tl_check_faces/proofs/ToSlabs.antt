@@ -13,12 +13,12 @@ use Rattle.tl_map_county.specs.TheMap.{MapChain}
 use Rattle.tl_check_planar.specs.Planar.{IsPlanar}
 use Rattle.tl_check_planar.specs.Keeping.Apart.{one_found}
 use Rattle.tl_check_planar.proofs.Numbering.{below_total, one_chain, HaveSameEnds}
-use Rattle.tl_check_heights.specs.Heights.{height, height_of, low_end, high_end, turn_at}
-use Rattle.tl_check_heights.specs.Neighbours.{IsNumbered, IsWestOf, AreTested, EachTwo, AreApartOrAtEnds}
-use Rattle.tl_check_heights.specs.Slabs.{IsListOf}
-use Rattle.tl_check_heights.proofs.Rising.{AreEndsOf}
-use Rattle.tl_check_heights.proofs.Lying.{heights_of}
-use Rattle.tl_check_heights.proofs.Numbered.{one_segment, on_same}
+use Rattle.tl_check_planar.specs.ByHeight.Heights.{height, height_of, low_end, high_end, turn_at}
+use Rattle.tl_check_planar.specs.ByHeight.Neighbours.{IsNumbered, IsWestOf, AreTested, EachTwo, AreApartOrAtEnds}
+use Rattle.tl_check_planar.specs.ByHeight.Slabs.{IsListOf}
+use Rattle.tl_check_planar.proofs.ByHeight.Rising.{AreEndsOf}
+use Rattle.tl_check_planar.proofs.ByHeight.Lying.{heights_of}
+use Rattle.tl_check_planar.proofs.ByHeight.Numbered.{one_segment, on_same}
 use Rattle.tl_check_faces.specs.Facing.{FacesAgree}
 use Rattle.tl_check_faces.specs.Lists.{west_side, east_side, AreFacingFrom, AreSlabsFacing, AreAllNear}
 use Rattle.tl_check_faces.specs.Disagreements.{IsInSlab}

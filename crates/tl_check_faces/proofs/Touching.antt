@@ -8,7 +8,7 @@ use Rattle.tl_geom.specs.Plane.{IsOn, IsSame}
 use Rattle.tl_geom.proofs.Polynomials.{num, ◌⊕◌, ◌⊖◌, ◌⊗◌, same, same_by}
 use Rattle.tl_geom.proofs.Signs.{product_above, sign}
 use Rattle.tl_geom.proofs.Places.{place, place_on, on_same}
-use Rattle.tl_check_heights.specs.Heights.{turn_at}
+use Rattle.tl_check_planar.specs.ByHeight.Heights.{turn_at}
 use Rattle.tl_check_faces.specs.Facing.{IsStrictlyBetween, step_x, step_y}
 use Rattle.tl_check_faces.proofs.Means.{mean, mean_turn, mean_north, mean_south}
 

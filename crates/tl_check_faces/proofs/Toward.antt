@@ -12,8 +12,8 @@ use Rattle.tl_map_county.specs.TheMap.{MapChain}
 use Rattle.tl_check_inside.specs.declared.flanks.Flanks.{Flanks}
 use Rattle.tl_check_inside.specs.Inside.{flanks_at}
 use Rattle.tl_check_inside.proofs.Sides.{by_points}
-use Rattle.tl_check_heights.specs.Heights.{height, height_of, AreNear}
-use Rattle.tl_check_heights.proofs.Rising.{le_of, lt_of, one_higher, higher, near_back}
+use Rattle.tl_check_planar.specs.ByHeight.Heights.{height, height_of, AreNear}
+use Rattle.tl_check_planar.proofs.ByHeight.Rising.{le_of, lt_of, one_higher, higher, near_back}
 use Rattle.tl_check_faces.specs.Facing.{IsSideToward, IsStrictlyBetween, IsOnRay, step_x, step_y}
 use Rattle.tl_check_faces.proofs.Numbers.{above_by, below_by}
 use Rattle.tl_check_faces.proofs.Lines.{AreLevel, IsWestward}

@@ -17,10 +17,10 @@ use Rattle.tl_tree_index.proofs.Times.{same_or, times-same, times-other}
 use Rattle.tl_check_planar.specs.Planar.{IsPlanar}
 use Rattle.tl_check_planar.specs.Keeping.Apart.{one_found}
 use Rattle.tl_check_planar.proofs.Numbering.{below_total, one_chain, HaveSameEnds}
-use Rattle.tl_check_heights.specs.Heights.{height, low_end, high_end, turn_at}
-use Rattle.tl_check_heights.specs.Neighbours.{IsNumbered}
-use Rattle.tl_check_heights.proofs.Lying.{heights_of, turned}
-use Rattle.tl_check_heights.proofs.Numbered.{one_segment, on_same}
+use Rattle.tl_check_planar.specs.ByHeight.Heights.{height, low_end, high_end, turn_at}
+use Rattle.tl_check_planar.specs.ByHeight.Neighbours.{IsNumbered}
+use Rattle.tl_check_planar.proofs.ByHeight.Lying.{heights_of, turned}
+use Rattle.tl_check_planar.proofs.ByHeight.Numbered.{one_segment, on_same}
 use Rattle.tl_check_faces.specs.Rays.{IsCountAt}
 use Rattle.tl_check_faces.specs.Facing.{IsOfChain, IsOff, IsStrictlyOn, step_y}
 use Rattle.tl_check_faces.specs.Truth.{LiesAt, IsNearer, IsTrueAbout, AreSidesTrue, side_of}

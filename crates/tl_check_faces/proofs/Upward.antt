@@ -10,8 +10,8 @@ use Rattle.tl_geom.specs.declared.segment.Segment.{Segment}
 use Rattle.tl_geom.specs.Plane.{IsOn, IsBetween}
 use Rattle.tl_geom.proofs.Polynomials.{num, ◌⊗◌, same}
 use Rattle.tl_geom.proofs.Signs.{cancel_lt}
-use Rattle.tl_check_heights.specs.Heights.{turn_at}
-use Rattle.tl_check_heights.proofs.Lying.{turned}
+use Rattle.tl_check_planar.specs.ByHeight.Heights.{turn_at}
+use Rattle.tl_check_planar.proofs.ByHeight.Lying.{turned}
 use Rattle.tl_check_crossings.proofs.Telescoping.{bit, int_lt-true, int_lt-false, lt_of, le_of}
 use Rattle.tl_check_crossings.proofs.Signed.{adds}
 use Rattle.tl_check_faces.specs.Facing.{step_y}

@@ -5,7 +5,7 @@ use Rattle.tl_geom.specs.declared.segment.Segment.{Segment}
 use Rattle.tl_map_county.specs.declared.sides.Side.{Side}
 use Rattle.tl_map_county.specs.declared.sides.Side.TheVariants.{Outside}
 use Rattle.tl_map_county.specs.TheMap.{MapChain}
-use Rattle.tl_check_heights.specs.Heights.{height, height_of, low_end, high_end}
+use Rattle.tl_check_planar.specs.ByHeight.Heights.{height, height_of, low_end, high_end}
 use Rattle.tl_check_faces.specs.Facing.{IsOfChain, IsStrictlyOn, IsClearBetween, IsClearFrom, IsSideToward, step_x, step_y}
 use Rattle.tl_check_faces.specs.Lists.{west_side, east_side}
 

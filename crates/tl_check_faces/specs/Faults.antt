@@ -8,8 +8,8 @@ use Rattle.tl_map_county.specs.declared.polygons.Polygon.{Polygon}
 use Rattle.tl_map_county.specs.declared.sides.Side.{Side}
 use Rattle.tl_map_county.specs.declared.sides.Side.TheVariants as side
 use Rattle.tl_map_county.specs.TheMap.{TheMap, MapChain}
-use Rattle.tl_check_heights.specs.Heights.{height, widest}
-use Rattle.tl_check_heights.specs.Neighbours.{IsNumbered}
+use Rattle.tl_check_planar.specs.ByHeight.Heights.{height, widest}
+use Rattle.tl_check_planar.specs.ByHeight.Neighbours.{IsNumbered}
 use Rattle.tl_check_faces.specs.Lists.{west_side, east_side}
 use Rattle.tl_check_faces.specs.Disagreements.{FacingSide, IsMidway, IsFaceDisagreement, IsOutwardDisagreement}
 use Rattle.tl_check_faces.specs.Odd.{IsLowestOddGap}

@@ -6,9 +6,9 @@ use Rattle.tl_map_county.specs.declared.sides.Side.{Side}
 use Rattle.tl_map_county.specs.declared.sides.Side.TheVariants.{Outside}
 use Rattle.tl_map_county.specs.TheMap.{MapChain}
 use Rattle.tl_check_inside.specs.declared.flanks.Flanks.{Flanks}
-use Rattle.tl_check_heights.specs.Heights.{height, AreNear}
-use Rattle.tl_check_heights.specs.Neighbours.{IsNumbered}
-use Rattle.tl_check_heights.specs.Slabs.{IsListOf, IsPointOf}
+use Rattle.tl_check_planar.specs.ByHeight.Heights.{height, AreNear}
+use Rattle.tl_check_planar.specs.ByHeight.Neighbours.{IsNumbered}
+use Rattle.tl_check_planar.specs.ByHeight.Slabs.{IsListOf, IsPointOf}
 
 -- the side that a segment of a chain has to the west, along lines of one height, and the one that it has to the east. Of a
 -- level segment the first is the southern one

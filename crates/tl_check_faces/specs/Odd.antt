@@ -4,9 +4,9 @@ use Rattle.tl_geom.specs.declared.segment.Segment.{Segment}
 use Rattle.tl_map_county.specs.declared.sides.Side.{Side}
 use Rattle.tl_map_county.specs.declared.sides.Side.TheVariants.{Outside}
 use Rattle.tl_map_county.specs.TheMap.{MapChain}
-use Rattle.tl_check_heights.specs.Heights.{height}
-use Rattle.tl_check_heights.specs.Neighbours.{IsNumbered}
-use Rattle.tl_check_heights.specs.Slabs.{IsListOf}
+use Rattle.tl_check_planar.specs.ByHeight.Heights.{height}
+use Rattle.tl_check_planar.specs.ByHeight.Neighbours.{IsNumbered}
+use Rattle.tl_check_planar.specs.ByHeight.Slabs.{IsListOf}
 use Rattle.tl_check_faces.specs.Lists.{west_side, east_side}
 use Rattle.tl_check_faces.specs.declared.odd.OddGap.{OddGap}
 

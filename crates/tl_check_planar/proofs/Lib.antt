@@ -6,3 +6,4 @@ pub mod Ends
 pub mod Sharing
 pub mod Telling
 pub mod Meetings
+pub mod ByHeight

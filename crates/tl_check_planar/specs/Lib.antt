@@ -3,3 +3,4 @@ pub mod Meets
 pub mod Rectangles
 pub mod Searching
 pub mod Keeping
+pub mod ByHeight

@@ -6,6 +6,7 @@
 #![tactic(auto)]
 
 mod allowed;
+pub mod by_height;
 pub mod laws;
 mod meet;
 mod pair;

@@ -9,9 +9,9 @@ use Rattle.tl_map_county.specs.TheMap.{MapChain}
 use Rattle.tl_map_county.specs.Segments.{segments_before}
 use Rattle.tl_check_crossings.specs.Headings.{AreProper}
 use Rattle.tl_check_planar.specs.Keeping.Apart.{one_found}
-use Rattle.tl_check_heights.specs.Heights.{widest}
-use Rattle.tl_check_heights.specs.Neighbours.{IsNumbered}
-use Rattle.tl_check_heights.specs.Slabs.{IsPointOf}
+use Rattle.tl_check_planar.specs.ByHeight.Heights.{widest}
+use Rattle.tl_check_planar.specs.ByHeight.Neighbours.{IsNumbered}
+use Rattle.tl_check_planar.specs.ByHeight.Slabs.{IsPointOf}
 use Rattle.tl_check_active.specs.Ranges.{IsInRange, AreInRange}
 use Rattle.tl_check_active.proofs.Wide.{near_by_range}
 use Rattle.tl_check_faces.specs.Lists.{AreAllNear}

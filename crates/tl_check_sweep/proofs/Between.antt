@@ -19,18 +19,18 @@ use Rattle.tl_tree_index.proofs.Times.{same_or, times-other, times-append}
 use Rattle.tl_check_inside.specs.Inside.{AreCrossed, IsCrossed, IsCount, is_polygon}
 use Rattle.tl_check_inside.specs.Places.{IsOffChains}
 use Rattle.tl_check_inside.specs.Placed.{IsPlacedIn}
-use Rattle.tl_check_heights.specs.Heights.{height, AreNear, low_end, high_end, turn_to, turn_at, Spans}
-use Rattle.tl_check_heights.specs.Neighbours.{IsNumbered, IsWide, AreTested, EachTwo, IsWestOf}
-use Rattle.tl_check_heights.specs.Slabs.{IsActive}
+use Rattle.tl_check_planar.specs.ByHeight.Heights.{height, AreNear, low_end, high_end, turn_to, turn_at, Spans}
+use Rattle.tl_check_planar.specs.ByHeight.Neighbours.{IsNumbered, IsWide, AreTested, EachTwo, IsWestOf}
+use Rattle.tl_check_planar.specs.ByHeight.Slabs.{IsActive}
 use Rattle.tl_check_sweep.specs.Beside.{IsNoVertex, IsEastOf, IsWestOfIt, IsEastOfLast, IsWestOfFirst, IsBetween, AreFacing, seen_side}
-use Rattle.tl_check_heights.proofs.Order.{turn_whole}
-use Rattle.tl_check_heights.proofs.Rising.{AreEndsOf, ends_of, one_higher, higher, higher_west}
+use Rattle.tl_check_planar.proofs.ByHeight.Order.{turn_whole}
+use Rattle.tl_check_planar.proofs.ByHeight.Rising.{AreEndsOf, ends_of, one_higher, higher, higher_west}
 use Rattle.tl_check_faces.specs.Lists.{RunsWest}
 use Rattle.tl_check_faces.proofs.Toward.{is_lt}
-use Rattle.tl_check_heights.proofs.Lying.{heights_of}
-use Rattle.tl_check_heights.proofs.Transport.{strictly_west, strictly_east}
-use Rattle.tl_check_heights.proofs.Numbered.{one_segment}
-use Rattle.tl_check_heights.proofs.Walking.{IsIn, in_by_times, all_head, all_tail, two_front, two_back, spans_of}
+use Rattle.tl_check_planar.proofs.ByHeight.Lying.{heights_of}
+use Rattle.tl_check_planar.proofs.ByHeight.Transport.{strictly_west, strictly_east}
+use Rattle.tl_check_planar.proofs.ByHeight.Numbered.{one_segment}
+use Rattle.tl_check_planar.proofs.ByHeight.Walking.{IsIn, in_by_times, all_head, all_tail, two_front, two_back, spans_of}
 use Rattle.tl_check_sweep.proofs.Crossed.{IsPassed, passed, crosses}
 use Rattle.tl_check_sweep.proofs.Flanked.{balance_is}
 

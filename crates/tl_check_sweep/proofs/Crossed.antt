@@ -9,8 +9,8 @@ use Rattle.tl_geom.specs.Ray.{Crosses}
 use Rattle.tl_geom.proofs.Polynomials.{num, ◌⊖◌, ◌⊗◌, same}
 use Rattle.tl_geom.proofs.Signs.{product_at_least}
 use Rattle.tl_geom.proofs.Rays.{crossed_up, crossed_down}
-use Rattle.tl_check_heights.specs.Heights.{height, AreNear, low_end, high_end, turn_to}
-use Rattle.tl_check_heights.proofs.Rising.{AreEndsOf, ends_of, higher, higher_west, near_back}
+use Rattle.tl_check_planar.specs.ByHeight.Heights.{height, AreNear, low_end, high_end, turn_to}
+use Rattle.tl_check_planar.proofs.ByHeight.Rising.{AreEndsOf, ends_of, higher, higher_west, near_back}
 
 -- the turn the other way
 turn_back : (a b q : Point) → turn_of b a q ≡ pos 0 -ℤ turn_of a b q

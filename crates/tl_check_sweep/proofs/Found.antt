@@ -14,15 +14,15 @@ use Rattle.tl_check_planar.specs.Keeping.Apart.{one_found}
 use Rattle.tl_check_planar.proofs.Numbering.{one_chain, one_place, below_total, HaveSameEnds}
 use Rattle.tl_check_crossings.specs.Headings.{AreProper}
 use Rattle.tl_check_active.specs.declared.events.Event.{Event}
-use Rattle.tl_check_heights.specs.Heights.{height, widest, low_end, high_end}
-use Rattle.tl_check_heights.specs.Neighbours.{IsNumbered, IsWide}
-use Rattle.tl_check_heights.specs.Slabs.{IsPointOf, AreVerticesTested}
+use Rattle.tl_check_planar.specs.ByHeight.Heights.{height, widest, low_end, high_end}
+use Rattle.tl_check_planar.specs.ByHeight.Neighbours.{IsNumbered, IsWide}
+use Rattle.tl_check_planar.specs.ByHeight.Slabs.{IsPointOf, AreVerticesTested}
 use Rattle.tl_check_active.specs.Events.{end_at, IsEvent, begins_at, ends_at, AreEvents, AreRising}
 use Rattle.tl_check_active.specs.Vertices.{IsAtPlace, IsEndOfChain, MayMeet}
 use Rattle.tl_check_sweep.specs.Keeping.Vertices.{AreInOrderUpTo}
 use Rattle.tl_check_active.proofs.Bits.{bit}
-use Rattle.tl_check_heights.proofs.Rising.{ends_of}
-use Rattle.tl_check_heights.proofs.Numbered.{one_segment}
+use Rattle.tl_check_planar.proofs.ByHeight.Rising.{ends_of}
+use Rattle.tl_check_planar.proofs.ByHeight.Numbered.{one_segment}
 use Rattle.tl_check_active.proofs.Tests.{same_low}
 
 abbrev pub no_event : Event

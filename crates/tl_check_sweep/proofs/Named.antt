@@ -2,7 +2,7 @@
 use Rattle.std.proofs.Common.{◌≡◌, ◌≢◌, ℕ, Bool, true, false, not, IsTrue, ◌↔◌, Option, None, Some, List, refl, sym, ◌∙◌}
 use Rattle.tl_map_county.specs.declared.sides.Side.{Side}
 use Rattle.tl_map_county.specs.TheMap.{MapChain}
-use Rattle.tl_check_heights.specs.Heights.{widest}
+use Rattle.tl_check_planar.specs.ByHeight.Heights.{widest}
 use Rattle.tl_check_faces.specs.Odd.{IsNamedWest, IsNamedEast}
 use Rattle.tl_check_sweep.proofs.Sides.{one_west, one_east}
 use Rattle.tl_check_sweep.specs.Gaps.{AreAtOdds}

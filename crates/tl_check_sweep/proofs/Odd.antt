@@ -11,8 +11,8 @@ use Rattle.tl_check_inside.specs.declared.flanks.Flanks.{Flanks}
 use Rattle.tl_check_inside.specs.Inside.{flanks_at}
 use Rattle.tl_check_active.specs.Lined.{last_of}
 use Rattle.tl_check_active.proofs.Lining.{last_more}
-use Rattle.tl_check_heights.specs.Heights.{widest}
-use Rattle.tl_check_heights.specs.Neighbours.{IsNumbered}
+use Rattle.tl_check_planar.specs.ByHeight.Heights.{widest}
+use Rattle.tl_check_planar.specs.ByHeight.Neighbours.{IsNumbered}
 use Rattle.tl_check_faces.specs.declared.odd.OddGap.{OddGap}
 use Rattle.tl_check_faces.specs.Odd.{NamesWest, NamesEast, IsNamedWest, IsNamedEast, first_number, last_number}
 use Rattle.tl_check_sweep.specs.declared.watch.Watch.{Watch}

@@ -14,11 +14,11 @@ use Rattle.tl_check_planar.specs.Keeping.Apart.{one_found}
 use Rattle.tl_check_inside.specs.declared.flanks.Flanks.{Flanks}
 use Rattle.tl_check_inside.specs.Inside.{flanks_at}
 use Rattle.tl_check_inside.proofs.Sides.{by_points}
-use Rattle.tl_check_heights.specs.Heights.{height, widest, AreNear}
-use Rattle.tl_check_heights.specs.Neighbours.{IsNumbered}
+use Rattle.tl_check_planar.specs.ByHeight.Heights.{height, widest, AreNear}
+use Rattle.tl_check_planar.specs.ByHeight.Neighbours.{IsNumbered}
 use Rattle.tl_check_faces.specs.Lists.{sides_by_height, RunsWest}
 use Rattle.tl_check_faces.proofs.Flanks.{are_sides}
-use Rattle.tl_check_heights.proofs.Walking.{IsIn}
+use Rattle.tl_check_planar.proofs.ByHeight.Walking.{IsIn}
 use Rattle.tl_check_sweep.specs.Beside.{AreFacing, seen_side}
 use Rattle.tl_check_sweep.specs.Keeping.Facing.{raised, raised_chain, raised_point}
 

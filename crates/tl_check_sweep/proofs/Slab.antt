@@ -12,14 +12,14 @@ use Rattle.tl_check_planar.proofs.Numbering.{below_total, HaveSameEnds}
 use Rattle.tl_tree_index.specs.Hits.{times}
 use Rattle.tl_tree_index.proofs.Times.{same_or, times-same, times-other}
 use Rattle.tl_check_active.specs.declared.events.Event.{Event}
-use Rattle.tl_check_heights.specs.Heights.{height, widest, low_end, high_end}
-use Rattle.tl_check_heights.specs.Neighbours.{IsNumbered, AreTested, EachTwo}
-use Rattle.tl_check_heights.specs.Slabs.{IsActive, IsListOf, AreSlabsTested}
+use Rattle.tl_check_planar.specs.ByHeight.Heights.{height, widest, low_end, high_end}
+use Rattle.tl_check_planar.specs.ByHeight.Neighbours.{IsNumbered, AreTested, EachTwo}
+use Rattle.tl_check_planar.specs.ByHeight.Slabs.{IsActive, IsListOf, AreSlabsTested}
 use Rattle.tl_check_active.specs.Events.{IsEvent, begins_at, ends_at, AreEvents, AreRising}
 use Rattle.tl_check_sweep.specs.Keeping.Swept.{AreAbove, IsSwept}
 use Rattle.tl_check_active.proofs.Bits.{bit}
 use Rattle.tl_check_sweep.proofs.Found.{no_event, found, both_true, is_number, not_true}
-use Rattle.tl_check_heights.proofs.Numbered.{one_segment}
+use Rattle.tl_check_planar.proofs.ByHeight.Numbered.{one_segment}
 use Rattle.tl_check_active.proofs.Tests.{low_height, high_height}
 
 -- ---- what is counted of the first events

@@ -11,13 +11,13 @@ use Rattle.tl_map_county.specs.TheMap.{TheMap, MapChain}
 use Rattle.tl_check_inside.specs.Placed.{IsPlacedIn}
 use Rattle.tl_check_inside.specs.Inside.{flanks_at}
 use Rattle.tl_tree_index.specs.Hits.{times}
-use Rattle.tl_check_heights.proofs.Walking.{IsIn}
+use Rattle.tl_check_planar.proofs.ByHeight.Walking.{IsIn}
 use Rattle.tl_check_active.specs.declared.events.Event.{Event}
 use Rattle.tl_check_sweep.specs.Beside.{IsNoVertex, IsEastOf, IsWestOfIt, IsEastOfLast, IsWestOfFirst, IsBetween, seen_side}
 use Rattle.tl_check_active.proofs.Wide.{near_by_range, wide_by_range}
-use Rattle.tl_check_heights.specs.Heights.{height, widest, low_end, high_end, turn_to}
-use Rattle.tl_check_heights.specs.Neighbours.{IsNumbered, IsWide}
-use Rattle.tl_check_heights.specs.Slabs.{IsListOf}
+use Rattle.tl_check_planar.specs.ByHeight.Heights.{height, widest, low_end, high_end, turn_to}
+use Rattle.tl_check_planar.specs.ByHeight.Neighbours.{IsNumbered, IsWide}
+use Rattle.tl_check_planar.specs.ByHeight.Slabs.{IsListOf}
 use Rattle.tl_check_sweep.specs.Keeping.Facing.{gaps_of, raised}
 use Rattle.tl_check_active.specs.Lined.{last_of}
 use Rattle.tl_check_active.specs.Events.{begins_at, ends_at, AreEvents, AreRising}
@@ -28,8 +28,8 @@ use Rattle.tl_check_sweep.proofs.Raised.{same_flanks, same_facing, same_seen}
 use Rattle.tl_check_sweep.proofs.Found.{no_event, found}
 use Rattle.tl_check_sweep.proofs.Counts.{facing_behind}
 use Rattle.tl_check_active.proofs.Lining.{last_more}
-use Rattle.tl_check_heights.proofs.Numbered.{one_segment}
-use Rattle.tl_check_heights.proofs.Rising.{AreEndsOf, ends_of}
+use Rattle.tl_check_planar.proofs.ByHeight.Numbered.{one_segment}
+use Rattle.tl_check_planar.proofs.ByHeight.Rising.{AreEndsOf, ends_of}
 use Rattle.tl_check_sweep.proofs.Slab.{begun_by, ended_by, known, list_of_slab}
 use Rattle.tl_check_active.proofs.Tests.{low_height, high_height}
 

@@ -11,12 +11,12 @@ use Rattle.tl_tree_index.specs.Hits.{times}
 use Rattle.tl_tree_index.proofs.Times.{times-same, times-other, same_or}
 use Rattle.tl_check_planar.specs.Planar.{IsPlanar}
 use Rattle.tl_check_planar.proofs.Numbering.{HaveSameEnds}
-use Rattle.tl_check_heights.specs.Heights.{AreNear}
-use Rattle.tl_check_heights.specs.Neighbours.{IsNumbered, AreTested, EachTwo}
-use Rattle.tl_check_heights.specs.Slabs.{IsActive, IsListOf}
-use Rattle.tl_check_heights.proofs.Rising.{above_zero}
-use Rattle.tl_check_heights.proofs.Numbered.{one_segment, on_same}
-use Rattle.tl_check_heights.proofs.Walking.{IsIn, in_by_times, all_head, all_tail}
+use Rattle.tl_check_planar.specs.ByHeight.Heights.{AreNear}
+use Rattle.tl_check_planar.specs.ByHeight.Neighbours.{IsNumbered, AreTested, EachTwo}
+use Rattle.tl_check_planar.specs.ByHeight.Slabs.{IsActive, IsListOf}
+use Rattle.tl_check_planar.proofs.ByHeight.Rising.{above_zero}
+use Rattle.tl_check_planar.proofs.ByHeight.Numbered.{one_segment, on_same}
+use Rattle.tl_check_planar.proofs.ByHeight.Walking.{IsIn, in_by_times, all_head, all_tail}
 use Rattle.tl_check_faces.specs.Lists.{AreAllNear}
 use Rattle.tl_check_faces.specs.Disagreements.{IsInSlab, IsMidway}
 use Rattle.tl_check_faces.proofs.Numbers.{le_lt}

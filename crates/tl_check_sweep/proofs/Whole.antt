@@ -10,14 +10,14 @@ use Rattle.std.proofs.lemmas.List.Quantifiers.{Any-push}
 use Rattle.std.proofs.Math.Seq.{take-append_seam, drop-append_seam}
 use Rattle.tl_geom.specs.declared.point.Point.{Point}
 use Rattle.tl_map_county.specs.TheMap.{MapChain}
-use Rattle.tl_check_heights.specs.Heights.{height, widest}
-use Rattle.tl_check_heights.specs.Slabs.{IsListOf}
+use Rattle.tl_check_planar.specs.ByHeight.Heights.{height, widest}
+use Rattle.tl_check_planar.specs.ByHeight.Slabs.{IsListOf}
 use Rattle.tl_check_faces.specs.declared.odd.OddGap.{OddGap}
 use Rattle.tl_check_faces.specs.Odd.{IsOddGap, first_number, last_number}
 use Rattle.tl_tree_index.specs.Hits.{times}
 use Rattle.tl_check_active.specs.Lined.{TheLine, list_of, last_of}
 use Rattle.tl_check_active.proofs.Lining.{moved, before_tested}
-use Rattle.tl_check_heights.specs.Neighbours.{AreTested, EachTwo}
+use Rattle.tl_check_planar.specs.ByHeight.Neighbours.{AreTested, EachTwo}
 use Rattle.tl_check_sweep.specs.declared.watch.Watch.{Watch}
 use Rattle.tl_check_sweep.specs.Keeping.Facing.{IsCounted}
 use Rattle.tl_check_sweep.specs.Keeping.Passing.{HasLooked, HasPassed}

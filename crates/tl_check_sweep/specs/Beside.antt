@@ -6,9 +6,9 @@ use Rattle.tl_map_county.specs.declared.sides.Side.{Side}
 use Rattle.tl_map_county.specs.declared.sides.Side.TheVariants.{Outside}
 use Rattle.tl_map_county.specs.TheMap.{MapChain}
 use Rattle.tl_check_inside.specs.Inside.{flanks_at}
-use Rattle.tl_check_heights.specs.Heights.{height, AreNear, turn_to}
-use Rattle.tl_check_heights.specs.Neighbours.{IsNumbered}
-use Rattle.tl_check_heights.specs.Slabs.{IsListOf}
+use Rattle.tl_check_planar.specs.ByHeight.Heights.{height, AreNear, turn_to}
+use Rattle.tl_check_planar.specs.ByHeight.Neighbours.{IsNumbered}
+use Rattle.tl_check_planar.specs.ByHeight.Slabs.{IsListOf}
 
 -- q is no end of a segment, and K is above the difference of its longitude and that of any such end
 pub record IsNoVertex (K : ℤ) (chains : List MapChain) (q : Point) : Type 0 where

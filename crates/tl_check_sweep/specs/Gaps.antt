@@ -3,8 +3,8 @@ use Rattle.std.specs.Prelude.{◌≡◌, ◌≢◌, ℕ, ◌+◌, ℤ, ◌≤ℤ
 use Rattle.std.specs.List.{Any}
 use Rattle.tl_map_county.specs.declared.sides.Side.{Side}
 use Rattle.tl_map_county.specs.TheMap.{MapChain}
-use Rattle.tl_check_heights.specs.Heights.{height}
-use Rattle.tl_check_heights.specs.Slabs.{IsListOf, AreSlabsTested}
+use Rattle.tl_check_planar.specs.ByHeight.Heights.{height}
+use Rattle.tl_check_planar.specs.ByHeight.Slabs.{IsListOf, AreSlabsTested}
 use Rattle.tl_check_faces.specs.declared.odd.OddGap.{OddGap}
 use Rattle.tl_check_faces.specs.Odd.{IsNamedWest, IsNamedEast, IsOddGap, first_number, last_number}
 use Rattle.tl_check_meets.specs.Orders.{AreRising}

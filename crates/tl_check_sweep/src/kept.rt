@@ -1,7 +1,7 @@
 //! Of gaps the lowest of each two segments, in order.
 ghost use Rattle.std.specs.Prelude.{◌≡◌, ◌<◌, ◌↔◌, IfOk, OnOk, IsTrue, length};
 ghost use Rattle.std.specs.List.Sorted.{IsPermutation};
-ghost use Rattle.tl_check_heights.specs.Heights.{widest};
+ghost use Rattle.tl_check_planar.specs.ByHeight.Heights.{widest};
 ghost use Rattle.tl_check_sweep.specs.Gaps.{order_of, AreLowestOfEach};
 ghost use Rattle.tl_check_sweep.specs.Keeping.Kept.{AreSorted, IsRepeated, AreKept};
 

@@ -8,7 +8,7 @@ ghost use Rattle.tl_map_county.specs.TheMap.{TheMap, MapChain};
 ghost use Rattle.tl_check_inside.specs.Inside.{AreCrossed, IsCount};
 ghost use Rattle.tl_check_inside.specs.Places.{IsOffChains};
 ghost use Rattle.tl_check_inside.specs.Placed.{IsPlacedIn};
-ghost use Rattle.tl_check_heights.specs.Neighbours.{IsWide};
+ghost use Rattle.tl_check_planar.specs.ByHeight.Neighbours.{IsWide};
 ghost use Rattle.tl_check_sweep.specs.Beside.{IsNoVertex, IsBetween, AreFacing, seen_side};
 
 /// A point that lies strictly between two neighbours of the list at its height lies on no chain, and the ray that runs from it

@@ -2,9 +2,9 @@
 ghost use Rattle.std.specs.Prelude.{◌≡◌, ◌<◌, ℕ, All, IsTrue, length};
 ghost use Rattle.tl_map_county.specs.Segments.{segments_before};
 ghost use Rattle.tl_check_crossings.specs.Headings.{AreProper};
-ghost use Rattle.tl_check_heights.specs.Heights.{widest};
-ghost use Rattle.tl_check_heights.specs.Neighbours.{IsWide};
-ghost use Rattle.tl_check_heights.specs.Slabs.{AreVerticesTested};
+ghost use Rattle.tl_check_planar.specs.ByHeight.Heights.{widest};
+ghost use Rattle.tl_check_planar.specs.ByHeight.Neighbours.{IsWide};
+ghost use Rattle.tl_check_planar.specs.ByHeight.Slabs.{AreVerticesTested};
 ghost use Rattle.tl_check_active.specs.Events.{joined, AreEvents, AreRising, one_or_two, AreMet};
 ghost use Rattle.tl_check_active.specs.Vertices.{IsAtPlace, IsEndOfChain, MayMeet};
 ghost use Rattle.tl_check_sweep.specs.Keeping.Vertices.{IsLast, AreInOrder};

@@ -3,7 +3,7 @@ ghost use Rattle.std.specs.Prelude.{◌≡◌, ◌<◌, ◌≤◌, ◌-◌, ◌+
 ghost use Rattle.tl_map_county.specs.declared.sides.Side.TheVariants.{Polygon};
 ghost use Rattle.tl_check_active.specs.declared.events.Event.{Event};
 ghost use Rattle.tl_check_sweep.specs.Beside.{IsEastOf, IsWestOfIt, IsEastOfLast, IsWestOfFirst, seen_side};
-ghost use Rattle.tl_check_heights.specs.Heights.{widest};
+ghost use Rattle.tl_check_planar.specs.ByHeight.Heights.{widest};
 ghost use Rattle.tl_check_sweep.specs.Keeping.Facing.{IsCounted, raised};
 ghost use Rattle.tl_check_active.specs.Lined.{list_of};
 ghost use Rattle.tl_check_active.specs.Events.{before, joined, AreEvents, AreRising};

@@ -1,8 +1,8 @@
 //! The sweep: from event to event, with the list of active segments.
 ghost use Rattle.std.specs.Prelude.{◌≡◌, [], IfOk, IsTrue};
-ghost use Rattle.tl_check_heights.specs.Heights.{widest};
-ghost use Rattle.tl_check_heights.specs.Neighbours.{IsWide};
-ghost use Rattle.tl_check_heights.specs.Slabs.{AreSlabsTested};
+ghost use Rattle.tl_check_planar.specs.ByHeight.Heights.{widest};
+ghost use Rattle.tl_check_planar.specs.ByHeight.Neighbours.{IsWide};
+ghost use Rattle.tl_check_planar.specs.ByHeight.Slabs.{AreSlabsTested};
 ghost use Rattle.tl_check_active.specs.Events.{joined, AreEvents, AreRising};
 ghost use Rattle.tl_check_active.specs.Lined.{list_of};
 ghost use Rattle.tl_check_active.specs.Ranges.{AreInRange};

@@ -1,6 +1,6 @@
 //! The gaps of a list whose facing sides differ, told about the segments that came in at a vertex.
 ghost use Rattle.std.specs.Prelude.{◌≡◌, ◌+◌, ◌≤◌, ◌++◌, ◌↔◌, List, ℕ, IfOk, IsTrue, length, take, drop, slice_get};
-ghost use Rattle.tl_check_heights.specs.Heights.{widest};
+ghost use Rattle.tl_check_planar.specs.ByHeight.Heights.{widest};
 ghost use Rattle.tl_check_active.specs.Lined.{last_of};
 ghost use Rattle.tl_check_sweep.specs.Gaps.{AreAtOdds};
 ghost use Rattle.tl_check_sweep.specs.Telling.{IsToldAt, AreToldAbout};

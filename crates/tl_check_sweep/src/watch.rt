@@ -1,6 +1,6 @@
 //! What a sweep watches of the gaps whose facing sides differ.
 ghost use Rattle.std.specs.Prelude.{◌≡◌, ◌⊎◌, ◌↔◌, ◌++◌, [], List, ℕ, Some, false, true, IsTrue, IfOk, IfSome, slice_get};
-ghost use Rattle.tl_check_heights.specs.Heights.{widest};
+ghost use Rattle.tl_check_planar.specs.ByHeight.Heights.{widest};
 ghost use Rattle.tl_check_planar.specs.Planar.{IsPlanar};
 ghost use Rattle.tl_check_faces.specs.Lists.{AreAllNear};
 ghost use Rattle.tl_check_active.specs.Events.{before as events_before, joined};

@@ -40,7 +40,7 @@ use Rattle.tl_list.proofs.OneOrder.{AreOne, AreInOne, one_order}
 use Rattle.tl_list.proofs.Listed.{none_is_refused, sound_alone, no_map}
 use Rattle.tl_list.proofs.Emptiness.{map_empty}
 use Rattle.tl_list.proofs.Told.{unsound}
-use Rattle.tl_check_heights.specs.Heights.{height, widest}
+use Rattle.tl_check_planar.specs.ByHeight.Heights.{height, widest}
 use Rattle.tl_check_faces.specs.declared.odd.OddGap.{OddGap}
 use Rattle.tl_check_faces.specs.declared.fault.FaceFault.{FaceFault}
 use Rattle.tl_check_faces.specs.Odd.{IsOddGap, IsLowestOddGap}

@@ -5,7 +5,7 @@ ghost use Rattle.tl_map_county.specs.Segments.{segments_before};
 ghost use Rattle.tl_check_planar.specs.Planar.{IsPlanar};
 ghost use Rattle.tl_check_planar.specs.Rectangles.{segment_rect};
 ghost use Rattle.tl_check_inside.specs.Placed.{ArePlaced};
-ghost use Rattle.tl_check_heights.specs.Heights.{widest};
+ghost use Rattle.tl_check_planar.specs.ByHeight.Heights.{widest};
 ghost use Rattle.tl_check_sweep.specs.Gaps.{AreAllOddGaps};
 ghost use Rattle.tl_list_points.specs.Suspects.{AreSuspects};
 ghost use Rattle.tl_check_verdict.specs.Sound.{IsSound};

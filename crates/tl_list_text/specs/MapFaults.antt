@@ -12,7 +12,7 @@ use Rattle.tl_check_meets.specs.Meets.{AreAllMeets}
 use Rattle.tl_list_sides.specs.Disagreements.{AreAllDisagreements}
 use Rattle.tl_list_sides.specs.CellOdds.{AreAllCellsAtOdds}
 use Rattle.tl_list_points.specs.AllMisplaced.{AreAllMisplaced}
-use Rattle.tl_check_heights.specs.Heights.{widest}
+use Rattle.tl_check_planar.specs.ByHeight.Heights.{widest}
 use Rattle.tl_check_faces.specs.declared.fault.FaceFault.{FaceFault}
 use Rattle.tl_check_faces.specs.Faults.{IsTrueFaceFault}
 use Rattle.tl_check_faces.specs.Truth.{AreFacesTrue}

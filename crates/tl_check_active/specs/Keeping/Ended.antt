@@ -6,8 +6,8 @@ use Rattle.tl_map_county.specs.TheMap.{MapChain}
 use Rattle.tl_map_county.specs.Segments.{IsSegmentOf}
 use Rattle.tl_check_active.specs.declared.events.End.{End}
 use Rattle.tl_check_active.specs.declared.events.Event.{Event}
-use Rattle.tl_check_heights.specs.Heights.{height, widest}
-use Rattle.tl_check_heights.specs.Neighbours.{IsNumbered}
+use Rattle.tl_check_planar.specs.ByHeight.Heights.{height, widest}
+use Rattle.tl_check_planar.specs.ByHeight.Neighbours.{IsNumbered}
 use Rattle.tl_check_active.specs.Events.{AreEventsOf, AreMet, joined}
 use Rattle.tl_check_active.specs.Ranges.{IsInRange}
 

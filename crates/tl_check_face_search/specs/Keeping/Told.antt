@@ -4,8 +4,8 @@ use Rattle.std.specs.List.{AllZip}
 use Rattle.tl_geom.specs.declared.segment.Segment.{Segment}
 use Rattle.tl_map_county.specs.declared.sides.Side.{Side}
 use Rattle.tl_map_county.specs.TheMap.{TheMap, MapChain}
-use Rattle.tl_check_heights.specs.Heights.{height, widest}
-use Rattle.tl_check_heights.specs.Neighbours.{IsNumbered}
+use Rattle.tl_check_planar.specs.ByHeight.Heights.{height, widest}
+use Rattle.tl_check_planar.specs.ByHeight.Neighbours.{IsNumbered}
 use Rattle.tl_check_faces.specs.declared.odd.OddGap.{OddGap}
 use Rattle.tl_check_faces.specs.declared.fault.NamedFace.{NamedFace}
 use Rattle.tl_check_faces.specs.declared.fault.FaceFault.{FaceFault}

@@ -5,7 +5,7 @@ use Rattle.tl_map_county.specs.declared.sides.Side.{Side}
 use Rattle.tl_map_county.specs.declared.sides.Side.TheVariants.{Outside, Polygon}
 use Rattle.tl_map_county.specs.TheMap.{MapChain}
 use Rattle.tl_check_inside.specs.Inside.{flanks_at}
-use Rattle.tl_check_heights.specs.Heights.{height, widest}
+use Rattle.tl_check_planar.specs.ByHeight.Heights.{height, widest}
 
 -- two sides are one
 abbrev pub are_one : (west east : Side) → Bool

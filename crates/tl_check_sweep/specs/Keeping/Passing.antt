@@ -3,8 +3,8 @@ use Rattle.std.specs.Prelude.{◌≡◌, ℕ, ◌+◌, Option, Some, List}
 use Rattle.tl_geom.specs.declared.point.Point.{Point}
 use Rattle.tl_map_county.specs.TheMap.{MapChain}
 use Rattle.tl_tree_index.specs.Hits.{times}
-use Rattle.tl_check_heights.specs.Heights.{height, widest}
-use Rattle.tl_check_heights.specs.Neighbours.{AreTested, EachTwo}
+use Rattle.tl_check_planar.specs.ByHeight.Heights.{height, widest}
+use Rattle.tl_check_planar.specs.ByHeight.Neighbours.{AreTested, EachTwo}
 use Rattle.tl_check_sweep.specs.declared.watch.Watch.{Watch}
 use Rattle.tl_check_sweep.specs.Telling.{IsToldAlong, IsKept, StaysTrue, StaysAt}
 use Rattle.tl_check_sweep.specs.Keeping.Facing.{IsCounted}

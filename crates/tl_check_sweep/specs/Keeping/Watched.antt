@@ -4,8 +4,8 @@ use Rattle.tl_geom.specs.declared.point.Point.{Point}
 use Rattle.tl_map_county.specs.TheMap.{TheMap, MapChain}
 use Rattle.tl_check_planar.specs.Planar.{IsPlanar}
 use Rattle.tl_check_active.specs.declared.events.Event.{Event}
-use Rattle.tl_check_heights.specs.Heights.{height, widest}
-use Rattle.tl_check_heights.specs.Slabs.{IsListOf, AreSlabsTested}
+use Rattle.tl_check_planar.specs.ByHeight.Heights.{height, widest}
+use Rattle.tl_check_planar.specs.ByHeight.Slabs.{IsListOf, AreSlabsTested}
 use Rattle.tl_check_faces.specs.declared.odd.OddGap.{OddGap}
 use Rattle.tl_check_faces.specs.Facing.{FacesAgree}
 use Rattle.tl_check_faces.specs.Lists.{AreAllNear}

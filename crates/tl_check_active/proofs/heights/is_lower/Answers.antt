@@ -1,6 +1,6 @@
 use Rattle.std.proofs.Common.{◌≡◌, pos, to_z, of_z, w64, ◌∙◌, arith}
 use Rattle.std.proofs.lemmas.Int.{ints}
-use Rattle.tl_check_heights.specs.Heights.{height, widest}
+use Rattle.tl_check_planar.specs.ByHeight.Heights.{height, widest}
 use Rattle.tl_check_active.proofs.Tests.{lower_moved}
 use Rattle.tl_check_active.proofs.heights.is_lower.Goals as goal
 

@@ -1,4 +1,4 @@
-use Rattle.tl_check_heights.specs.Heights.{widest}
+use Rattle.tl_check_planar.specs.ByHeight.Heights.{widest}
 use Rattle.tl_check_active.proofs.Listing.{own}
 use Rattle.tl_check_active.proofs.Tests.{tested, never}
 use Rattle.tl_check_active.proofs.neighbours.are_tested.Goals as goal

@@ -2,7 +2,7 @@ use Rattle.std.proofs.Common.{◌<ℤ◌, ◌≤ℤ◌, inl, subst, arith}
 use Rattle.std.proofs.lemmas.Int.{ints}
 use Rattle.tl_geom.specs.declared.rect.Rect.{Rect}
 use Rattle.tl_geom.specs.Rectangle.{rect_of}
-use Rattle.tl_check_heights.specs.Heights.{widest, AreNear}
+use Rattle.tl_check_planar.specs.ByHeight.Heights.{widest, AreNear}
 use Rattle.tl_check_active.proofs.Beside.{west_by_boxes, apart_by_boxes}
 use Rattle.tl_check_active.proofs.neighbours.is_beside.Goals as goal
 

@@ -1,4 +1,4 @@
-use Rattle.tl_check_heights.specs.Heights.{widest}
+use Rattle.tl_check_planar.specs.ByHeight.Heights.{widest}
 use Rattle.tl_check_active.proofs.West.{both, not_both}
 use Rattle.tl_check_active.proofs.neighbours.is_west_of.Goals as goal
 

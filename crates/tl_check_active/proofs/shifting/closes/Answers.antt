@@ -1,6 +1,6 @@
 use Rattle.std.proofs.Common.{◌∙◌}
-use Rattle.tl_check_heights.specs.Heights.{widest}
-use Rattle.tl_check_heights.specs.Neighbours.{AreTested}
+use Rattle.tl_check_planar.specs.ByHeight.Heights.{widest}
+use Rattle.tl_check_planar.specs.ByHeight.Neighbours.{AreTested}
 use Rattle.tl_check_active.proofs.Lining.{joined}
 use Rattle.tl_check_active.proofs.shifting.closes.Goals as goal
 

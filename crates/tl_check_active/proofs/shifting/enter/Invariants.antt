@@ -1,7 +1,7 @@
 use Rattle.std.proofs.Common.{◌≡◌, ◌++◌, List, ℕ, take}
 use Rattle.tl_map_county.specs.TheMap.{MapChain}
-use Rattle.tl_check_heights.specs.Heights.{widest}
-use Rattle.tl_check_heights.specs.Neighbours.{AreTested, EachTwo}
+use Rattle.tl_check_planar.specs.ByHeight.Heights.{widest}
+use Rattle.tl_check_planar.specs.ByHeight.Neighbours.{AreTested, EachTwo}
 use Rattle.tl_check_active.proofs.shifting.enter.Given as goal
 
 -- those so far are in

@@ -1,7 +1,7 @@
 use Rattle.std.proofs.Common.{refl, subst, sym, ◌∙◌}
 use Rattle.std.proofs.lemmas.Result.{err_from_is_err_and}
-use Rattle.tl_check_heights.specs.Heights.{widest}
-use Rattle.tl_check_heights.specs.Neighbours.{AreTested, EachTwo}
+use Rattle.tl_check_planar.specs.ByHeight.Heights.{widest}
+use Rattle.tl_check_planar.specs.ByHeight.Neighbours.{AreTested, EachTwo}
 use Rattle.tl_check_active.proofs.Lining.{pushed}
 use Rattle.tl_check_active.proofs.Tests.{never}
 use Rattle.tl_check_active.proofs.shifting.enter_one.Goals as goal

@@ -1,7 +1,7 @@
 use Rattle.std.proofs.Common.{◌≡◌, ◌++◌, List, ℕ, take}
 use Rattle.tl_map_county.specs.TheMap.{MapChain}
-use Rattle.tl_check_heights.specs.Heights.{widest}
-use Rattle.tl_check_heights.specs.Neighbours.{AreTested, EachTwo}
+use Rattle.tl_check_planar.specs.ByHeight.Heights.{widest}
+use Rattle.tl_check_planar.specs.ByHeight.Neighbours.{AreTested, EachTwo}
 use Rattle.tl_check_active.proofs.shifting.replace.Given as goal
 
 -- of both lists the first k stand in each other's stead

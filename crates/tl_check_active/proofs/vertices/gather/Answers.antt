@@ -3,7 +3,7 @@ use Rattle.std.proofs.lemmas.List.Elements.{All-nil, All-append}
 use Rattle.std.proofs.lemmas.Result.{err_from_is_err_and}
 use Rattle.tl_tree_index.specs.Hits.{times}
 use Rattle.tl_check_active.specs.declared.events.Event.{Event}
-use Rattle.tl_check_heights.specs.Heights.{height, widest}
+use Rattle.tl_check_planar.specs.ByHeight.Heights.{height, widest}
 use Rattle.tl_check_active.specs.Events.{AreAt, begins_at, ends_at, joined, between}
 use Rattle.tl_check_active.proofs.Gathering.{counted_both}
 use Rattle.tl_check_active.proofs.Joining.{further}

@@ -2,7 +2,7 @@ use Rattle.std.proofs.Common.{◌≡◌, ◌<◌, ◌≤◌, ◌-◌, ◌+ℤ◌
 use Rattle.tl_geom.specs.declared.point.Point.{Point}
 use Rattle.tl_tree_index.specs.Hits.{times}
 use Rattle.tl_check_active.specs.declared.events.Event.{Event}
-use Rattle.tl_check_heights.specs.Heights.{height, widest}
+use Rattle.tl_check_planar.specs.ByHeight.Heights.{height, widest}
 use Rattle.tl_check_active.specs.Events.{begins_at, ends_at, between}
 use Rattle.tl_check_active.proofs.vertices.gather.Given as goal
 

@@ -1,7 +1,7 @@
 use Rattle.std.proofs.Common.{sym, subst}
 use Rattle.std.specs.Prelude.{All, IfSome}
 use Rattle.std.proofs.lemmas.Result.{IfOk-weaker}
-use Rattle.tl_check_heights.specs.Heights.{widest}
+use Rattle.tl_check_planar.specs.ByHeight.Heights.{widest}
 use Rattle.tl_check_faces.specs.Odd.{IsLowestOddGap}
 use Rattle.tl_check_sweep.specs.Gaps.{AreAllOddGaps}
 use Rattle.tl_check_sweep.proofs.Lowest.{all_lowest}

@@ -1,7 +1,7 @@
 use Rattle.std.proofs.Common.{◌+◌, take, sym, subst, All}
 use Rattle.std.proofs.lemmas.List.Elements.{All-push}
 use Rattle.std.specs.List.{AllZip}
-use Rattle.tl_check_heights.specs.Heights.{widest}
+use Rattle.tl_check_planar.specs.ByHeight.Heights.{widest}
 use Rattle.tl_check_faces.specs.Faults.{IsTrueFaceFault, IsOfGap}
 use Rattle.tl_check_face_search.proofs.Zipped.{zipped_next}
 use Rattle.tl_check_face_search.proofs.all.faults_of.Goals as goal

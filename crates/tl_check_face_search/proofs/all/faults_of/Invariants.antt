@@ -1,6 +1,6 @@
 use Rattle.std.proofs.Common.{take, All}
 use Rattle.std.specs.List.{AllZip}
-use Rattle.tl_check_heights.specs.Heights.{widest}
+use Rattle.tl_check_planar.specs.ByHeight.Heights.{widest}
 use Rattle.tl_check_faces.specs.Faults.{IsTrueFaceFault, IsOfGap}
 use Rattle.tl_check_face_search.proofs.all.faults_of.Given as goal
 

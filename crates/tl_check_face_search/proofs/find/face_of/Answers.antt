@@ -1,5 +1,5 @@
 use Rattle.std.proofs.Common.{refl}
-use Rattle.tl_check_heights.specs.Heights.{height, widest}
+use Rattle.tl_check_planar.specs.ByHeight.Heights.{height, widest}
 use Rattle.tl_check_active.proofs.Listing.{own}
 use Rattle.tl_check_face_search.proofs.Told.{face_read}
 use Rattle.tl_check_face_search.proofs.find.face_of.Goals as goal

@@ -1,4 +1,4 @@
-use Rattle.tl_check_heights.specs.Heights.{height, widest}
+use Rattle.tl_check_planar.specs.ByHeight.Heights.{height, widest}
 use Rattle.tl_check_face_search.proofs.Told.{west_face}
 use Rattle.tl_check_face_search.proofs.find.west_face.Goals as goal
 

@@ -1,6 +1,6 @@
 use Rattle.std.proofs.Common.{[], refl, sym, subst}
-use Rattle.tl_check_heights.specs.Heights.{height, widest}
-use Rattle.tl_check_heights.specs.Slabs.{IsListOf}
+use Rattle.tl_check_planar.specs.ByHeight.Heights.{height, widest}
+use Rattle.tl_check_planar.specs.ByHeight.Slabs.{IsListOf}
 use Rattle.tl_check_face_search.proofs.BySlabs.{told_above}
 use Rattle.tl_check_face_search.proofs.gaps.push_above.Goals as goal
 

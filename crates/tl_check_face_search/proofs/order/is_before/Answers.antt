@@ -1,5 +1,5 @@
 use Rattle.tl_check_planar.proofs.Numbering.{below_total}
-use Rattle.tl_check_heights.specs.Heights.{height, widest}
+use Rattle.tl_check_planar.specs.ByHeight.Heights.{height, widest}
 use Rattle.tl_check_active.proofs.Listing.{own}
 use Rattle.tl_check_face_search.proofs.Beside.{before, behind}
 use Rattle.tl_check_face_search.proofs.order.is_before.Goals as goal

@@ -1,6 +1,6 @@
 use Rattle.std.proofs.Common.{◌≡◌, pos, ◌≤ℤ◌, to_z, of_z, w64, ◌∙◌, arith}
 use Rattle.std.proofs.lemmas.Int.{ints}
-use Rattle.tl_check_heights.specs.Heights.{height, widest}
+use Rattle.tl_check_planar.specs.ByHeight.Heights.{height, widest}
 use Rattle.tl_check_face_search.proofs.Begun.{begun_by}
 use Rattle.tl_check_face_search.proofs.order.is_begun.Goals as goal
 

@@ -1,6 +1,6 @@
 use Rattle.std.proofs.Common.{◌≡◌, pos, ◌+ℤ◌, rules}
 use Rattle.std.proofs.lemmas.Fn.{always_returns_same}
-use Rattle.tl_check_heights.specs.Heights.{height, widest}
+use Rattle.tl_check_planar.specs.ByHeight.Heights.{height, widest}
 use Rattle.tl_check_faces.specs.declared.odd.OddGap.{OddGap}
 use Rattle.tl_check_sweep.specs.Gaps.{order_of}
 use Rattle.tl_check_sweep.proofs.kept.sort_gaps.Goals as goal

@@ -1,6 +1,6 @@
 use Rattle.tl_geom.specs.Plane.{turn_of}
 use Rattle.tl_check_planar.specs.Keeping.Apart.{one_found}
-use Rattle.tl_check_heights.specs.Heights.{widest}
+use Rattle.tl_check_planar.specs.ByHeight.Heights.{widest}
 use Rattle.tl_check_active.proofs.Listing.{own}
 use Rattle.tl_check_sweep.proofs.Spotting.{west_by}
 use Rattle.tl_check_sweep.proofs.Turning.{gt_test}

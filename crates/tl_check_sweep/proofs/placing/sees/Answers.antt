@@ -1,5 +1,5 @@
 use Rattle.std.proofs.Common.{◌∙◌}
-use Rattle.tl_check_heights.specs.Heights.{widest}
+use Rattle.tl_check_planar.specs.ByHeight.Heights.{widest}
 use Rattle.tl_check_sweep.proofs.Spotting.{east_of_last, west_of_first}
 use Rattle.tl_check_active.proofs.Tests.{never}
 use Rattle.tl_check_sweep.proofs.placing.sees.Goals as goal

@@ -4,8 +4,8 @@ use Rattle.tl_geom.specs.declared.point.Point.{Point}
 use Rattle.tl_geom.specs.declared.segment.Segment.{Segment}
 use Rattle.tl_map_county.specs.TheMap.{MapChain}
 use Rattle.tl_tree_index.specs.Hits.{times}
-use Rattle.tl_check_heights.specs.Heights.{height, low_end, high_end}
-use Rattle.tl_check_heights.specs.Neighbours.{IsNumbered, AreTested, EachTwo}
+use Rattle.tl_check_planar.specs.ByHeight.Heights.{height, low_end, high_end}
+use Rattle.tl_check_planar.specs.ByHeight.Neighbours.{IsNumbered, AreTested, EachTwo}
 
 -- segment s is active in the slab above height n: it begins at n or below, and ends above
 pub record IsActive (K n : ℤ) (chains : List MapChain) (s : ℕ) : Type 0 where

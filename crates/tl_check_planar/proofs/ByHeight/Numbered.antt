@@ -9,7 +9,7 @@ use Rattle.tl_geom.proofs.Crossings.{end_same}
 use Rattle.tl_map_county.specs.TheMap.{MapChain}
 use Rattle.tl_check_planar.specs.Meets.{IsSharedBy}
 use Rattle.tl_check_planar.proofs.Numbering.{HaveSameEnds, same_ends}
-use Rattle.tl_check_heights.specs.Neighbours.{IsNumbered, AreApartOrAtEnds}
+use Rattle.tl_check_planar.specs.ByHeight.Neighbours.{IsNumbered, AreApartOrAtEnds}
 
 pub one_segment : (chains : List MapChain) (s : ℕ) (u w : Segment) → IsNumbered chains s u → IsNumbered chains s w → HaveSameEnds u w
 one_segment chains s u w m n = same_ends chains s m.c m.k n.c n.k u w m.number m.joins n.number n.joins

@@ -3,6 +3,5 @@
 //!
 //! [`laws`] states it of the definitions in `specs`: heights, by which no segment is level; which of two segments is west of the
 //! other; and the lists of all slabs. `tl_check_active` keeps such a list, with which `tl_check_sweep` goes from slab to slab.
-#![tactic(auto)]
 
 pub mod laws;

@@ -11,9 +11,9 @@ use Rattle.tl_geom.specs.Plane.{IsOn, IsSame, IsBetween, whole}
 use Rattle.tl_geom.proofs.Polynomials.{num, ◌⊕◌, ◌⊖◌, ◌⊗◌, same}
 use Rattle.tl_geom.proofs.Signs.{mono_lt, product_at_least, at_least_of_product, square, square_above, product_above, between_product, product_between, times_zero, zero_product, sign}
 use Rattle.tl_check_planar.proofs.Ends.{same_by_products}
-use Rattle.tl_check_heights.specs.Heights.{height, height_of, turn_at}
-use Rattle.tl_check_heights.proofs.Order.{rise, rise_of}
-use Rattle.tl_check_heights.proofs.Rising.{AreEndsOf}
+use Rattle.tl_check_planar.specs.ByHeight.Heights.{height, height_of, turn_at}
+use Rattle.tl_check_planar.proofs.ByHeight.Order.{rise, rise_of}
+use Rattle.tl_check_planar.proofs.ByHeight.Rising.{AreEndsOf}
 
 -- a place between two points, on their line
 pub record IsOnFrom (a b : Point) (r : Rational) : Type 0 where

@@ -5,7 +5,7 @@ use Rattle.tl_geom.specs.declared.segment.Segment.{Segment}
 use Rattle.tl_geom.specs.Contact.{AreApart, MeetAtEnds}
 use Rattle.tl_map_county.specs.TheMap.{MapChain}
 use Rattle.tl_map_county.specs.Segments.{IsSegmentOf, Joins}
-use Rattle.tl_check_heights.specs.Heights.{low_end, high_end, turn_to, AreNear}
+use Rattle.tl_check_planar.specs.ByHeight.Heights.{low_end, high_end, turn_to, AreNear}
 
 -- u is west of w, by two turns: of their low ends one isn't on the wrong side of the other segment's line, and of their high
 -- ends one isn't

@@ -1,7 +1,7 @@
 -- Segments of which one is west of the other without touching it.
 use Rattle.std.specs.Prelude.{◌⊎◌, ℤ, pos, ◌<ℤ◌}
 use Rattle.tl_geom.specs.declared.segment.Segment.{Segment}
-use Rattle.tl_check_heights.specs.Heights.{low_end, high_end, turn_to}
+use Rattle.tl_check_planar.specs.ByHeight.Heights.{low_end, high_end, turn_to}
 
 -- u is clearly west of w: of their low ends one is strictly on the right side of the other segment's line, and of their high
 -- ends one is

@@ -13,7 +13,7 @@ use Rattle.tl_check_planar.specs.Planar.{IsOnSegment, IsChainEnd, MayShareWithin
 use Rattle.tl_check_planar.specs.Meets.{IsSharedBy, IsAllowed}
 use Rattle.tl_check_planar.proofs.Ends.{vertex_at}
 use Rattle.tl_check_planar.proofs.Planes.{one_points}
-use Rattle.tl_check_heights.specs.Slabs.{IsPointOf, IsEndPlace, AreVerticesTested}
+use Rattle.tl_check_planar.specs.ByHeight.Slabs.{IsPointOf, IsEndPlace, AreVerticesTested}
 
 -- the place is the point at place k of a chain, one of the two of segment i
 record IsAtPlace (points : List Point) (i : ℕ) (r : Rational) : Type 0 where

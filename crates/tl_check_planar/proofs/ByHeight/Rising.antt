@@ -7,8 +7,8 @@ use Rattle.tl_geom.specs.declared.segment.Segment.{Segment}
 use Rattle.tl_geom.proofs.Polynomials.{num, ◌⊗◌, same}
 use Rattle.tl_geom.proofs.Signs.{mono, sign}
 use Rattle.tl_geom.proofs.Places.{point_same}
-use Rattle.tl_check_heights.specs.Heights.{height, AreNear, low_end, high_end}
-use Rattle.tl_check_heights.proofs.Order.{rise}
+use Rattle.tl_check_planar.specs.ByHeight.Heights.{height, AreNear, low_end, high_end}
+use Rattle.tl_check_planar.proofs.ByHeight.Order.{rise}
 
 pub lt_of : (x y : ℤ) → int_lt x y ≡ true → x <ℤ y
 lt_of x y e = record { lt = subst T (sym e) tt }

@@ -9,7 +9,7 @@ use Rattle.tl_geom.specs.declared.rational.Rational.{Rational}
 use Rattle.tl_geom.specs.Plane.{whole, turn_of}
 use Rattle.tl_geom.proofs.Polynomials.{num, ◌⊕◌, ◌⊖◌, ◌⊗◌, same}
 use Rattle.tl_geom.proofs.Signs.{mono, product_at_least, product_above, at_least_of_product, above_of_product}
-use Rattle.tl_check_heights.specs.Heights.{height, height_of, turn_at}
+use Rattle.tl_check_planar.specs.ByHeight.Heights.{height, height_of, turn_at}
 
 -- ---- how heights differ
 

@@ -1,5 +1,5 @@
-use Rattle.tl_check_heights.proofs.Transport.{not_east, on_both}
-use Rattle.tl_check_heights.proofs.laws.what_is_west_stays_west.Goals as goal
+use Rattle.tl_check_planar.proofs.ByHeight.Transport.{not_east, on_both}
+use Rattle.tl_check_planar.proofs.by_height.laws.what_is_west_stays_west.Goals as goal
 
 pub returns : goal.returns
 returns c = λ K u w r near near' west spans spans' h. (

@@ -10,13 +10,13 @@ use Rattle.tl_geom.proofs.Signs.{mono}
 use Rattle.tl_map_county.specs.TheMap.{MapChain}
 use Rattle.tl_tree_index.specs.Hits.{times}
 use Rattle.tl_tree_index.proofs.Times.{same_or, times-other}
-use Rattle.tl_check_heights.specs.Heights.{height, height_of, low_end, high_end, turn_at, AreNear, Spans, IsNotEast}
-use Rattle.tl_check_heights.specs.Neighbours.{IsNumbered, IsWide, AreTested, EachTwo, IsWestOf}
-use Rattle.tl_check_heights.specs.Slabs.{IsActive}
-use Rattle.tl_check_heights.proofs.Rising.{ends_of}
-use Rattle.tl_check_heights.proofs.Lying.{heights_of}
-use Rattle.tl_check_heights.proofs.Transport.{not_east, on_both}
-use Rattle.tl_check_heights.proofs.Numbered.{IsOnIt, IsEndOfIt, both_ended}
+use Rattle.tl_check_planar.specs.ByHeight.Heights.{height, height_of, low_end, high_end, turn_at, AreNear, Spans, IsNotEast}
+use Rattle.tl_check_planar.specs.ByHeight.Neighbours.{IsNumbered, IsWide, AreTested, EachTwo, IsWestOf}
+use Rattle.tl_check_planar.specs.ByHeight.Slabs.{IsActive}
+use Rattle.tl_check_planar.proofs.ByHeight.Rising.{ends_of}
+use Rattle.tl_check_planar.proofs.ByHeight.Lying.{heights_of}
+use Rattle.tl_check_planar.proofs.ByHeight.Transport.{not_east, on_both}
+use Rattle.tl_check_planar.proofs.ByHeight.Numbered.{IsOnIt, IsEndOfIt, both_ended}
 
 -- ---- lists
 

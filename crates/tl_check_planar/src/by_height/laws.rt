@@ -6,9 +6,9 @@ ghost use Rattle.tl_geom.specs.declared.segment.Segment.{Segment};
 ghost use Rattle.tl_geom.specs.Plane.{IsOn};
 ghost use Rattle.tl_map_county.specs.TheMap.{MapChain};
 ghost use Rattle.tl_check_planar.specs.Planar.{IsPlanar};
-ghost use Rattle.tl_check_heights.specs.Heights.{AreNear, Spans, IsNotEast};
-ghost use Rattle.tl_check_heights.specs.Neighbours.{IsWestOf, IsWide};
-ghost use Rattle.tl_check_heights.specs.Slabs.{AreSlabsTested, AreVerticesTested};
+ghost use Rattle.tl_check_planar.specs.ByHeight.Heights.{AreNear, Spans, IsNotEast};
+ghost use Rattle.tl_check_planar.specs.ByHeight.Neighbours.{IsWestOf, IsWide};
+ghost use Rattle.tl_check_planar.specs.ByHeight.Slabs.{AreSlabsTested, AreVerticesTested};
 
 /// A place that isn't east of a segment isn't east of one that the segment is west of, if both have a point at its height.
 /// And if the place lies on the eastern one, it lies on both.

@@ -11,15 +11,15 @@ use Rattle.tl_map_county.specs.TheMap.{MapChain}
 use Rattle.tl_check_planar.specs.Planar.{IsPlanar}
 use Rattle.tl_check_planar.specs.Meets.{AreFree}
 use Rattle.tl_check_planar.proofs.Planes.{free_planar}
-use Rattle.tl_check_heights.specs.Heights.{height, height_of, AreNear, low_end, high_end}
-use Rattle.tl_check_heights.specs.Neighbours.{IsNumbered, IsWide}
-use Rattle.tl_check_heights.specs.Slabs.{IsListOf, AreSlabsTested, AreVerticesTested}
-use Rattle.tl_check_heights.proofs.Rising.{AreEndsOf, ends_of}
-use Rattle.tl_check_heights.proofs.Lying.{heights_of, at_first, at_last}
-use Rattle.tl_check_heights.proofs.Numbered.{IsEndOfIt, on_it, end_of_it, first_of, second_of}
-use Rattle.tl_check_heights.proofs.Walking.{in_by_times, meet_at_ends}
-use Rattle.tl_check_heights.proofs.Floors.{IsFloor, floor}
-use Rattle.tl_check_heights.proofs.Vertices.{may_share}
+use Rattle.tl_check_planar.specs.ByHeight.Heights.{height, height_of, AreNear, low_end, high_end}
+use Rattle.tl_check_planar.specs.ByHeight.Neighbours.{IsNumbered, IsWide}
+use Rattle.tl_check_planar.specs.ByHeight.Slabs.{IsListOf, AreSlabsTested, AreVerticesTested}
+use Rattle.tl_check_planar.proofs.ByHeight.Rising.{AreEndsOf, ends_of}
+use Rattle.tl_check_planar.proofs.ByHeight.Lying.{heights_of, at_first, at_last}
+use Rattle.tl_check_planar.proofs.ByHeight.Numbered.{IsEndOfIt, on_it, end_of_it, first_of, second_of}
+use Rattle.tl_check_planar.proofs.ByHeight.Walking.{in_by_times, meet_at_ends}
+use Rattle.tl_check_planar.proofs.ByHeight.Floors.{IsFloor, floor}
+use Rattle.tl_check_planar.proofs.ByHeight.Vertices.{may_share}
 
 module _ (K : ℤ) (r : Rational) where
   -- the place is strictly between the heights of the segment's ends

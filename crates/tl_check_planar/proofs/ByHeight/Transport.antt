@@ -7,12 +7,12 @@ use Rattle.tl_geom.specs.declared.segment.Segment.{Segment}
 use Rattle.tl_geom.specs.Plane.{IsOn, whole, turn_of}
 use Rattle.tl_geom.specs.Contact.{AreApart}
 use Rattle.tl_geom.proofs.Signs.{mono, mono_lt, product_at_least, product_above, at_least_of_product, above_of_product, cancel_lt, times_zero, zero_product}
-use Rattle.tl_check_heights.specs.Heights.{height, height_of, AreNear, low_end, high_end, turn_to, turn_at, Spans, IsNotEast}
-use Rattle.tl_check_heights.specs.Neighbours.{IsWestOf}
-use Rattle.tl_check_heights.specs.Keeping.Clear.{IsClearlyWestOf}
-use Rattle.tl_check_heights.proofs.Order.{in_order, west_between, turn_whole, turn_first, turn_last}
-use Rattle.tl_check_heights.proofs.Rising.{AreEndsOf, ends_of, above_zero}
-use Rattle.tl_check_heights.proofs.Lying.{heights_of, lies_on}
+use Rattle.tl_check_planar.specs.ByHeight.Heights.{height, height_of, AreNear, low_end, high_end, turn_to, turn_at, Spans, IsNotEast}
+use Rattle.tl_check_planar.specs.ByHeight.Neighbours.{IsWestOf}
+use Rattle.tl_check_planar.specs.ByHeight.Keeping.Clear.{IsClearlyWestOf}
+use Rattle.tl_check_planar.proofs.ByHeight.Order.{in_order, west_between, turn_whole, turn_first, turn_last}
+use Rattle.tl_check_planar.proofs.ByHeight.Rising.{AreEndsOf, ends_of, above_zero}
+use Rattle.tl_check_planar.proofs.ByHeight.Lying.{heights_of, lies_on}
 
 module _ (K : ℤ) (u w : Segment) (near : AreNear K u.a u.b) (near' : AreNear K w.a w.b) where
   ends : AreEndsOf K u (low_end K u) (high_end K u)
