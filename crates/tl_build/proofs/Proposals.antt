@@ -5,7 +5,7 @@ use Rattle.tl_check_planar.specs.Planar.{IsPlanar}
 use Rattle.tl_check_planar.specs.Rectangles.{segment_rect}
 use Rattle.tl_tree_index.specs.Trees.{tree_of}
 use Rattle.tl_tree.proofs.Checks.{fault-unfit}
-use Rattle.tl_check_crossings.specs.Headings.{AreProper}
+use Rattle.tl_check_faces.specs.Crossings.Headings.{AreProper}
 use Rattle.tl_cert.specs.Certificates.{TheCertificate}
 use Rattle.tl_check_verdict.specs.declared.fault.CertFault.{CertFault}
 use Rattle.tl_check_verdict.specs.declared.fault.CertFault.TheVariants.{Text, Counts, Tree, TooDeep, Round, Walk}

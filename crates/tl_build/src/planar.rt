@@ -6,7 +6,7 @@ ghost use Rattle.tl_check_sides.specs.Sides.{SidesAgree};
 ghost use Rattle.tl_check_sides.specs.Walks.{AreWalks};
 ghost use Rattle.tl_check_inside.specs.Placed.{ArePlaced};
 ghost use Rattle.tl_check_sides.specs.Cells.Cells.{CellsAgree};
-ghost use Rattle.tl_check_crossings.specs.Headings.{AreProper};
+ghost use Rattle.tl_check_faces.specs.Crossings.Headings.{AreProper};
 ghost use Rattle.tl_check_verdict.specs.Sound.{IsSound};
 ghost use Rattle.tl_check_verdict.specs.Truth.{IsTrueOfMap};
 ghost use Rattle.tl_build.specs.Keeping.Deciding.{Audits, Builds};

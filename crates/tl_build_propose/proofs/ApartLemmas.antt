@@ -14,7 +14,7 @@ use Rattle.tl_map_county.proofs.NodeLemmas.{one_number}
 use Rattle.tl_tree_pack.proofs.Holding.{once_in}
 use Rattle.tl_check_sides.proofs.Headings.{dart_within, heads_alike}
 use Rattle.tl_check_sides.proofs.ListLemmas.{place_of, one_place}
-use Rattle.tl_check_crossings.specs.Headings.{HeadApart}
+use Rattle.tl_check_faces.specs.Crossings.Headings.{HeadApart}
 use Rattle.tl_check_sides.proofs.Turns.{joined}
 use Rattle.tl_check_sides.specs.declared.headed.HeadedDart.{HeadedDart}
 use Rattle.tl_build_propose.specs.Keeping.Lists.{darts_in}

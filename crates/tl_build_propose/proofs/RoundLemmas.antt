@@ -15,8 +15,8 @@ use Rattle.tl_check_sides.specs.Sides.{dart_count}
 use Rattle.tl_check_sides.specs.Rounds.{AreRounds, HasOneNode, AreRising, round_start}
 use Rattle.tl_check_sides.proofs.ListLemmas.{one_place}
 use Rattle.tl_check_sides.proofs.NodeFacts.{starts_first}
-use Rattle.tl_check_crossings.specs.Headings.{HeadApart}
-use Rattle.tl_check_crossings.proofs.Rounds.{once_at}
+use Rattle.tl_check_faces.specs.Crossings.Headings.{HeadApart}
+use Rattle.tl_check_faces.proofs.Crossings.Rounds.{once_at}
 use Rattle.tl_check_sides.specs.declared.headed.HeadedDart.{HeadedDart}
 use Rattle.tl_build_propose.specs.Keeping.Lists.{darts_in}
 use Rattle.tl_build_propose.specs.Keeping.Sorting.{AreCut, IsGroup, IsStartOf, node_of}

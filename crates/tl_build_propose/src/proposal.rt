@@ -8,7 +8,7 @@ ghost use Rattle.tl_check_planar.specs.Planar.{IsPlanar};
 ghost use Rattle.tl_check_sides.specs.Lists.{HoldOnce};
 ghost use Rattle.tl_check_sides.specs.Rounds.{AreRounds};
 ghost use Rattle.tl_check_sides.specs.Walks.{AreWalks};
-ghost use Rattle.tl_check_crossings.specs.Headings.{AreProper, HeadApart};
+ghost use Rattle.tl_check_faces.specs.Crossings.Headings.{AreProper, HeadApart};
 ghost use Rattle.tl_cert.specs.Certificates.{AreDartLists, IsCounted, IsNode};
 ghost use Rattle.tl_check_verdict.specs.Valid.{AreCounts, IsTree};
 ghost use Rattle.tl_build_propose.specs.Keeping.Lists.{lists_in};

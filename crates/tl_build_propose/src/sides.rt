@@ -3,7 +3,7 @@
 ghost use Rattle.std.specs.Prelude.{MatchOption, false};
 ghost use Rattle.tl_check_sides.specs.Sides.{IsRing, SidesAgree};
 ghost use Rattle.tl_check_sides.specs.Walks.{AreWalks};
-ghost use Rattle.tl_check_crossings.specs.Headings.{HeadApart};
+ghost use Rattle.tl_check_faces.specs.Crossings.Headings.{HeadApart};
 ghost use Rattle.tl_check_verdict.specs.Truth.{IsTrueOfMap};
 ghost use Rattle.tl_build_propose.specs.Keeping.Lists.{lists_in};
 ghost use Rattle.tl_build_propose.specs.Keeping.Siding.{HasOneLeft};

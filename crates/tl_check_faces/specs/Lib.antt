@@ -9,3 +9,4 @@ pub mod Disagreements
 pub mod Odd
 pub mod Faults
 pub mod FaultTexts
+pub mod Crossings

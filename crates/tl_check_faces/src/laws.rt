@@ -10,7 +10,7 @@ ghost use Rattle.tl_map_county.specs.declared.sides.Side.TheVariants.{Outside};
 ghost use Rattle.tl_map_county.specs.TheMap.{TheMap, MapChain};
 ghost use Rattle.tl_check_planar.specs.Planar.{IsPlanar};
 ghost use Rattle.tl_check_sides.specs.Sides.{SidesAgree};
-ghost use Rattle.tl_check_crossings.specs.Headings.{AreProper, HeadApart};
+ghost use Rattle.tl_check_faces.specs.Crossings.Headings.{AreProper, HeadApart};
 ghost use Rattle.tl_check_inside.specs.declared.place.Place.{Place};
 ghost use Rattle.tl_check_inside.specs.Inside.{IsCount, flanks_at};
 ghost use Rattle.tl_check_inside.specs.Places.{IsPlaceOf};

@@ -13,6 +13,7 @@
 //! is true of a map. And a look-up of a point lists what lies there (`specs/Located`).
 #![tactic(auto)]
 
+pub mod crossings;
 mod fault;
 pub mod laws;
 mod odd;

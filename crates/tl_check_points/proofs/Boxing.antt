@@ -11,7 +11,7 @@ use Rattle.tl_map_county.specs.Darts.{chain_of}
 use Rattle.tl_check_planar.specs.Keeping.Apart.{one_found}
 use Rattle.tl_check_inside.proofs.Stripping.{one_more}
 use Rattle.tl_check_sides.specs.Lists.{and_list, list_at}
-use Rattle.tl_check_crossings.specs.Rings.{HoldsDart, HoldsRing}
+use Rattle.tl_check_faces.specs.Crossings.Rings.{HoldsDart, HoldsRing}
 use Rattle.tl_check_points.specs.Rings.{TheRings, AreBoxed, box_at}
 
 -- a rectangle that covers what holds the first i and what holds the next holds one more

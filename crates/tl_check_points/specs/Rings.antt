@@ -3,7 +3,7 @@ use Rattle.std.specs.Prelude.{◌≡◌, ℕ, ◌<◌, pos, List, length, slice_
 use Rattle.tl_geom.specs.declared.rect.Rect.{Rect}
 use Rattle.tl_map_county.specs.TheMap.{MapChain}
 use Rattle.tl_check_sides.specs.Lists.{list_at}
-use Rattle.tl_check_crossings.specs.Rings.{HoldsRing}
+use Rattle.tl_check_faces.specs.Crossings.Rings.{HoldsRing}
 
 -- rings, and their rectangles in the same order
 pub record TheRings : Type 0 where

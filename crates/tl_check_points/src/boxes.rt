@@ -2,7 +2,7 @@
 
 ghost use Rattle.std.specs.Prelude.{◌<◌, ◌*◌, length, All};
 ghost use Rattle.tl_geom.specs.Rectangle.{Holds};
-ghost use Rattle.tl_check_crossings.specs.Rings.{HoldsRing};
+ghost use Rattle.tl_check_faces.specs.Crossings.Rings.{HoldsRing};
 
 use tl_geom::{Point, Rect};
 use tl_map_county::Map;

@@ -7,7 +7,7 @@ ghost use Rattle.tl_map_county.specs.declared.sides.Side.TheVariants.{Outside};
 ghost use Rattle.tl_map_county.specs.Darts.{dart_left};
 ghost use Rattle.tl_check_sides.specs.Sides.{IsRing, SidesAgree};
 ghost use Rattle.tl_check_sides.specs.Walks.{AreWalks};
-ghost use Rattle.tl_check_crossings.specs.Rings.{goes_up_across, crossing, crossings, ring_count, rings_count};
+ghost use Rattle.tl_check_faces.specs.Crossings.Rings.{goes_up_across, crossing, crossings, ring_count, rings_count};
 ghost use Rattle.tl_check_points.specs.Keeping.Looking.{AddCounts, on_side, left_count};
 
 use crate::rings::Rings;

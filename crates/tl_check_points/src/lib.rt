@@ -2,7 +2,7 @@
 //!
 //! Where sides agree, a ring of darts winds about no point outside of its bounding box. So the count of a polygon at a
 //! point is what the rings with that polygon on their left add whose boxes hold the point
-//! (`tl_check_crossings::laws::rings_that_hold_a_point_count_for_all`). They are found with a tree over the boxes.
+//! (`tl_check_faces::crossings::laws::rings_that_hold_a_point_count_for_all`). They are found with a tree over the boxes.
 #![tactic(auto)]
 
 mod boxes;

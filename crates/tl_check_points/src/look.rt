@@ -7,7 +7,7 @@ ghost use Rattle.tl_check_sides.specs.Sides.{SidesAgree};
 ghost use Rattle.tl_check_sides.specs.Walks.{AreWalks};
 ghost use Rattle.tl_check_inside.specs.Keeping.Strips.{IsSiteOf};
 ghost use Rattle.tl_check_inside.specs.Keeping.Tallies.{AreClear};
-ghost use Rattle.tl_check_crossings.specs.Headings.{AreProper};
+ghost use Rattle.tl_check_faces.specs.Crossings.Headings.{AreProper};
 ghost use Rattle.tl_check_points.specs.Rings.{AreBoxed, box_at};
 ghost use Rattle.tl_check_points.specs.Keeping.Spots.{ring_count};
 ghost use Rattle.tl_check_points.specs.Keeping.Looking.{AreSound, IsLook};

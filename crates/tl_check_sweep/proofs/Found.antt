@@ -12,7 +12,7 @@ use Rattle.tl_map_county.specs.TheMap.{MapChain}
 use Rattle.tl_map_county.specs.Segments.{segments_before, IsSegmentOf}
 use Rattle.tl_check_planar.specs.Keeping.Apart.{one_found}
 use Rattle.tl_check_planar.proofs.Numbering.{one_chain, one_place, below_total, HaveSameEnds}
-use Rattle.tl_check_crossings.specs.Headings.{AreProper}
+use Rattle.tl_check_faces.specs.Crossings.Headings.{AreProper}
 use Rattle.tl_check_active.specs.declared.events.Event.{Event}
 use Rattle.tl_check_planar.specs.ByHeight.Heights.{height, widest, low_end, high_end}
 use Rattle.tl_check_planar.specs.ByHeight.Neighbours.{IsNumbered, IsWide}

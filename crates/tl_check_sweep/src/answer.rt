@@ -5,7 +5,7 @@ ghost use Rattle.tl_check_planar.specs.Planar.{IsPlanar};
 ghost use Rattle.tl_check_planar.specs.declared.meet.Meet.{Meet};
 ghost use Rattle.tl_check_planar.specs.Searching.{IsTrueMeet};
 ghost use Rattle.tl_check_inside.specs.Placed.{ArePlaced, IsPlacedIn};
-ghost use Rattle.tl_check_crossings.specs.Headings.{AreProper};
+ghost use Rattle.tl_check_faces.specs.Crossings.Headings.{AreProper};
 ghost use Rattle.tl_check_planar.specs.ByHeight.Heights.{widest};
 ghost use Rattle.tl_check_planar.specs.ByHeight.Neighbours.{IsWide};
 ghost use Rattle.tl_check_planar.specs.ByHeight.Slabs.{AreVerticesTested};

@@ -1,7 +1,7 @@
 //! What is tested at vertices.
 ghost use Rattle.std.specs.Prelude.{◌≡◌, ◌<◌, ℕ, All, IsTrue, length};
 ghost use Rattle.tl_map_county.specs.Segments.{segments_before};
-ghost use Rattle.tl_check_crossings.specs.Headings.{AreProper};
+ghost use Rattle.tl_check_faces.specs.Crossings.Headings.{AreProper};
 ghost use Rattle.tl_check_planar.specs.ByHeight.Heights.{widest};
 ghost use Rattle.tl_check_planar.specs.ByHeight.Neighbours.{IsWide};
 ghost use Rattle.tl_check_planar.specs.ByHeight.Slabs.{AreVerticesTested};

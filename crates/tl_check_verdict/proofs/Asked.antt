@@ -2,7 +2,7 @@
 use Rattle.std.proofs.Common.{Bool, IsTrue, List}
 use Rattle.tl_map_county.specs.TheMap.{TheMap, MapChain}
 use Rattle.tl_check_planar.specs.Planar.{IsPlanar}
-use Rattle.tl_check_crossings.specs.Headings.{AreProper}
+use Rattle.tl_check_faces.specs.Crossings.Headings.{AreProper}
 use Rattle.tl_check_faces.specs.declared.fault.FaceFault.{FaceFault}
 use Rattle.tl_check_faces.specs.Facing.{FacesAgree}
 use Rattle.tl_check_faces.specs.Faults.{IsTrueFaceFault}

@@ -3,7 +3,7 @@ use Rattle.std.proofs.Common.{◌≡◌, ◌≢◌, Bool, IsTrue, true, false, z
 use Rattle.std.specs.Prelude.{Vec, ◌↔◌, All}
 use Rattle.std.specs.Global.{Global}
 use Rattle.tl_map_county.specs.TheMap.{TheMap}
-use Rattle.tl_check_crossings.specs.Headings.{AreProper}
+use Rattle.tl_check_faces.specs.Crossings.Headings.{AreProper}
 use Rattle.tl_check_planar.specs.ByHeight.Heights.{widest}
 use Rattle.tl_check_faces.specs.declared.fault.FaceFault.{FaceFault}
 use Rattle.tl_check_faces.specs.Facing.{FacesAgree}

@@ -8,7 +8,7 @@ use Rattle.tl_check_sides.specs.Lists.{HoldOnce}
 use Rattle.tl_check_sides.specs.Sides.{dart_count}
 use Rattle.tl_check_sides.specs.Rounds.{AreRounds}
 use Rattle.tl_check_sides.specs.Walks.{AreWalks}
-use Rattle.tl_check_crossings.specs.Headings.{AreProper}
+use Rattle.tl_check_faces.specs.Crossings.Headings.{AreProper}
 use Rattle.tl_cert.specs.Certificates.{TheCertificate}
 use Rattle.tl_check_verdict.specs.Valid.{AreCounts, IsTree}
 

@@ -6,7 +6,7 @@ use Rattle.tl_map_county.specs.Segments.{segments_before}
 use Rattle.tl_check_planar.specs.Rectangles.{segment_rect}
 use Rattle.tl_check_sides.specs.Sides.{SidesAgree}
 use Rattle.tl_check_sides.specs.Walks.{AreWalks}
-use Rattle.tl_check_crossings.specs.Headings.{AreProper}
+use Rattle.tl_check_faces.specs.Crossings.Headings.{AreProper}
 use Rattle.tl_check_points.specs.Rings.{AreBoxed, box_at}
 use Rattle.tl_check_points.specs.Keeping.Spots.{ring_count}
 use Rattle.tl_check_points.specs.declared.look.Grounds.{Grounds}
@@ -19,7 +19,7 @@ use Rattle.tl_check_inside.specs.declared.strips.Site.{Site}
 use Rattle.tl_check_inside.specs.Inside.{balance}
 use Rattle.tl_check_inside.specs.Placed.{IsPlacedIn, IsTrueMisplaced}
 use Rattle.tl_check_inside.specs.Keeping.Strips.{IsPlacedSite}
-use Rattle.tl_check_crossings.specs.Rings.{has_left, dart_crossings}
+use Rattle.tl_check_faces.specs.Crossings.Rings.{has_left, dart_crossings}
 use Rattle.tl_check_points.specs.declared.look.Look.{Look}
 use Rattle.tl_check_points.specs.declared.look.Look.TheVariants.{Right, Wrong, Costly}
 

@@ -1,5 +1,5 @@
 use Rattle.std.proofs.Common.{arith}
-use Rattle.tl_check_crossings.specs.Rings.{HoldsDart}
+use Rattle.tl_check_faces.specs.Crossings.Rings.{HoldsDart}
 use Rattle.tl_check_points.proofs.Boxing.{held_more, wider_dart, holds_dart}
 use Rattle.tl_check_points.proofs.boxes.box_of_ring.Goals as goal
 

@@ -1,5 +1,5 @@
 use Rattle.std.proofs.Common.{ℕ, ◌<◌, get_or}
-use Rattle.tl_check_crossings.specs.Rings.{HoldsDart}
+use Rattle.tl_check_faces.specs.Crossings.Rings.{HoldsDart}
 use Rattle.tl_check_points.proofs.boxes.box_of_ring.Given as goal
 
 -- it holds the darts so far

@@ -1,5 +1,5 @@
 use Rattle.std.proofs.Common.{take}
-use Rattle.tl_check_crossings.specs.Rings.{crossings}
+use Rattle.tl_check_faces.specs.Crossings.Rings.{crossings}
 use Rattle.tl_check_points.specs.Keeping.Looking.{AddCounts, on_side}
 use Rattle.tl_check_points.proofs.darts.list_chain.Given as goal
 

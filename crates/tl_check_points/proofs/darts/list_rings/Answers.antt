@@ -1,7 +1,7 @@
 use Rattle.std.proofs.Common.{subst, arith}
 use Rattle.std.proofs.lemmas.Result.{err_from_is_err_and}
 use Rattle.tl_check_sides.specs.Lists.{list_at}
-use Rattle.tl_check_crossings.specs.Rings.{ring_count}
+use Rattle.tl_check_faces.specs.Crossings.Rings.{ring_count}
 use Rattle.tl_check_points.specs.Keeping.Looking.{AddCounts}
 use Rattle.tl_check_points.proofs.Adding.{sum_more, sum_all}
 use Rattle.tl_check_points.proofs.Looking.{walk_is}

@@ -1,5 +1,5 @@
 use Rattle.std.proofs.Common.{take}
-use Rattle.tl_check_crossings.specs.Rings.{rings_count}
+use Rattle.tl_check_faces.specs.Crossings.Rings.{rings_count}
 use Rattle.tl_check_points.specs.Keeping.Looking.{AddCounts}
 use Rattle.tl_check_points.proofs.darts.list_rings.Given as goal
 

@@ -3,7 +3,7 @@ use Rattle.tl_check_inside.specs.Places.{IsLowestOn}
 use Rattle.tl_check_inside.specs.Keeping.Tallies.{TellCounts}
 use Rattle.tl_check_inside.proofs.Misplacing.{told_some, told_none}
 use Rattle.tl_check_points.specs.Keeping.Looking.{AddCounts}
-use Rattle.tl_check_crossings.specs.Rings.{rings_count}
+use Rattle.tl_check_faces.specs.Crossings.Rings.{rings_count}
 use Rattle.tl_check_points.proofs.Looking.{hits_known, rings_tell, placed_there}
 use Rattle.tl_check_points.proofs.look.look_at.Goals as goal
 

@@ -1,5 +1,0 @@
-use Rattle.tl_check_crossings.proofs.Apart.{apart}
-use Rattle.tl_check_crossings.proofs.laws.darts_of_planar_chains_head_apart.Goals as goal
-
-pub returns : goal.returns
-returns c = λ chains proper planar. apart chains planar proper

@@ -1,6 +1,0 @@
-use Rattle.tl_check_crossings.proofs.Apart.{apart}
-use Rattle.tl_check_crossings.proofs.Rays.{east_is_west}
-use Rattle.tl_check_crossings.proofs.laws.east_is_west.Goals as goal
-
-pub returns : goal.returns
-returns c = λ chains q S n proper planar agree off. east_is_west chains q S n proper (apart chains planar proper) agree off

@@ -1,5 +1,0 @@
-use Rattle.tl_check_crossings.proofs.Apart.{overlap}
-use Rattle.tl_check_crossings.proofs.laws.first_segments_of_one_heading_overlap.Goals as goal
-
-pub returns : goal.returns
-returns c = λ chains d e node first second proper. overlap chains proper d e node first second

@@ -1,9 +1,0 @@
-use Rattle.tl_check_crossings.proofs.Neighbours.{next_after}
-use Rattle.tl_check_crossings.proofs.Rounds.{next_in_round}
-use Rattle.tl_check_crossings.proofs.laws.next_is_the_neighbour.Goals as goal
-
-pub returns-clause-of_a_node : goal.returns-clause-of_a_node
-returns-clause-of_a_node c = λ chains node darts k are h. next_after chains node darts are k h
-
-pub returns-clause-in_rounds : goal.returns-clause-in_rounds
-returns-clause-in_rounds c = λ chains rounds r k proper are. next_in_round chains proper rounds are r k

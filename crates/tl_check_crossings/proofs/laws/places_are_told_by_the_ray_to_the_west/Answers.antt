@@ -1,6 +1,0 @@
-use Rattle.tl_check_crossings.proofs.Apart.{apart}
-use Rattle.tl_check_crossings.proofs.Telling.{told}
-use Rattle.tl_check_crossings.proofs.laws.places_are_told_by_the_ray_to_the_west.Goals as goal
-
-pub returns : goal.returns
-returns c = λ m q place proper planar agree is. told m proper (apart m.chains planar proper) agree q place is

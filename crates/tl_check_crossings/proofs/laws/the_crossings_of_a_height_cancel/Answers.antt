@@ -1,5 +1,0 @@
-use Rattle.tl_check_crossings.proofs.Cancelling.{cancelled}
-use Rattle.tl_check_crossings.proofs.laws.the_crossings_of_a_height_cancel.Goals as goal
-
-pub returns : goal.returns
-returns c = λ chains y S proper apart agree. cancelled chains proper apart agree y S
