@@ -36,7 +36,7 @@ SWEEPS, UNKNOWN, SLOW = "sweeps", "sweeps that say nothing", "slabs listed one b
 COUNTED = {
     SWEEPS: ["tl_check_sweep::answer::sweep"],
     UNKNOWN: ["tl_build::judge::judge", "tl_list::of_map::list_by_search"],
-    SLOW: ["tl_check_face_search::gaps::push_above"],
+    SLOW: ["tl_check_sweep::face_search::gaps::push_above"],
 }
 WANTED = {SWEEPS: 1, UNKNOWN: 0, SLOW: 0}
 CHAINS = 300

@@ -5,7 +5,7 @@
 //! rings where the points of polygons lie. Where the sweep says nothing, a certificate is proposed, and the checker of
 //! `tl_check` has the last word: it searches by the tree that `tl_tree_pack` makes over the segments. Each certificate that is
 //! made has that tree, and those darts and walks. Who wants the walks of a sound map alone takes [`find_walks`]. Where faces
-//! are asked for ([`audit_with`], [`build_with`]), the same sweep tells whether those of a sound map agree (`tl_check_face_search`).
+//! are asked for ([`audit_with`], [`build_with`]), the same sweep tells whether those of a sound map agree (`tl_check_sweep::face_search`).
 #![tactic(auto)]
 
 mod answer;

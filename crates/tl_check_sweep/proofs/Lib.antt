@@ -21,3 +21,4 @@ pub mod Spotting
 pub mod Answered
 pub mod Unmarked
 pub mod Turning
+pub mod FaceSearch

@@ -13,6 +13,7 @@
 #![tactic(auto)]
 
 mod answer;
+pub mod face_search;
 mod facing;
 mod kept;
 pub mod laws;

@@ -48,7 +48,7 @@ use Rattle.tl_check_faces.specs.Faults.{IsOfGap}
 use Rattle.tl_check_sweep.specs.Gaps.{order_of, AreAllOddGaps}
 use Rattle.tl_check_sweep.proofs.Keeping.{one_by_order}
 use Rattle.tl_check_sweep.proofs.Lowest.{at_odds as odd_sides, all_lowest}
-use Rattle.tl_check_face_search.proofs.Exact.{one_fault}
+use Rattle.tl_check_sweep.proofs.FaceSearch.Exact.{one_fault}
 use Rattle.std.specs.List.{AllZip}
 
 -- ---- lists of the same faults

@@ -17,7 +17,7 @@ use Rattle.tl_check_verdict.specs.Sound.{IsSound}
 use Rattle.tl_check_verdict.proofs.Denials.{not_sound_alone}
 use Rattle.tl_check_faces.specs.declared.fault.FaceFault.{FaceFault}
 use Rattle.tl_check_faces.specs.Faults.{IsTrueFaceFault}
-use Rattle.tl_check_face_search.proofs.Exact.{told as of_all_gaps}
+use Rattle.tl_check_sweep.proofs.FaceSearch.Exact.{told as of_all_gaps}
 use Rattle.tl_list_text.specs.MapFaults.{side_fault, ArePointsTold, AreMapFaults, AreFaceFaults, AreFaultsFor}
 use Rattle.tl_list.specs.Telling.{IsMeetOf, IsOfSides, IsOfCells, IsTold}
 use Rattle.tl_list.proofs.Emptiness.{odds_deny}

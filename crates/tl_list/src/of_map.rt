@@ -16,7 +16,7 @@ use crate::met::list_met;
 use crate::planar::list_planar;
 use crate::tell::push_faces;
 use std::alloc::Global;
-use tl_check_face_search::all_face_faults;
+use tl_check_sweep::face_search::all_face_faults;
 use tl_check_faces::OddGap;
 use tl_check_meets::all_meets;
 use tl_check_meets::laws::planar_where_no_meet_is_listed;

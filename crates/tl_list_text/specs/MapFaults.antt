@@ -16,7 +16,7 @@ use Rattle.tl_check_planar.specs.ByHeight.Heights.{widest}
 use Rattle.tl_check_faces.specs.declared.fault.FaceFault.{FaceFault}
 use Rattle.tl_check_faces.specs.Faults.{IsTrueFaceFault}
 use Rattle.tl_check_faces.specs.Truth.{AreFacesTrue}
-use Rattle.tl_check_face_search.specs.AllFaults.{AreOfAllGaps}
+use Rattle.tl_check_sweep.specs.FaceSearch.AllFaults.{AreOfAllGaps}
 use Rattle.tl_check_verdict.specs.Sound.{IsSound}
 use Rattle.tl_check_verdict.specs.declared.fault.MapFault.{MapFault}
 use Rattle.tl_check_verdict.specs.declared.fault.MapFault.TheVariants as fault

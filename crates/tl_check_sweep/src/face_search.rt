@@ -1,0 +1,25 @@
+//! Faces that disagree: two segments that face one another and name different sides there, or one that faces the outside and names a
+//! polygon.
+//!
+//! A gap of a slab's list whose facing sides differ, as `tl_check_faces` has it ([`tl_check_faces::OddGap`]), stands between numbers of segments.
+//! [`face_fault`] tells of it what can be looked up on the map: chains by their TLID, polygons by their keys, and from each segment
+//! a place at which it faces the other. `tl_check_faces/specs/Faults` says when that is true of a map.
+//!
+//! [`find_face_fault`] decides by a sweep (`tl_check_sweep`), and [`find_all_face_faults`] tells of all gaps that there are: `specs/AllFaults` says
+//! of which. Where a sweep was made already, [`face_fault_of`] and [`all_face_faults`] take what it told of gaps. Only where it told nothing
+//! of them, [`gaps_by_slabs`] lists all slabs one by one, which takes longer.
+
+mod all;
+mod decide;
+mod find;
+mod gaps;
+pub mod laws;
+mod midway;
+mod near;
+mod order;
+mod slab;
+
+pub use all::{all_face_faults, find_all_face_faults};
+pub use decide::{face_fault_of, find_face_fault};
+pub use find::face_fault;
+pub use gaps::gaps_by_slabs;
