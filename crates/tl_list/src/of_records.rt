@@ -21,7 +21,7 @@ use std::hash::RandomState;
 use tl_cert_output::Stop;
 use tl_check_verdict::fault_of_records;
 use tl_list_records::{KeptRecords, all_record_faults};
-use tl_list_refusals::list_refusals;
+use tl_list_records::refusals::list_refusals;
 use tl_list_text::Listing;
 use tl_map_county::Map;
 use tl_record::{Options, RecordReader, Source};

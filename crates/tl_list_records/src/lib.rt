@@ -15,6 +15,7 @@ pub mod laws;
 mod limits;
 mod numbers;
 mod order;
+pub mod refusals;
 mod runs;
 mod shape;
 mod tlids;

@@ -4,7 +4,7 @@ use Rattle.tl_record.specs.declared.options.Options.{Options}
 use Rattle.tl_record.specs.Layout.{layout_with}
 use Rattle.tl_record.specs.Records.{Records, records_of}
 use Rattle.tl_record.specs.Refusals.{refusals_of}
-use Rattle.tl_list_refusals.specs.Listing.{ListsAll}
+use Rattle.tl_list_records.specs.Refusals.Listing.{ListsAll}
 use Rattle.tl_map_rules.specs.declared.fault.RecordFault.{RecordFault}
 use Rattle.tl_map_rules.specs.Reading.{records_in}
 use Rattle.tl_list_records.specs.AllFaults.{AreAllFaults}

@@ -1,8 +1,8 @@
 use Rattle.std.proofs.Common.{◌≡◌, ◌-◌, ◌^◌, length}
 use Rattle.tl_record.specs.Reader.{source_of, standing_of, refusals_to_come}
 use Rattle.tl_record.specs.Searching.{goes_on}
-use Rattle.tl_list_refusals.proofs.ListLemmas.{ListsSoFar}
-use Rattle.tl_list_refusals.proofs.list.list_refusals.Given as goal
+use Rattle.tl_list_records.proofs.Refusals.ListLemmas.{ListsSoFar}
+use Rattle.tl_list_records.proofs.refusals.list.list_refusals.Given as goal
 
 abbrev pub invariant-refusals : goal.invariant-refusals
 invariant-refusals g l = record {

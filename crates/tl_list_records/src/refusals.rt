@@ -3,7 +3,6 @@
 //! A `RecordReader` of `tl_record` stops at the first line that is refused, and its `next_refusal` goes on from there.
 //! [`list_refusals`] lists that line and all later ones that are refused, whatever stands between them, and
 //! [`refused_lines`] those of a whole text. Both read the text once, and take no memory but the list.
-#![tactic(auto)]
 
 mod list;
 

@@ -10,7 +10,7 @@ use Rattle.tl_record.specs.declared.reader.RecordReader.{RecordReader}
 use Rattle.tl_record.specs.declared.stop.ReadStop.TheVariants.{Refused}
 use Rattle.tl_record.specs.declared.stop.ReadStop.TheVariants as stop
 use Rattle.tl_record.specs.Searching.{pair_of, GivesRefusal, RepeatsSearch, SettlesSearch, failed_once, goes_on}
-use Rattle.tl_list_refusals.specs.Listing.{ListsAll}
+use Rattle.tl_list_records.specs.Refusals.Listing.{ListsAll}
 
 -- the list has the first of the refusals that were to come, and the rest are still to come
 abbrev pub ListsSoFar : Option (List (ℕ × Cause)) → Option (List (ℕ × Cause)) → List Refusal → Type 0

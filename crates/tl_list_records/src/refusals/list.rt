@@ -5,7 +5,7 @@ ghost use Rattle.tl_record.specs.declared.reader.Standing.TheVariants.{Reading};
 ghost use Rattle.tl_record.specs.Layout.{layout_with};
 ghost use Rattle.tl_record.specs.Refusals.{refusals_of};
 ghost use Rattle.tl_record.specs.Reader.{source_of, standing_of, refusals_to_come};
-ghost use Rattle.tl_list_refusals.specs.Listing.{ListsAll, TellsDevice};
+ghost use Rattle.tl_list_records.specs.Refusals.Listing.{ListsAll, TellsDevice};
 ghost use Rattle.tl_cert_output.specs.Stops.{StopsFor};
 
 use std::alloc::Global;
