@@ -6,8 +6,8 @@ use Rattle.tl_cert_output.specs.Stops.{StopsFor}
 use Rattle.tigertopo_words.specs.declared.asked.Command.{Command}
 use Rattle.tigertopo_files.specs.Log.{LogsAgain}
 use Rattle.tigertopo_files.specs.World.{World}
-use Rattle.tigertopo_hint.specs.Again.{FailsAgain}
-use Rattle.tigertopo_hint.specs.Telling.{TellsHint}
+use Rattle.tigertopo_where.specs.Hint.Again.{FailsAgain}
+use Rattle.tigertopo_where.specs.Hint.Telling.{TellsHint}
 use Rattle.tl_cert_output.specs.Streams.{Stream, Tries}
 use Rattle.tigertopo_command.specs.declared.run.Outcome.{Outcome}
 use Rattle.tigertopo_command.specs.Commands.{names_read}

@@ -8,7 +8,7 @@ ghost use Rattle.tigertopo_command.specs.Hinting.{Hints, behind};
 
 use std::alloc::{AllocError, Global};
 use tigertopo_files::{FileSystem, all_names};
-use tigertopo_hint::say_hint;
+use tigertopo_where::hint::say_hint;
 use tigertopo_words::{Asked, Command};
 use tl_cert_output::Stop;
 use tl_record::Sink;

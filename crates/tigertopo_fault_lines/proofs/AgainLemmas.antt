@@ -9,10 +9,10 @@ use Rattle.tigertopo_files.specs.World.{World, Failed}
 use Rattle.tl_cert_output.specs.declared.stop.Stop.{Stop}
 use Rattle.tl_cert_output.specs.Stops.{StopsFor}
 use Rattle.tl_cert_output.proofs.StopLemmas.{stops_for}
-use Rattle.tigertopo_hint.specs.Again.{FailsAgain}
-use Rattle.tigertopo_hint.specs.Telling.{HaveTexts}
-use Rattle.tigertopo_hint.proofs.HintLemmas.{none_passing}
-use Rattle.tigertopo_hint.proofs.AgainLemmas.{stops_again}
+use Rattle.tigertopo_where.specs.Hint.Again.{FailsAgain}
+use Rattle.tigertopo_where.specs.Hint.Telling.{HaveTexts}
+use Rattle.tigertopo_where.proofs.Hint.HintLemmas.{none_passing}
+use Rattle.tigertopo_where.proofs.Hint.AgainLemmas.{stops_again}
 use Rattle.tl_record.specs.declared.record.Record.{Record}
 use Rattle.tl_map_county.specs.TheMap.{MapChain}
 use Rattle.tl_check_verdict.specs.declared.fault.MapFault.{MapFault}

@@ -7,7 +7,7 @@ use Rattle.tl_map_county.specs.TheMap.{MapChain}
 use Rattle.tigertopo_files.specs.Files.{Under}
 use Rattle.tl_check_verdict.specs.declared.fault.MapFault.{MapFault}
 use Rattle.tigertopo_where.specs.LinePlaces.{line_count}
-use Rattle.tigertopo_hint.specs.Telling.{HaveTexts}
+use Rattle.tigertopo_where.specs.Hint.Telling.{HaveTexts}
 use Rattle.tigertopo_fault_records.specs.Finding.{HoldsAll}
 use Rattle.tigertopo_fault_lines.specs.declared.again.Spoken.{Spoken}
 

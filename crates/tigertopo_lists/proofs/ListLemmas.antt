@@ -18,7 +18,7 @@ use Rattle.tl_map_county.specs.TheMap.{TheMap, MapChain}
 use Rattle.tigertopo_files.specs.Files.{Under}
 use Rattle.tigertopo_files.specs.Log.{Log, LogsAgain}
 use Rattle.tigertopo_files.specs.World.{World, Does, Failed, MayStop, Made}
-use Rattle.tigertopo_hint.specs.Again.{FailsAgain, SomeUnread}
+use Rattle.tigertopo_where.specs.Hint.Again.{FailsAgain, SomeUnread}
 use Rattle.tigertopo_files.proofs.WorldLemmas.{all_kept, none_made, unmade_from, may_stop, does_then}
 use Rattle.tigertopo_words.specs.declared.budget.Told.{Told}
 use Rattle.tigertopo_words.specs.declared.budget.Told.TheVariants.{One, All}

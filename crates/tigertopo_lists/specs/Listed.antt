@@ -10,7 +10,7 @@ use Rattle.tl_record.specs.Layout.{layout_with}
 use Rattle.tl_record.specs.Records.{records_of}
 use Rattle.tl_map_county.specs.TheMap.{TheMap, MapChain}
 use Rattle.tigertopo_files.specs.World.{World, Made, Unmade}
-use Rattle.tigertopo_hint.specs.Again.{SomeUnread}
+use Rattle.tigertopo_where.specs.Hint.Again.{SomeUnread}
 use Rattle.tigertopo_words.specs.declared.budget.Told.{Told}
 use Rattle.tigertopo_words.specs.declared.budget.Told.TheVariants.{One, All}
 use Rattle.tl_cert_output.specs.declared.stop.Stop.{Stop}

@@ -3,3 +3,4 @@ pub mod LinePlaces
 pub mod Finding
 pub mod FieldColumns
 pub mod Degrees
+pub mod Hint

@@ -8,6 +8,7 @@
 mod columns;
 mod degrees;
 mod field_columns;
+pub mod hint;
 pub mod laws;
 mod lines;
 mod place;

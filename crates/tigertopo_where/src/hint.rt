@@ -1,0 +1,11 @@
+//! Hints: what helps a person who reads that a line is refused, or that a device failed.
+//!
+//! [`say_hint`] reads the files again that can be, and says in which of them the line stands, in which of its lines and
+//! columns, and what it holds there; or which file can't be read, and why.
+
+mod again;
+mod shown;
+mod tell;
+
+pub use again::count_all;
+pub use tell::say_hint;
