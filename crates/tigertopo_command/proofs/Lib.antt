@@ -1,2 +1,3 @@
 -- Lemmas on commands.
 pub mod CommandLemmas
+pub mod Decide

@@ -14,7 +14,7 @@ use Rattle.tigertopo_files.specs.declared.beginning.FileKind.TheVariants.{Certif
 use Rattle.tigertopo_outcome.specs.Answers.{ShowAnswers, LandmarksAnswers, LocateAnswers, AuditAnswers, CheckAnswers, ConvertAnswers}
 use Rattle.tigertopo_files.specs.Reading.{text_under}
 use Rattle.tigertopo_outcome.specs.Records.{StopsRecords, StopsCheck, StopsNever}
-use Rattle.tigertopo_decide.specs.Building.{BuildAnswers}
+use Rattle.tigertopo_command.specs.Decide.Building.{BuildAnswers}
 
 -- the names of the files that are read, in their order, where those of the records are `names`: the certificate's is the last
 abbrev pub names_with : Asked → (names : List (List ℕ)) → List (List ℕ)

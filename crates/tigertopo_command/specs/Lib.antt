@@ -3,3 +3,4 @@ pub mod Commands
 pub mod Running
 pub mod Hinting
 pub mod Starting
+pub mod Decide

@@ -6,6 +6,7 @@
 //! no picture; `tigertopo_program` has all.
 #![tactic(auto)]
 
+pub mod decide;
 pub mod hint;
 pub mod plain;
 pub mod room;

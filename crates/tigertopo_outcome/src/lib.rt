@@ -3,7 +3,7 @@
 //! What is asked of records is a [`reading::Question`], which [`reading::over_records`] has answered of their files. [`records`] answers
 //! of records alone, and [`convert`] reads a certificate to write it in version 2. An answer is an [`Answer`](said::Answer), a text and a
 //! status, which [`telling`] tells, or why there is none; [`usage`] tells what is wrong with the words, and [`room`] whether a file may
-//! be made. What decides maps stands above, in `tigertopo_decide`; what lists all that is wrong in `tigertopo_lists`.
+//! be made. What decides maps stands above, in `tigertopo_command::decide`; what lists all that is wrong in `tigertopo_lists`.
 #![tactic(auto)]
 
 pub mod convert;

@@ -1,0 +1,32 @@
+use Rattle.std.proofs.Common.{Some, [], Ok, inl, string_bytes}
+use Rattle.tl_cert.specs.Text.{certificate_text}
+use Rattle.tigertopo_files.specs.Files.{StandsUnder}
+use Rattle.tigertopo_files.specs.World.{world}
+use Rattle.tigertopo_files.proofs.WorldLemmas.{does_make, does_fail, does_answer}
+use Rattle.tigertopo_outcome.specs.Records.{StopsNever}
+use Rattle.tigertopo_command.specs.Decide.Building.{IsBuildOf}
+use Rattle.tigertopo_command.proofs.Decide.BuildLemmas.{is_built}
+use Rattle.tigertopo_command.proofs.decide.building.keep.Goals as goal
+
+pub returns-in_err-make_file : goal.returns-in_err-make_file
+returns-in_err-make_file g c =
+    let w = world g.F.FileSystem.under g.F.FileSystem.log g.F.FileSystem.knows c.args.files.now c.make_file.new.files in
+    does_fail w [] (Some (string_bytes c.args.made.now)) (λ done. StandsUnder w.after (string_bytes c.args.made.now) (certificate_text c.args.certificate.now)) StopsNever c.in_err-make_file.field-0.0
+    (does_make {T = Unit {0}} w.before w.after w.log w.logged w.knows (string_bytes c.args.made.now) (certificate_text c.args.certificate.now) StopsNever _ (rw c.as_str.ensures.value at c.in_err-make_file.ensures.made) c.in_err-make_file.ensures.logged)
+    _ c.from_residual.result c.from_residual.ensures.1
+
+pub returns : goal.returns
+returns g c =
+    let w = world g.F.FileSystem.under g.F.FileSystem.log g.F.FileSystem.knows c.args.files.now c.make_file.new.files in
+    let name = string_bytes c.args.made.now in
+    let text = certificate_text c.args.certificate.now in
+    let made = rw c.as_str.ensures.value at c.in_ok-make_file.ensures.made in
+    does_answer w [] (Some name) (λ (done : Unit {0}). StandsUnder w.after name text) StopsNever tt
+    (does_make {T = Unit {0}} w.before w.after w.log w.logged w.knows name text StopsNever (Ok tt) made c.in_ok-make_file.ensures.logged)
+    (IsBuildOf w name c.args.faces c.args.map.now) c.of.result
+    (inl (
+      c.report.result,
+      is_built w name c.args.faces c.args.map.now c.args.certificate.now c.report.result c.look_at_certificate.ensures c.requires.sound c.requires.valid c.requires.version
+          (rw c.rings_of.ensures at c.report.ensures) made.1,
+      c.of.ensures,
+    ))
