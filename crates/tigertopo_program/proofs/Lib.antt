@@ -1,2 +1,3 @@
 -- Lemmas on the program.
 pub mod WholeLemmas
+pub mod Export

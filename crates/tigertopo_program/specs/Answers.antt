@@ -10,7 +10,7 @@ use Rattle.tigertopo_files.specs.World.{World}
 use Rattle.tigertopo_files.specs.Reading.{text_under}
 use Rattle.tigertopo_command.specs.Commands.{PlainAnswers, PlainStops}
 use Rattle.tigertopo_draw.specs.Drawing.{DrawAnswers}
-use Rattle.tigertopo_export.specs.Exports.{ExportAnswers}
+use Rattle.tigertopo_program.specs.Export.Exports.{ExportAnswers}
 use Rattle.tigertopo_lists.specs.Listed.{ListAnswers, StopsList}
 
 -- what is answered, with which status, where the records are in the files of these names

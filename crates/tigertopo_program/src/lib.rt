@@ -4,6 +4,7 @@
 //! `tigertopo_command` does them.
 #![tactic(auto)]
 
+pub mod export;
 mod whole;
 
 pub use whole::Whole;

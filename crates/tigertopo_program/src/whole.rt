@@ -8,7 +8,7 @@ use std::hash::RandomState;
 use tigertopo_command::plain::{answer, is_plain};
 use tigertopo_command::run::{Outcome, Program, tell_answer};
 use tigertopo_draw::draw;
-use tigertopo_export::export;
+use crate::export::export;
 use tigertopo_files::FileSystem;
 use tigertopo_lists::{Wanted, list};
 use tigertopo_words::{Asked, Command};

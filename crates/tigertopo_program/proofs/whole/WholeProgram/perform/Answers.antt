@@ -11,7 +11,7 @@ use Rattle.tigertopo_command.specs.Commands.{PlainAnswers, PlainStops, is_plain,
 use Rattle.tigertopo_command.specs.Running.{streams, terms}
 use Rattle.tigertopo_command.proofs.CommandLemmas.{answered}
 use Rattle.tigertopo_draw.specs.Drawing.{DrawAnswers, Wanted}
-use Rattle.tigertopo_export.specs.Exports.{ExportAnswers}
+use Rattle.tigertopo_program.specs.Export.Exports.{ExportAnswers}
 use Rattle.tigertopo_lists.specs.Listed.{Asked, ListAnswers, StopsList, listed_text}
 use Rattle.tigertopo_program.specs.Answers.{AllAnswers, AllStops}
 use Rattle.tigertopo_program.proofs.WholeLemmas.{plain_answers, plain_stops, list_answers, list_stops}

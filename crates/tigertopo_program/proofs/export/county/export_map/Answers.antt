@@ -1,8 +1,8 @@
 use Rattle.std.proofs.Common.{string_bytes}
 use Rattle.tigertopo_files.specs.World.{world}
-use Rattle.tigertopo_export.specs.Exports.{IsExportedOf}
-use Rattle.tigertopo_export.proofs.ExportLemmas.{export_stopped}
-use Rattle.tigertopo_export.proofs.county.export_map.Goals as goal
+use Rattle.tigertopo_program.specs.Export.Exports.{IsExportedOf}
+use Rattle.tigertopo_program.proofs.Export.ExportLemmas.{export_stopped}
+use Rattle.tigertopo_program.proofs.export.county.export_map.Goals as goal
 
 pub returns-in_err-walks : goal.returns-in_err-walks
 returns-in_err-walks g c =

@@ -1,5 +1,4 @@
 //! Counties that are exported: their maps as GeoJSON, in a file of its own, whole or not at all.
-#![tactic(auto)]
 
 mod county;
 

@@ -22,7 +22,7 @@ use Rattle.tigertopo_outcome.specs.declared.said.Said.{Said}
 use Rattle.tigertopo_outcome.specs.Answers.{IsSaid, IsReadMap, answer_of}
 use Rattle.tigertopo_outcome.specs.Records.{StopsNever, StopsRecords}
 use Rattle.tigertopo_outcome.proofs.RecordLemmas.{tells_fault}
-use Rattle.tigertopo_export.specs.Exports.{ExportAnswers, IsExportedOf, counts_of}
+use Rattle.tigertopo_program.specs.Export.Exports.{ExportAnswers, IsExportedOf, counts_of}
 
 -- ---- what is answered of a map, with no file read before
 

@@ -7,9 +7,9 @@ use Rattle.tigertopo_files.proofs.WorldLemmas.{does_stop}
 use Rattle.tigertopo_outcome.specs.Answers.{IsReadMap, IsSaid}
 use Rattle.tigertopo_files.specs.Reading.{text_under}
 use Rattle.tigertopo_outcome.specs.Records.{StopsRecords}
-use Rattle.tigertopo_export.specs.Exports.{ExportAnswers}
-use Rattle.tigertopo_export.proofs.ExportLemmas.{export_of_fault, export_of_read}
-use Rattle.tigertopo_export.proofs.county.export.Goals as goal
+use Rattle.tigertopo_program.specs.Export.Exports.{ExportAnswers}
+use Rattle.tigertopo_program.proofs.Export.ExportLemmas.{export_of_fault, export_of_read}
+use Rattle.tigertopo_program.proofs.export.county.export.Goals as goal
 
 pub returns-in_err-map : goal.returns-in_err-map
 returns-in_err-map g c =

@@ -10,7 +10,7 @@ ghost use Rattle.tl_check_sides.specs.Walks.{AreWalks};
 ghost use Rattle.tigertopo_outcome.specs.Answers.{IsSaid};
 ghost use Rattle.tigertopo_files.specs.Reading.{text_under};
 ghost use Rattle.tigertopo_outcome.specs.Records.{StopsNever, StopsRecords};
-ghost use Rattle.tigertopo_export.specs.Exports.{ExportAnswers, IsExportedOf, counts_of};
+ghost use Rattle.tigertopo_program.specs.Export.Exports.{ExportAnswers, IsExportedOf, counts_of};
 
 use std::alloc::Global;
 use std::hash::RandomState;
