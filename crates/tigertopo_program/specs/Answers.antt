@@ -9,7 +9,7 @@ use Rattle.tigertopo_words.specs.declared.budget.Told.TheVariants.{One}
 use Rattle.tigertopo_files.specs.World.{World}
 use Rattle.tigertopo_files.specs.Reading.{text_under}
 use Rattle.tigertopo_command.specs.Commands.{PlainAnswers, PlainStops}
-use Rattle.tigertopo_draw.specs.Drawing.{DrawAnswers}
+use Rattle.tigertopo_program.specs.Draw.Drawing.{DrawAnswers}
 use Rattle.tigertopo_program.specs.Export.Exports.{ExportAnswers}
 use Rattle.tigertopo_lists.specs.Listed.{ListAnswers, StopsList}
 

@@ -1,3 +1,4 @@
 -- What the contracts of the program cite.
 pub mod Answers
 pub mod Export
+pub mod Draw

@@ -4,6 +4,7 @@
 //! `tigertopo_command` does them.
 #![tactic(auto)]
 
+pub mod draw;
 pub mod export;
 mod whole;
 

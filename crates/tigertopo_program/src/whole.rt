@@ -7,7 +7,7 @@ use std::alloc::Global;
 use std::hash::RandomState;
 use tigertopo_command::plain::{answer, is_plain};
 use tigertopo_command::run::{Outcome, Program, tell_answer};
-use tigertopo_draw::draw;
+use crate::draw::draw;
 use crate::export::export;
 use tigertopo_files::FileSystem;
 use tigertopo_lists::{Wanted, list};

@@ -10,7 +10,7 @@ use Rattle.tl_cert_output.specs.Streams.{stream}
 use Rattle.tigertopo_command.specs.Commands.{PlainAnswers, PlainStops, is_plain, names_read, names_with}
 use Rattle.tigertopo_command.specs.Running.{streams, terms}
 use Rattle.tigertopo_command.proofs.CommandLemmas.{answered}
-use Rattle.tigertopo_draw.specs.Drawing.{DrawAnswers, Wanted}
+use Rattle.tigertopo_program.specs.Draw.Drawing.{DrawAnswers, Wanted}
 use Rattle.tigertopo_program.specs.Export.Exports.{ExportAnswers}
 use Rattle.tigertopo_lists.specs.Listed.{Asked, ListAnswers, StopsList, listed_text}
 use Rattle.tigertopo_program.specs.Answers.{AllAnswers, AllStops}

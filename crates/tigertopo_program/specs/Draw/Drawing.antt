@@ -23,8 +23,8 @@ use Rattle.tigertopo_outcome.specs.declared.said.Answer.{Answer}
 use Rattle.tigertopo_outcome.specs.declared.said.Said.{Said}
 use Rattle.tigertopo_outcome.specs.Answers.{answer_of, TellsRecordFault}
 use Rattle.tigertopo_outcome.specs.Outcomes.{drawn_text}
-use Rattle.tigertopo_draw.specs.declared.subject.Subject.{Subject}
-use Rattle.tigertopo_draw.specs.Subjects.{AreToShow}
+use Rattle.tigertopo_program.specs.declared.draw.subject.Subject.{Subject}
+use Rattle.tigertopo_program.specs.Draw.Subjects.{AreToShow}
 
 -- the frame of a picture: about a place, or fitted to the map
 abbrev pub frame_of : Option View → TheMap → Frame

@@ -2,7 +2,6 @@
 //!
 //! [`draw`] reads a county's files, draws its map (`tigertopo_svg`) into a new file, which takes its name when it is whole, and
 //! answers how much the picture shows.
-#![tactic(auto)]
 
 mod drawing;
 mod subject;

@@ -7,8 +7,8 @@ ghost use Rattle.tl_list.specs.Findings.{AreFindingsOf};
 ghost use Rattle.tigertopo_files.specs.World.{MayStop};
 ghost use Rattle.tl_cert_output.specs.declared.stop.Stop.TheVariants.{Device};
 ghost use Rattle.tigertopo_outcome.specs.Records.{StopsRecords};
-ghost use Rattle.tigertopo_draw.specs.Keeping.{listed_faults, first_refused, first_fault, first_listed};
-ghost use Rattle.tigertopo_draw.specs.Subjects.{IsSubjectOf};
+ghost use Rattle.tigertopo_program.specs.Draw.Keeping.{listed_faults, first_refused, first_fault, first_listed};
+ghost use Rattle.tigertopo_program.specs.Draw.Subjects.{IsSubjectOf};
 
 use std::alloc::Global;
 use std::hash::RandomState;

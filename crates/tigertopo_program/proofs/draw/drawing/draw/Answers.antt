@@ -5,10 +5,10 @@ use Rattle.tigertopo_files.proofs.WorldLemmas.{does_then}
 use Rattle.tigertopo_files.specs.Reading.{text_under}
 use Rattle.tigertopo_outcome.specs.Answers.{IsSaid}
 use Rattle.tigertopo_outcome.specs.Records.{StopsNever, StopsRecords}
-use Rattle.tigertopo_draw.specs.Drawing.{DrawAnswers, IsDrawnOf, Wanted}
-use Rattle.tigertopo_draw.specs.Subjects.{IsSubjectOf}
-use Rattle.tigertopo_draw.proofs.DrawLemmas.{says_drawn}
-use Rattle.tigertopo_draw.proofs.drawing.draw.Goals as goal
+use Rattle.tigertopo_program.specs.Draw.Drawing.{DrawAnswers, IsDrawnOf, Wanted}
+use Rattle.tigertopo_program.specs.Draw.Subjects.{IsSubjectOf}
+use Rattle.tigertopo_program.proofs.Draw.DrawLemmas.{says_drawn}
+use Rattle.tigertopo_program.proofs.draw.drawing.draw.Goals as goal
 
 pub returns-in-Ok : goal.returns-in-Ok
 returns-in-Ok g c =

@@ -4,7 +4,7 @@ use Rattle.tigertopo_files.specs.Files.{StandsUnder}
 use Rattle.tigertopo_files.specs.World.{world}
 use Rattle.tigertopo_files.proofs.WorldLemmas.{does_make, does_fail}
 use Rattle.tigertopo_outcome.specs.Records.{StopsNever}
-use Rattle.tigertopo_draw.proofs.drawing.draw_subject.Goals as goal
+use Rattle.tigertopo_program.proofs.draw.drawing.draw_subject.Goals as goal
 
 pub returns-in_err-make_file : goal.returns-in_err-make_file
 returns-in_err-make_file g c =

@@ -1,4 +1,4 @@
-use Rattle.tigertopo_draw.proofs.subject.SubjectOfQuestion.ask.Goals as goal
+use Rattle.tigertopo_program.proofs.draw.subject.SubjectOfQuestion.ask.Goals as goal
 
 pub returns-then-self-clause-answered : goal.returns-then-self-clause-answered
 returns-then-self-clause-answered g c =

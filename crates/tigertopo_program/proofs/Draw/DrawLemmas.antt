@@ -12,9 +12,9 @@ use Rattle.tigertopo_outcome.specs.declared.outcome.Outcome.TheVariants.{Drawn a
 use Rattle.tigertopo_outcome.specs.declared.said.Answer.{Answer}
 use Rattle.tigertopo_outcome.specs.declared.said.Said.{Said}
 use Rattle.tigertopo_outcome.specs.Answers.{IsSaid, answer_of}
-use Rattle.tigertopo_draw.specs.declared.subject.Subject.{Subject}
-use Rattle.tigertopo_draw.specs.Subjects.{AreToShow}
-use Rattle.tigertopo_draw.specs.Drawing.{DrawAnswers, Wanted, drawn_of, picture_by}
+use Rattle.tigertopo_program.specs.declared.draw.subject.Subject.{Subject}
+use Rattle.tigertopo_program.specs.Draw.Subjects.{AreToShow}
+use Rattle.tigertopo_program.specs.Draw.Drawing.{DrawAnswers, Wanted, drawn_of, picture_by}
 
 module _ (w : World) (options : Options) (known : Option (List ℕ)) (wanted : Wanted) where
   -- the picture of what was read stands

@@ -9,7 +9,7 @@ use Rattle.tl_check_verdict.specs.declared.fault.MapFault.{MapFault}
 use Rattle.tl_check_verdict.specs.Sound.{IsSoundFor}
 use Rattle.tl_list_text.specs.MapFaults.{AreFaultsFor}
 use Rattle.tigertopo_outcome.specs.Records.{IsOfRecords}
-use Rattle.tigertopo_draw.specs.declared.subject.Subject.{Subject}
+use Rattle.tigertopo_program.specs.declared.draw.subject.Subject.{Subject}
 
 -- these are all faults of a map, and there are none where it keeps what is asked of it; `faces` says whether faces are asked for
 abbrev pub AreFaultsOf : (faces : Bool) → TheMap → List MapFault → Type 0

@@ -9,9 +9,9 @@ ghost use Rattle.tigertopo_outcome.specs.Answers.{IsSaid};
 ghost use Rattle.tigertopo_files.specs.Reading.{text_under};
 ghost use Rattle.tigertopo_outcome.specs.Records.{StopsNever, StopsRecords};
 ghost use Rattle.tigertopo_svg.specs.Texts.{picture_text};
-ghost use Rattle.tigertopo_draw.specs.Drawing.{DrawAnswers, IsDrawnOf, drawn_of, picture_by};
+ghost use Rattle.tigertopo_program.specs.Draw.Drawing.{DrawAnswers, IsDrawnOf, drawn_of, picture_by};
 
-use crate::subject::{Subject, SubjectOf};
+use crate::draw::subject::{Subject, SubjectOf};
 use std::alloc::Global;
 use std::hash::RandomState;
 use tigertopo_files::{FileKind, FileSystem, make_file};

@@ -30,8 +30,8 @@ use Rattle.tl_list.specs.declared.of_records.Findings.{Findings}
 use Rattle.tl_list.specs.Findings.{AreFindingsOf, IsMapIfAny}
 use Rattle.tigertopo_files.specs.World.{MayStop}
 use Rattle.tigertopo_outcome.specs.Records.{IsOfRecords, StopsRecords}
-use Rattle.tigertopo_draw.specs.Subjects.{AreFaultsOf, AreToShow}
-use Rattle.tigertopo_draw.specs.Keeping.{listed_faults, first_refused, first_fault, first_listed}
+use Rattle.tigertopo_program.specs.Draw.Subjects.{AreFaultsOf, AreToShow}
+use Rattle.tigertopo_program.specs.Draw.Keeping.{listed_faults, first_refused, first_fault, first_listed}
 
 first_is : (layout : Layout) (text : List ℕ) → slice_get (refusals_of layout text) 0 ≡ (records_of layout text).refusal
 first_is layout text = first_of_judged (judgements layout 0 (raw_lines text))

@@ -3,8 +3,8 @@ use Rattle.tl_record.specs.Layout.{layout_with}
 use Rattle.tl_cert_output.proofs.StopLemmas.{by_stop}
 use Rattle.tigertopo_files.specs.World.{MayStop}
 use Rattle.tigertopo_outcome.specs.Records.{StopsRecords}
-use Rattle.tigertopo_draw.proofs.SubjectLemmas.{IsWhy, subject_found, subject_missing}
-use Rattle.tigertopo_draw.proofs.subject.subject_of.Goals as goal
+use Rattle.tigertopo_program.proofs.Draw.SubjectLemmas.{IsWhy, subject_found, subject_missing}
+use Rattle.tigertopo_program.proofs.draw.subject.subject_of.Goals as goal
 
 pub returns-in-Some-clause-found : goal.returns-in-Some-clause-found
 returns-in-Some-clause-found c = λ options known found. subject_found options known c.args.found c.in-Some.map _ found c.in-Some.is c.faults_of.ensures
