@@ -7,10 +7,10 @@ use Rattle.tl_check_sides.specs.declared.fault.Disagreement.{Disagreement}
 use Rattle.tl_check_inside.specs.declared.misplaced.Misplaced.{Misplaced}
 use Rattle.tl_check_sides.specs.Cells.Cells.{CellsAgree, AreCellsAtOdds}
 use Rattle.tl_check_meets.specs.Meets.{AreAllMeets}
-use Rattle.tl_list_sides.specs.Disagreements.{AreAllDisagreements}
-use Rattle.tl_list_sides.specs.CellOdds.{AreAllCellsAtOdds}
-use Rattle.tl_list_sides.proofs.Emptiness.{cells_agree}
-use Rattle.tl_list_points.specs.AllMisplaced.{AreAllMisplaced}
+use Rattle.tl_list_map.specs.Nodes.Disagreements.{AreAllDisagreements}
+use Rattle.tl_list_map.specs.Nodes.CellOdds.{AreAllCellsAtOdds}
+use Rattle.tl_list_map.proofs.Nodes.Emptiness.{cells_agree}
+use Rattle.tl_list_map.specs.Points.AllMisplaced.{AreAllMisplaced}
 use Rattle.tl_check_verdict.specs.declared.fault.MapFault.{MapFault}
 use Rattle.tl_check_verdict.specs.declared.fault.MapFault.TheVariants as fault
 use Rattle.tl_check_verdict.specs.Truth.{IsTrueOfMap}

@@ -12,9 +12,9 @@ use Rattle.tl_check_inside.specs.declared.misplaced.Misplaced.{Misplaced}
 use Rattle.tl_check_inside.specs.declared.misplaced.Misplaced.TheVariants.{OnChain, Outside, InOther}
 use Rattle.tl_check_inside.specs.Placed.{ArePlaced, IsTrueMisplaced}
 use Rattle.tl_check_meets.specs.Meets.{AreAllMeets}
-use Rattle.tl_list_sides.specs.Disagreements.{AreAllDisagreements}
-use Rattle.tl_list_points.specs.AllMisplaced.{FaultPlace, IsTrueAt, AreAllMisplaced}
-use Rattle.tl_list_points.specs.Suspects.{AreSuspects}
+use Rattle.tl_list_map.specs.Nodes.Disagreements.{AreAllDisagreements}
+use Rattle.tl_list_map.specs.Points.AllMisplaced.{FaultPlace, IsTrueAt, AreAllMisplaced}
+use Rattle.tl_list_map.specs.Points.Suspects.{AreSuspects}
 use Rattle.tl_check_verdict.specs.declared.fault.MapFault.{MapFault}
 use Rattle.tl_check_verdict.specs.declared.fault.MapFault.TheVariants as fault
 use Rattle.tl_list_text.specs.MapFaults.{side_fault, ArePointsTold, AreMapFaults}

@@ -20,10 +20,10 @@ use Rattle.tl_check_sides.specs.declared.cells.at_odds.CellsAtOdds.{CellsAtOdds}
 use Rattle.tl_check_sides.proofs.Cells.Cells.{one_id}
 use Rattle.tl_check_inside.specs.declared.misplaced.Misplaced.{Misplaced}
 use Rattle.tl_check_meets.specs.Meets.{AreAllMeets}
-use Rattle.tl_list_sides.specs.Disagreements.{HaveSidesAtOdds, AreAllDisagreements}
-use Rattle.tl_list_sides.specs.CellOdds.{AreToldAtOdds, AreAllCellsAtOdds}
-use Rattle.tl_list_sides.proofs.Agreeing.{at_odds}
-use Rattle.tl_list_points.specs.AllMisplaced.{AreAllMisplaced}
+use Rattle.tl_list_map.specs.Nodes.Disagreements.{HaveSidesAtOdds, AreAllDisagreements}
+use Rattle.tl_list_map.specs.Nodes.CellOdds.{AreToldAtOdds, AreAllCellsAtOdds}
+use Rattle.tl_list_map.proofs.Nodes.Agreeing.{at_odds}
+use Rattle.tl_list_map.specs.Points.AllMisplaced.{AreAllMisplaced}
 use Rattle.tl_check_verdict.specs.declared.fault.MapFault.{MapFault}
 use Rattle.tl_check_verdict.specs.declared.fault.MapFault.TheVariants as fault
 use Rattle.tl_check_verdict.specs.declared.verdict.Report.{Report}

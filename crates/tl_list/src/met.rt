@@ -7,7 +7,7 @@ ghost use Rattle.tl_check_sides.specs.Sides.{SidesAgree};
 ghost use Rattle.tl_check_sides.specs.Walks.{AreWalks};
 ghost use Rattle.tl_build_propose.specs.Keeping.Lists.{lists_in};
 ghost use Rattle.tl_check_meets.specs.Meets.{AreAllMeets};
-ghost use Rattle.tl_list_points.specs.Suspects.{AreSuspects};
+ghost use Rattle.tl_list_map.specs.Points.Suspects.{AreSuspects};
 ghost use Rattle.tl_list.specs.Keeping.OfMap.{IsListingOfMap, AddsPoints, AddsRest};
 
 use crate::parts::{push_disagreements, push_misplaced};
@@ -16,7 +16,7 @@ use std::alloc::Global;
 use tl_build_propose::{list_suspects_by, propose_walks_apart};
 use tl_check_planar::Meet;
 use tl_check_verdict::MapFault;
-use tl_list_sides::laws::sides_agree_where_no_disagreement_is_listed;
+use tl_list_map::nodes::laws::sides_agree_where_no_disagreement_is_listed;
 use tl_list_text::Listing;
 use tl_map_county::Map;
 use tl_tree_index::{BoxIndex, Memory};

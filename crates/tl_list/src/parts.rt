@@ -3,14 +3,14 @@
 ghost use Rattle.std.specs.Prelude.{false, IfOk, OnOk, length};
 ghost use Rattle.tl_map_county.specs.Segments.{segments_before};
 ghost use Rattle.tl_check_planar.specs.Rectangles.{segment_rect};
-ghost use Rattle.tl_list_points.specs.Suspects.{AreSuspects};
+ghost use Rattle.tl_list_map.specs.Points.Suspects.{AreSuspects};
 ghost use Rattle.tl_list.specs.Keeping.OfMap.{AddsAgreement, AddsCells, AddsPoints};
 
 use crate::tell::{push_cells, push_points, push_sides};
 use std::alloc::Global;
 use tl_check_verdict::MapFault;
-use tl_list_points::all_misplaced_among;
-use tl_list_sides::{all_cells_at_odds, all_disagreements};
+use tl_list_map::points::all_misplaced_among;
+use tl_list_map::nodes::{all_cells_at_odds, all_disagreements};
 use tl_map_county::Map;
 use tl_tree_index::{BoxIndex, Memory};
 

@@ -2,7 +2,7 @@
 
 ghost use Rattle.std.specs.Prelude.{◌≡◌, [], false, IfOk, OnOk, MatchOption};
 ghost use Rattle.tl_check_planar.specs.Planar.{IsPlanar};
-ghost use Rattle.tl_list_points.specs.Suspects.{AreSuspects};
+ghost use Rattle.tl_list_map.specs.Points.Suspects.{AreSuspects};
 ghost use Rattle.tl_list.specs.Keeping.OfMap.{IsListingOfMap, IsFaulty, HasRings, AddsPoints};
 
 use crate::parts::{push_all_cells, push_disagreements, push_misplaced};
@@ -10,8 +10,8 @@ use std::alloc::Global;
 use tl_build_propose::{find_sides_at_odds, propose_walks};
 use tl_check_planar::Segments;
 use tl_check_verdict::{MapFault, report};
-use tl_list_points::laws::placed_where_no_fault_is_listed;
-use tl_list_sides::laws::cells_agree_where_no_pair_is_listed;
+use tl_list_map::points::laws::placed_where_no_fault_is_listed;
+use tl_list_map::nodes::laws::cells_agree_where_no_pair_is_listed;
 use tl_list_text::Listing;
 use tl_map_county::Map;
 use tl_tree::FlatTree;

@@ -1,7 +1,7 @@
 //! Faults of a map, told one kind behind the other.
 
 ghost use Rattle.std.specs.Prelude.{◌≡◌, ◌∷◌, [], ◌++◌, OnOk, map};
-ghost use Rattle.tl_list_sides.specs.Disagreements.{AreAllDisagreements};
+ghost use Rattle.tl_list_map.specs.Nodes.Disagreements.{AreAllDisagreements};
 ghost use Rattle.tl_list_text.specs.MapFaults.{side_fault};
 
 use tl_check_sides::cells::CellsAtOdds;

@@ -9,9 +9,9 @@ use Rattle.tl_check_sides.specs.declared.fault.Disagreement.{Disagreement}
 use Rattle.tl_check_sides.specs.declared.cells.at_odds.CellsAtOdds.{CellsAtOdds}
 use Rattle.tl_check_inside.specs.declared.misplaced.Misplaced.{Misplaced}
 use Rattle.tl_check_meets.specs.Meets.{AreAllMeets}
-use Rattle.tl_list_sides.specs.Disagreements.{AreAllDisagreements}
-use Rattle.tl_list_sides.specs.CellOdds.{AreAllCellsAtOdds}
-use Rattle.tl_list_points.specs.AllMisplaced.{AreAllMisplaced}
+use Rattle.tl_list_map.specs.Nodes.Disagreements.{AreAllDisagreements}
+use Rattle.tl_list_map.specs.Nodes.CellOdds.{AreAllCellsAtOdds}
+use Rattle.tl_list_map.specs.Points.AllMisplaced.{AreAllMisplaced}
 use Rattle.tl_check_planar.specs.ByHeight.Heights.{widest}
 use Rattle.tl_check_faces.specs.declared.fault.FaceFault.{FaceFault}
 use Rattle.tl_check_faces.specs.Faults.{IsTrueFaceFault}

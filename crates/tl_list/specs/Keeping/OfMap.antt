@@ -6,9 +6,9 @@ use Rattle.tl_check_sides.specs.Sides.{SidesAgree}
 use Rattle.tl_check_sides.specs.Walks.{AreWalks}
 use Rattle.tl_check_sides.specs.declared.cells.at_odds.CellsAtOdds.{CellsAtOdds}
 use Rattle.tl_check_inside.specs.declared.misplaced.Misplaced.{Misplaced}
-use Rattle.tl_list_sides.specs.Disagreements.{AreAllDisagreements}
-use Rattle.tl_list_sides.specs.CellOdds.{AreAllCellsAtOdds}
-use Rattle.tl_list_points.specs.AllMisplaced.{AreAllMisplaced}
+use Rattle.tl_list_map.specs.Nodes.Disagreements.{AreAllDisagreements}
+use Rattle.tl_list_map.specs.Nodes.CellOdds.{AreAllCellsAtOdds}
+use Rattle.tl_list_map.specs.Points.AllMisplaced.{AreAllMisplaced}
 use Rattle.tl_check_verdict.specs.declared.fault.MapFault.{MapFault}
 use Rattle.tl_check_verdict.specs.declared.fault.MapFault.TheVariants as fault
 use Rattle.tl_check_verdict.specs.Sound.{IsSound, IsSoundFor}

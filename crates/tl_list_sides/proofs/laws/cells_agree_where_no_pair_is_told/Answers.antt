@@ -1,5 +1,0 @@
-use Rattle.tl_list_sides.proofs.Agreeing.{agree}
-use Rattle.tl_list_sides.proofs.laws.cells_agree_where_no_pair_is_told.Goals as goal
-
-pub returns : goal.returns
-returns c = λ chains none. agree chains none
