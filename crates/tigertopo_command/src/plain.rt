@@ -9,12 +9,12 @@ ghost use Rattle.tl_cert_output.specs.Streams.{Tries, stream};
 ghost use Rattle.tigertopo_command.specs.Commands.{IsPlain, PlainAnswers, PlainStops, names_read, kind_of, is_plain};
 ghost use Rattle.tigertopo_command.specs.Running.{not_here};
 
-use crate::run::{Outcome, Program, tell_answer};
-use std::alloc::Global;
-use std::hash::RandomState;
 use crate::decide::auditing::audit;
 use crate::decide::building::build;
 use crate::decide::deciding::check;
+use crate::run::{Outcome, Program, tell_answer};
+use std::alloc::Global;
+use std::hash::RandomState;
 use tigertopo_files::FileSystem;
 use tigertopo_outcome::convert::convert;
 use tigertopo_outcome::records::{landmarks, locate, show};

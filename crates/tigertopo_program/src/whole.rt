@@ -3,12 +3,12 @@
 ghost use Rattle.std.specs.Prelude.{map, string_bytes};
 ghost use Rattle.tigertopo_program.specs.Answers.{AllAnswers, AllStops};
 
+use crate::draw::draw;
+use crate::export::export;
 use std::alloc::Global;
 use std::hash::RandomState;
 use tigertopo_command::plain::{answer, is_plain};
 use tigertopo_command::run::{Outcome, Program, tell_answer};
-use crate::draw::draw;
-use crate::export::export;
 use tigertopo_files::FileSystem;
 use tigertopo_lists::{Wanted, list};
 use tigertopo_words::{Asked, Command};

@@ -11,8 +11,8 @@ ghost use Rattle.tl_build.specs.Auditing.{IsMemoryStop};
 
 use std::alloc::Global;
 use tl_cert_output::Stop;
-use tl_check_sweep::face_search::face_fault_of;
 use tl_check_faces::{FaceFault, OddGap};
+use tl_check_sweep::face_search::face_fault_of;
 use tl_check_verdict::MapFault;
 use tl_map_county::Map;
 

@@ -7,8 +7,8 @@ ghost use Rattle.tl_check.specs.Keeping.Faces.{IsFacing, IsWithFaces, verdict_of
 
 use std::alloc::Global;
 use tl_cert_output::Stop;
-use tl_check_sweep::face_search::find_face_fault;
 use tl_check_faces::FaceFault;
+use tl_check_sweep::face_search::find_face_fault;
 use tl_check_verdict::{MapFault, Report, Verdict};
 use tl_map_county::Map;
 

@@ -10,9 +10,9 @@ ghost use Rattle.tl_check.specs.Keeping.Parts.{LeadsBehindTree, MayEnd};
 
 use crate::state::{Halt, State};
 use std::alloc::Global;
-use tl_check_sides::cells::find_cells_at_odds;
 use tl_check_planar::{Meeting, Segments, first_meet};
 use tl_check_sides::Rounds;
+use tl_check_sides::cells::find_cells_at_odds;
 use tl_check_verdict::{CertFault, MapFault};
 use tl_map_county::Map;
 use tl_tree::FlatTree;

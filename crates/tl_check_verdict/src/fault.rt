@@ -4,10 +4,10 @@ ghost use Rattle.std.specs.Prelude.{◌≡◌, ◌++◌, codes, decimal};
 ghost use Rattle.tl_check_verdict.specs.Messages.{tree_text, round_text, walk_text};
 
 use std::fmt;
-use tl_check_sides::cells::CellsAtOdds;
 use tl_check_faces::FaceFault;
 use tl_check_inside::Misplaced;
 use tl_check_planar::Meet;
+use tl_check_sides::cells::CellsAtOdds;
 use tl_check_sides::{RoundFault, WalkFault};
 use tl_geom::Point;
 use tl_tree_index::TreeFault;

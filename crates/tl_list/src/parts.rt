@@ -9,8 +9,8 @@ ghost use Rattle.tl_list.specs.Keeping.OfMap.{AddsAgreement, AddsCells, AddsPoin
 use crate::tell::{push_cells, push_points, push_sides};
 use std::alloc::Global;
 use tl_check_verdict::MapFault;
-use tl_list_map::points::all_misplaced_among;
 use tl_list_map::nodes::{all_cells_at_odds, all_disagreements};
+use tl_list_map::points::all_misplaced_among;
 use tl_map_county::Map;
 use tl_tree_index::{BoxIndex, Memory};
 

@@ -4,11 +4,11 @@ ghost use Rattle.std.specs.Prelude.{◌≡◌, ◌∷◌, [], ◌++◌, OnOk, ma
 ghost use Rattle.tl_list_map.specs.Nodes.Disagreements.{AreAllDisagreements};
 ghost use Rattle.tl_list_text.specs.MapFaults.{side_fault};
 
-use tl_check_sides::cells::CellsAtOdds;
 use tl_check_faces::FaceFault;
 use tl_check_inside::Misplaced;
 use tl_check_planar::Meet;
 use tl_check_sides::Disagreement;
+use tl_check_sides::cells::CellsAtOdds;
 use tl_check_verdict::MapFault;
 use tl_map_county::Map;
 use tl_tree_index::Memory;

@@ -10,10 +10,10 @@ ghost use Rattle.tl_check_verdict.specs.declared.fault.MapFault.TheVariants.{Mee
 
 use crate::line::{LINE_ROOM, push_key, push_number};
 use arrayvec::ArrayString;
-use tl_check_sides::cells::CellsAtOdds;
 use tl_check_faces::{FaceFault, NamedFace, Way};
 use tl_check_inside::Misplaced;
 use tl_check_planar::Meet;
+use tl_check_sides::cells::CellsAtOdds;
 use tl_check_verdict::MapFault;
 use tl_geom::{Point, Rational};
 use tl_map_rules::Limited;

@@ -8,9 +8,9 @@ ghost use Rattle.tigertopo_where.specs.Hint.Telling.{HaveTexts};
 ghost use Rattle.tigertopo_where.specs.Hint.Again.{FailsAgain, HasNoEnd};
 ghost use Rattle.tl_cert_output.specs.Stops.{StopsFor};
 
+use crate::count_lines;
 use std::alloc::Global;
 use tigertopo_files::{FileSystem, Reading};
-use crate::count_lines;
 use tl_cert_output::Stop;
 use tl_record::Source;
 

@@ -7,9 +7,9 @@ ghost use Rattle.tigertopo_where.specs.FieldColumns.{range_of};
 ghost use Rattle.tigertopo_where.specs.Hint.Shown.{hex_digit, is_plain, shown_byte, shown_bytes};
 ghost use Rattle.tigertopo_where.specs.Hint.Hints.{field_of, columns_for, columns_text, place_text};
 
+use crate::{FieldColumns, columns_of};
 use itoa::Buffer;
 use std::alloc::AllocError;
-use crate::{FieldColumns, columns_of};
 use tl_record::{Cause, Columns, Field, Options};
 
 /// Adds where a refused line stands: the file's name, the line's number in it, and where it is refused for a field, the

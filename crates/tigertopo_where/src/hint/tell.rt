@@ -15,9 +15,9 @@ ghost use Rattle.tigertopo_where.specs.Hint.Hints.{hint_at, hint_in, trouble_tex
 
 use crate::hint::again::count_all;
 use crate::hint::shown::push_place;
+use crate::{Found, TextLine, find_line, place_of};
 use std::alloc::{AllocError, Global};
 use tigertopo_files::{FileSystem, Reading};
-use crate::{Found, TextLine, find_line, place_of};
 use tl_cert_output::{Stop, write_all};
 use tl_record::{Cause, LineBuffer, Options, Sink, Source};
 

@@ -12,9 +12,9 @@ ghost use Rattle.tl_check_sweep.specs.FaceSearch.Keeping.Told.{AreFaultsOf};
 use crate::face_search::find::face_fault;
 use crate::face_search::gaps::gaps_by_slabs;
 use crate::face_search::near::look_at_points;
+use crate::{Gaps, SweepReport, sweep};
 use std::alloc::{AllocError, Global};
 use tl_check_faces::{FaceFault, OddGap};
-use crate::{Gaps, SweepReport, sweep};
 use tl_map_county::Map;
 
 /// All faces of a map that disagree, where its chains are planar: one fault of each of the gaps that a sweep tells where all are asked for,

@@ -9,9 +9,9 @@ ghost use Rattle.tl_check_faces.specs.Faults.{IsTrueFaceFault};
 
 use crate::face_search::find::face_fault;
 use crate::face_search::gaps::gaps_by_slabs;
+use crate::{Gaps, SweepReport, sweep};
 use std::alloc::{AllocError, Global};
 use tl_check_faces::{FaceFault, OddGap};
-use crate::{Gaps, SweepReport, sweep};
 use tl_map_county::Map;
 
 /// Faces of a map that disagree, where its chains are planar; `None` where all agree. Which is told of those that

@@ -9,8 +9,8 @@ ghost use Rattle.tl_check_sweep.specs.FaceSearch.Keeping.Told.{IsFaceOf};
 
 use crate::face_search::midway::midway;
 use crate::face_search::near::look_at_points;
-use tl_check_faces::{FaceFault, NamedFace, OddGap, Way};
 use crate::flanks_of;
+use tl_check_faces::{FaceFault, NamedFace, OddGap, Way};
 use tl_geom::Point;
 use tl_map_county::{Map, Side};
 use tl_record_key::PolyKey;

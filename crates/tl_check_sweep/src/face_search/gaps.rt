@@ -11,9 +11,9 @@ ghost use Rattle.tl_check_sweep.specs.FaceSearch.Keeping.Told.{IsToldAbove};
 
 use crate::face_search::near::look_at_points;
 use crate::face_search::slab::list_slab;
+use crate::{lowest_of_each, push_about};
 use std::alloc::{AllocError, Global};
 use tl_check_faces::OddGap;
-use crate::{lowest_of_each, push_about};
 use tl_geom::Point;
 use tl_map_county::Map;
 
