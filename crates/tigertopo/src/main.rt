@@ -6,7 +6,7 @@ use std::io::IsTerminal;
 use std::process::ExitCode;
 use tigertopo_command::start::answer;
 use tigertopo_command::words::words_of;
-use tigertopo_files::SystemFiles;
+use tigertopo_system_files::SystemFiles;
 use tigertopo_program::Whole;
 use tl_record::MeterOut;
 

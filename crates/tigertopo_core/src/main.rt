@@ -7,7 +7,7 @@ use std::process::ExitCode;
 use tigertopo_command::plain::Plain;
 use tigertopo_command::start::answer;
 use tigertopo_command::words::words_of;
-use tigertopo_files::SystemFiles;
+use tigertopo_system_files::SystemFiles;
 use tl_record::MeterOut;
 
 fn main(rt: HostRuntime) -> ExitCode {

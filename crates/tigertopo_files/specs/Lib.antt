@@ -3,5 +3,3 @@ pub mod Files
 pub mod Log
 pub mod World
 pub mod Reading
-pub mod Calls
-pub mod Looking

@@ -11,9 +11,9 @@ use std::collections::VecDeque;
 use std::io;
 use std::io::{ErrorKind, Read, Write};
 use tigertopo_files::{
-    FileKind, FileSystem, Lookup, Opener, Reading, Room, Seen, Spot, all_names, name_beside,
-    read_each, read_each_again, room_of,
+    FileKind, FileSystem, Opener, Reading, Room, all_names, read_each, read_each_again,
 };
+use tigertopo_system_files::{Lookup, Seen, Spot, name_beside, room_of};
 use tl_cert_output::{Stop, Text};
 use tl_record::{Sink, Source};
 

@@ -3,15 +3,14 @@
 ghost use Rattle.std.specs.Prelude.{◌≡◌, Option, Bool, true, ⊤, is_some, IfOk, IfErr, OnOk, OnErr, string_bytes};
 ghost use Rattle.std.specs.Io.{WritesAtMost};
 ghost use Rattle.std.specs.Io.KnownBytes.{WriteAppends};
-ghost use Rattle.tigertopo_files.specs.Calls.{held_first, held_by, file_of, place_of};
+ghost use Rattle.tigertopo_system_files.specs.Calls.{held_first, held_by, file_of, place_of};
 ghost use Rattle.tl_cert_output.specs.Stops.{StopsFor};
 
-use crate::beginning::FileKind;
-use crate::file_system::Draft;
 use crate::stops::or_stop;
 use std::alloc::Global;
 use std::io;
 use std::io::Write;
+use tigertopo_files::{Draft, FileKind};
 use tl_cert_output::{Stop, Text};
 use tl_record::Sink;
 

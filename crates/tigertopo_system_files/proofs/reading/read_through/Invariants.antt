@@ -1,6 +1,6 @@
 use Rattle.std.proofs.Common.{◌≡◌}
-use Rattle.tigertopo_files.proofs.ReadLemmas.{IsReadOn}
-use Rattle.tigertopo_files.proofs.reading.read_through.Given as goal
+use Rattle.tigertopo_system_files.proofs.ReadLemmas.{IsReadOn}
+use Rattle.tigertopo_system_files.proofs.reading.read_through.Given as goal
 
 abbrev pub invariant-loop : goal.invariant-loop
 invariant-loop g l =

@@ -2,7 +2,7 @@
 
 ghost use Rattle.std.specs.Prelude.{◌≡◌, OnOk};
 ghost use Rattle.tl_cert_output.specs.Writing.{CountsFailure};
-ghost use Rattle.tigertopo_files.specs.Calls.{ReadsAll};
+ghost use Rattle.tigertopo_system_files.specs.Calls.{ReadsAll};
 
 use crate::progress::Progress;
 use std::io;

@@ -3,12 +3,12 @@ use Rattle.std.specs.Prelude.{◌≡◌, ℕ, Bool, true, false, List, length, O
 use Rattle.tigertopo_files.specs.Files.{IsRoom, may_go, may_be_left}
 use Rattle.tigertopo_files.specs.declared.beginning.FileKind.{FileKind}
 use Rattle.tigertopo_files.specs.declared.file_system.Room.{Room}
-use Rattle.tigertopo_files.specs.declared.looking.Seen.{Seen}
-use Rattle.tigertopo_files.specs.declared.looking.Seen.TheVariants as seen
-use Rattle.tigertopo_files.specs.declared.looking.Standing.{Standing}
-use Rattle.tigertopo_files.specs.declared.looking.Standing.TheVariants as standing
-use Rattle.tigertopo_files.specs.declared.looking.Spot.{Spot}
-use Rattle.tigertopo_files.specs.declared.looking.Spot.TheVariants as spot
+use Rattle.tigertopo_system_files.specs.declared.looking.Seen.{Seen}
+use Rattle.tigertopo_system_files.specs.declared.looking.Seen.TheVariants as seen
+use Rattle.tigertopo_system_files.specs.declared.looking.Standing.{Standing}
+use Rattle.tigertopo_system_files.specs.declared.looking.Standing.TheVariants as standing
+use Rattle.tigertopo_system_files.specs.declared.looking.Spot.{Spot}
+use Rattle.tigertopo_system_files.specs.declared.looking.Spot.TheVariants as spot
 
 -- the bytes that stand under each name, where a file does
 abbrev pub Held : Type 0

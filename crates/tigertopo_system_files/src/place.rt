@@ -2,7 +2,6 @@
 //!
 //! As in [`system`](crate::system), the order of the system's calls is trusted here.
 
-use crate::beginning::FileKind;
 use crate::front::is_unfinished;
 use crate::looking::{Lookup, Seen, Spot, Standing, name_beside, stands_under};
 use crate::new_file::Place;
@@ -14,6 +13,7 @@ use std::os::unix::fs::MetadataExt;
 use std::path::AsPath;
 use std::rt::Files;
 use std::{fs, io};
+use tigertopo_files::FileKind;
 
 /// The names of the system.
 #[derive(Drop)]

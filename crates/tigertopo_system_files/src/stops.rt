@@ -3,7 +3,7 @@
 ghost use Rattle.std.specs.Prelude.{◌≡◌, ⊤, IfOk, IfErr, string_bytes};
 ghost use Rattle.std.specs.IoError.{error_kind};
 ghost use Rattle.tl_cert_output.specs.Stops.{StopsFor};
-ghost use Rattle.tigertopo_files.specs.Calls.{stop_for, as_stop, found_of, IsWithoutNumber};
+ghost use Rattle.tigertopo_system_files.specs.Calls.{stop_for, as_stop, found_of, IsWithoutNumber};
 
 use std::alloc::{AllocError, Global};
 use std::io;

@@ -3,9 +3,9 @@
 ghost use Rattle.std.specs.Prelude.{◌≡◌, ◌≤◌, IfOk, IfSome, length, min, take};
 ghost use Rattle.tigertopo_files.specs.Files.{beginning_of, may_go as may_go_of, may_be_left as may_be_left_of};
 
-use crate::beginning::{FRONT, FileKind, beginning, may_be_left, may_go};
 use std::io;
 use std::io::Read;
+use tigertopo_files::{FRONT, FileKind, beginning, may_be_left, may_go};
 
 /// Whether a file of this size may be written over by one of the kind: it is empty, or begins as those of the kind do.
 pub fn is_of_kind<T: Read>(file: &mut T, size: u64, kind: FileKind) -> io::Result<bool>

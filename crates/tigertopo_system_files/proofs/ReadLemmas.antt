@@ -2,7 +2,7 @@
 use Rattle.std.proofs.Common.{◌≡◌, ◌≢◌, ℕ, ◌+◌, ◌-◌, ◌^◌, ◌≤◌, List, length, take, Option, Some, None, IfSome, refl, ap, arith}
 use Rattle.std.specs.Io.KnownBytes.{Consumes}
 use Rattle.std.proofs.lemmas.List.{length-take, length-append}
-use Rattle.tigertopo_files.specs.Calls.{ReadsAll}
+use Rattle.tigertopo_system_files.specs.Calls.{ReadsAll}
 
 -- so many reads took a byte each at least
 abbrev pub IsReadOn : Option (List ℕ) → Option (List ℕ) → ℕ → Type 0

@@ -3,15 +3,14 @@
 ghost use Rattle.std.specs.Prelude.{◌≡◌, Option, Some, IfOk, IfSome, Contains, length, map, option_map, string_bytes};
 ghost use Rattle.std.specs.Bool.{OnTrue, OnFalse};
 ghost use Rattle.tigertopo_files.specs.Files.{beside};
-ghost use Rattle.tigertopo_files.specs.declared.looking.Spot.TheVariants.{Beside};
-ghost use Rattle.tigertopo_files.specs.Looking.{Held, IsSeenAs, IsStanding, IsRoomAt, may_at};
+ghost use Rattle.tigertopo_system_files.specs.declared.looking.Spot.TheVariants.{Beside};
+ghost use Rattle.tigertopo_system_files.specs.Looking.{Held, IsSeenAs, IsStanding, IsRoomAt, may_at};
 
-use crate::beginning::FileKind;
-use crate::file_system::Room;
 use crate::front::{is_of_kind, is_unfinished};
 use std::alloc::{AllocError, Global};
 use std::io;
 use std::io::Read;
+use tigertopo_files::{FileKind, Room};
 
 /// Where it is looked.
 #[derive(Clone, Copy)]

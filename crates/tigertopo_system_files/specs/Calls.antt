@@ -6,7 +6,7 @@ use Rattle.std.specs.Str.Pattern.{FindsText}
 use Rattle.std.specs.declared.io.Error.{Error}
 use Rattle.std.specs.declared.io.ErrorKind.{ErrorKind}
 use Rattle.std.specs.declared.io.ErrorKind.TheVariants.{NotFound, OutOfMemory}
-use Rattle.tigertopo_files.specs.declared.new_file.NewFile.{NewFile}
+use Rattle.tigertopo_system_files.specs.declared.new_file.NewFile.{NewFile}
 use Rattle.tl_cert_output.specs.declared.stop.Stop.{Stop}
 use Rattle.tl_cert_output.specs.declared.stop.Stop.TheVariants.{Memory, Device}
 

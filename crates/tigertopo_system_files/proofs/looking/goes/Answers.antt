@@ -1,7 +1,7 @@
-use Rattle.tigertopo_files.specs.Looking.{may_at}
-use Rattle.tigertopo_files.specs.declared.looking.Spot.TheVariants as spot
-use Rattle.tigertopo_files.proofs.LookLemmas.{whole_told}
-use Rattle.tigertopo_files.proofs.looking.goes.Goals as goal
+use Rattle.tigertopo_system_files.specs.Looking.{may_at}
+use Rattle.tigertopo_system_files.specs.declared.looking.Spot.TheVariants as spot
+use Rattle.tigertopo_system_files.proofs.LookLemmas.{whole_told}
+use Rattle.tigertopo_system_files.proofs.looking.goes.Goals as goal
 
 pub returns-in-Name : goal.returns-in-Name
 returns-in-Name g c =

@@ -3,13 +3,13 @@ use Rattle.std.proofs.Common.{◌≡◌, ℕ, Bool, true, false, List, length, t
 use Rattle.std.proofs.lemmas.List.{take_all}
 use Rattle.std.proofs.lemmas.Option.{same_Some}
 use Rattle.tigertopo_files.specs.Files.{beside}
-use Rattle.tigertopo_files.specs.Looking.{Held, IsSeenAs, IsStanding, IsRoomAt, may_at}
+use Rattle.tigertopo_system_files.specs.Looking.{Held, IsSeenAs, IsStanding, IsRoomAt, may_at}
 use Rattle.tigertopo_files.specs.declared.beginning.FileKind.{FileKind}
 use Rattle.tigertopo_files.specs.declared.file_system.Room.TheVariants as room
-use Rattle.tigertopo_files.specs.declared.looking.Seen.TheVariants as seen
-use Rattle.tigertopo_files.specs.declared.looking.Standing.{Standing}
-use Rattle.tigertopo_files.specs.declared.looking.Standing.TheVariants as standing
-use Rattle.tigertopo_files.specs.declared.looking.Spot.TheVariants as spot
+use Rattle.tigertopo_system_files.specs.declared.looking.Seen.TheVariants as seen
+use Rattle.tigertopo_system_files.specs.declared.looking.Standing.{Standing}
+use Rattle.tigertopo_system_files.specs.declared.looking.Standing.TheVariants as standing
+use Rattle.tigertopo_system_files.specs.declared.looking.Spot.TheVariants as spot
 
 whole_of : (may : List ℕ → Bool) (goes : Bool) (size : ℕ) (file : Option (List ℕ)) → IfSome file (λ bytes. goes ≡ may (take size bytes)) → IfSome file (λ bytes. size ≡ length bytes → goes ≡ may bytes)
 whole_of may goes size None is = tt

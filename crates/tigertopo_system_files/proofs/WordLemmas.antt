@@ -1,7 +1,7 @@
 -- The words of an error.
 use Rattle.std.proofs.Common.{◌≡◌, ℕ, List, Some, Result, Ok, Err, IfOk, codes, ◌∙◌}
 use Rattle.std.specs.Str.Pattern.{FindsText, SplitsAroundMatch}
-use Rattle.tigertopo_files.specs.Calls.{IsWithoutNumber}
+use Rattle.tigertopo_system_files.specs.Calls.{IsWithoutNumber}
 
 -- they stand before its number
 pub before_number : {A E : Type 0} (bytes : A → List ℕ) (answer : Result A E) (text words rest : List ℕ) → SplitsAroundMatch (FindsText (codes " (os error ")) text words rest

@@ -6,12 +6,8 @@
 
 ghost use Rattle.std.specs.Prelude.{◌≡◌, IfOk};
 
-use crate::beginning::FileKind;
-use crate::file_system::{FileSystem, Room};
-use crate::lending::{Reading, read_each, read_each_again};
 use crate::looking::room_of;
 use crate::new_file::NewFile;
-use crate::opening::Opener;
 use crate::place::{Names, SystemPlace};
 use crate::progress::Progress;
 use crate::reading::{ShownReader, read_through};
@@ -22,6 +18,7 @@ use std::io::Eprint;
 use std::rt::Files;
 use std::time::Clock;
 use std::{fs, io};
+use tigertopo_files::{FileKind, FileSystem, Opener, Reading, Room, read_each, read_each_again};
 use tl_cert_output::Stop;
 use tl_record::{Meter, Source};
 
@@ -100,7 +97,7 @@ impl<'a, R: Files<File = File> + Clock + Eprint> FileSystem for SystemFiles<'a, 
 
     ghost use Rattle.std.specs.Prelude.{None, false};
     ghost use Rattle.tigertopo_files.specs.Log.{nothing_done};
-    ghost use Rattle.tigertopo_files.specs.Calls.{file_of, not_known};
+    ghost use Rattle.tigertopo_system_files.specs.Calls.{file_of, not_known};
 
     ghost under = { λ _ _. None };
 

@@ -1,0 +1,3 @@
+-- What the contracts of the system's files cite.
+pub mod Calls
+pub mod Looking
