@@ -21,7 +21,6 @@ use Rattle.tl_map_rules.specs.declared.fault.RecordFault.TheVariants as fault
 use Rattle.tl_map_rules.specs.MapOf.{sides_in, polygons_in, landmarks_in, links_in, keys, same_key}
 use Rattle.tl_map_rules.specs.Faults.{IsTrueOf, StandsTwice, Names}
 use Rattle.tl_map_rules.proofs.CountLemmas.{one_counted}
-use Rattle.tl_map.proofs.IndexLemmas.{same_key-is, same_key-refl}
 use Rattle.tl_list_records.specs.declared.collect.NamedSide.{NamedSide}
 use Rattle.tl_list_records.specs.declared.numbers.Numbered.TheVariants.{LinkWithoutLandmark}
 use Rattle.tl_list_records.specs.AllFaults.{fault_place}
@@ -34,6 +33,7 @@ use Rattle.tl_list_records.proofs.CountedLemmas.{count_yes, count_no, counted_st
 use Rattle.tl_list_records.proofs.OrderLemmas.{twice_there, side_there, link_there}
 use Rattle.tl_list_records.proofs.TlidLemmas.{absent, told_missing}
 use Rattle.tl_list_records.proofs.KeyLemmas.{parts_total, one_key}
+use Rattle.tl_map_rules.proofs.KeyLemmas.{same_key-is, same_key-refl}
 
 -- what stands twice is counted twice
 twice_counted : (ks : List PolyKey) (k : PolyKey) → StandsTwice ks k → 2 ≤ count_by (λ l. same_key l k) ks

@@ -12,8 +12,8 @@ use Rattle.std.proofs.lemmas.Cmp.{on_total, then_total, nat_cmp_total, nat_list_
 use Rattle.std.proofs.lemmas.List.Sorted.{searchable_from_sorted}
 use Rattle.tl_record_key.specs.declared.key.PolyKey.{PolyKey}
 use Rattle.tl_map_rules.specs.MapOf.{same_key}
-use Rattle.tl_map.proofs.IndexLemmas.{same_key-refl}
 use Rattle.tl_list_records.specs.Keeping.Keys.{parts, parts_cmp, AreByKey}
+use Rattle.tl_map_rules.proofs.KeyLemmas.{same_key-refl}
 
 pub parts_total : IsTotalOrder parts_cmp
 parts_total = then_total (on_total (λ (p : ℕ × List ℕ). p.0) nat_cmp_total) (on_total (λ (p : ℕ × List ℕ). p.1) nat_list_cmp_total)

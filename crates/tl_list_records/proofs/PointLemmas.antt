@@ -13,7 +13,6 @@ use Rattle.tl_map_rules.specs.declared.entry.ChainEntry.{ChainEntry}
 use Rattle.tl_map_rules.specs.declared.fault.RecordFault.{RecordFault}
 use Rattle.tl_map_rules.specs.ChainsOf.{used, pairs_of, points_between, segments_by, segments_of}
 use Rattle.tl_map_rules.specs.Faults.{IsTrueOf, IsRepeated, IsNumbered, IsDegenerate, AreJoined}
-use Rattle.tl_map.proofs.RowLemmas.{dedup_from-is}
 use Rattle.tl_list_records.specs.declared.shape.ShapeSummary.{ShapeSummary}
 use Rattle.tl_list_records.specs.AllFaults.{fault_place}
 use Rattle.tl_list_records.specs.Kept.{chain_at}
@@ -27,6 +26,7 @@ use Rattle.tl_list_records.proofs.OrderLemmas.{degenerate_there}
 use Rattle.tl_list_records.proofs.TraceLemmas.{steps_are}
 use Rattle.tl_list_records.proofs.ShapeLemmas.{numbered_run, run_numbered, seen_run, gap_run}
 use Rattle.tl_list_records.proofs.ChainLemmas.{few_alone, alone_few}
+use Rattle.tl_map_rules.proofs.PairLemmas.{dedup_from-is}
 
 -- chains that are kept are records, and records are kept
 chain_of : (rs : List Record) (c : ChainEntry) → Contains (filter_map chain_at rs) c → Contains rs (Chain c.tlid c.from c.to)

@@ -8,13 +8,13 @@ use Rattle.std.proofs.lemmas.Bool.Decides.{nat_tests}
 use Rattle.std.proofs.lemmas.Cmp.{on_total, then_total, nat_cmp_total}
 use Rattle.std.proofs.lemmas.List.{get_or_default}
 use Rattle.std.proofs.lemmas.List.Sorted.{ranks_by, sorted_far}
-use Rattle.tl_map.proofs.JoinLemmas.{filter_part}
 use Rattle.tl_map_rules.specs.declared.fault.RecordFault.{RecordFault}
 use Rattle.tl_list_records.specs.declared.shape.ShapeSummary.{ShapeSummary}
 use Rattle.tl_list_records.specs.Shapes.{start}
 use Rattle.tl_list_records.specs.Keeping.Told.{Tells}
 use Rattle.tl_list_records.specs.Keeping.Runs.{Precedes, AreInOrder, run_of, run_fault, IsRunFault}
 use Rattle.tl_list_records.proofs.ToldLemmas.{tells_none, tells_same, tells_more}
+use Rattle.tl_map_rules.proofs.PartLemmas.{filter_part}
 
 -- both numbers by which shapes are sorted
 abbrev pub numbers : ShapeSummary → ℕ × ℕ

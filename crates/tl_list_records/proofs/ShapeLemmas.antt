@@ -14,7 +14,6 @@ use Rattle.tl_map_rules.specs.ChainsOf.{is_shape, is_shape_at, shape_count, pair
 use Rattle.tl_map_rules.specs.Faults.{IsTrueOf, IsNumbered, IsBroken}
 use Rattle.tl_map_rules.specs.declared.fault.RecordFault.{RecordFault}
 use Rattle.tl_map_rules.specs.declared.fault.RecordFault.TheVariants.{ShapeSequence, ShapeGap}
-use Rattle.tl_map.proofs.GapLemmas.{pairs_at_is}
 use Rattle.tl_list_records.specs.declared.shape.ShapeSummary.{ShapeSummary}
 use Rattle.tl_list_records.specs.declared.shape.Seen.{Seen}
 use Rattle.tl_list_records.specs.Kept.{shape_at}
@@ -28,6 +27,7 @@ use Rattle.tl_list_records.specs.AllFaults.{fault_place}
 use Rattle.tl_list_records.proofs.ToldLemmas.{told_also, told_more}
 use Rattle.tl_list_records.proofs.OrderLemmas.{sequence_there, gap_there as gap_there_at}
 use Rattle.tl_list_records.proofs.RunLemmas.{nothing}
+use Rattle.tl_map_rules.proofs.PairLemmas.{pairs_at_is}
 
 -- what passes two tests is counted among what passes the first
 count-filter : {X : Type 0} (p q : X → Bool) (xs : List X) → count_by q (filter p xs) ≡ count_by (λ x. p x && q x) xs

@@ -6,14 +6,12 @@ use Rattle.tl_geom.specs.declared.point.Point.{Point}
 use Rattle.tl_geom.proofs.Conditions.{same_point as same}
 use Rattle.tl_map_rules.specs.ChainsOf.{same_point, used, some_used, has_gap, points_between}
 use Rattle.tl_map_rules.specs.declared.entry.ChainEntry.{ChainEntry}
-use Rattle.tl_map.specs.Keeping.Entries.{some_unused}
-use Rattle.tl_map.specs.Keeping.Rows.{dedup_after}
-use Rattle.tl_map.proofs.GapLemmas.{used-append, some_unused-append, has_gap-append}
-use Rattle.tl_map.proofs.RowLemmas.{dedup_from-is}
 use Rattle.tl_list_records.specs.declared.shape.Trace.{Trace}
 use Rattle.tl_list_records.specs.declared.shape.Seen.{Seen}
 use Rattle.tl_list_records.specs.Shapes.{more_steps, traced, start, see, seen_in}
 use Rattle.tl_list_records.specs.Keeping.Runs.{join_traces, join, chain_steps}
+use Rattle.tl_map_rules.specs.Keeping.Pairs.{some_unused, dedup_after}
+use Rattle.tl_map_rules.proofs.PairLemmas.{used-append, some_unused-append, has_gap-append, dedup_from-is}
 
 -- the trace with more points
 abbrev pub traces : Option Trace → List Point → Option Trace

@@ -22,9 +22,10 @@ use Rattle.tl_map.specs.Keeping.Rows.{AreJoinedBy, StopsJoin}
 use Rattle.tl_map.specs.Keeping.Built.{AreSound, AreBuilt, StopsBuilding}
 use Rattle.tl_map_rules.proofs.CountLemmas.{none_counted, one_counted, sum_by-same, rising_keys_from_pairs}
 use Rattle.tl_map.proofs.SequenceLemmas.{numbered_from_placed}
-use Rattle.tl_map.proofs.GapLemmas.{used-append, shapes_with_is, IsNumbered-from_entries, pairs_more}
+use Rattle.tl_map.proofs.GapLemmas.{shapes_with_is, IsNumbered-from_entries, pairs_more}
 use Rattle.tl_map.proofs.CollectLemmas.{chain_count_is}
 use Rattle.tl_map.proofs.ProperLemmas.{proper_dedup}
+use Rattle.tl_map_rules.proofs.PairLemmas.{used-append}
 
 -- the used points of a TLID, with one entry more
 used_more : (rs : List Record) (pool : List Point) (entries : List ShapeEntry) (d : ShapeEntry) (t i : ℕ) → AreShapeEntries rs pool entries → ArePlaced entries → i < length entries → used (pairs_up_to rs t (shapes_with t (take i entries))) ≡ flat_map (entry_points pool) (filter (has_tlid t) (take i entries)) → used (pairs_up_to rs t (shapes_with t (take (i + 1) entries))) ≡ flat_map (entry_points pool) (filter (has_tlid t) (take (i + 1) entries))

@@ -15,9 +15,10 @@ use Rattle.std.specs.Prelude.{if◌then◌else◌}
 use Rattle.tl_map_rules.specs.declared.entry.Fill.{Fill}
 use Rattle.tl_map_rules.specs.declared.entry.Fill.TheVariants.{Full, Ended, Gap}
 use Rattle.tl_map_rules.specs.ChainsOf.{is_any_chain, chain_count, used, has_gap}
-use Rattle.tl_map.specs.Keeping.Entries.{some_unused, fill_of, by_chain, by_shape, AreChainEntries, IsShapeEntry, AreShapeEntries}
+use Rattle.tl_map.specs.Keeping.Entries.{fill_of, by_chain, by_shape, AreChainEntries, IsShapeEntry, AreShapeEntries}
 use Rattle.tl_map_rules.proofs.CountLemmas.{sum_by-same}
-use Rattle.tl_map.proofs.GapLemmas.{used-append, some_unused-append, has_gap-append}
+use Rattle.tl_map_rules.specs.Keeping.Pairs.{some_unused}
+use Rattle.tl_map_rules.proofs.PairLemmas.{used-append, some_unused-append, has_gap-append}
 
 -- what is kept of the pairs seen so far
 pub record AreSeen (old pool : List Point) (has_ended has_break : Bool) (pairs : List (Option Point)) : Type 0 where

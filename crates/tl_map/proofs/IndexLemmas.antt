@@ -23,6 +23,7 @@ use Rattle.tl_map_rules.specs.MapOf as drawn
 use Rattle.tl_map_rules.specs.Faults.{StandsTwice}
 use Rattle.tl_map.specs.Keeping.Index.{Numbers, Indexes, entry_of}
 use Rattle.tl_map_county.proofs.PlaceLemmas.{contained}
+use Rattle.tl_map_rules.proofs.KeyLemmas.{same_key-is, same_key-refl}
 
 -- the places of a map's keys number them
 pub numbers_keys : {K X S : Type 0} (eq : K → K → Bool) → IsEquivalence eq → ((x y : K) → eq x y ≡ true → x ≡ y) → (m : IndexMap K X S) → IsUnique eq m → Numbers (keys m) (index_of eq m)
@@ -56,22 +57,6 @@ key_there ps zero i e at = absurd (let h : None ≡ Some e = at in cc)
 key_there [] (suc n) i e at = absurd (let h : None ≡ Some e = at in cc)
 key_there (p ∷ ps) (suc n) zero e at = (let h : entry_of p ≡ e = cc in ap (λ (x : PolyKey × Point). Some x.0) h, omega arith)
 key_there (p ∷ ps) (suc n) (suc i) e at = let rest = key_there ps n i e at in (rest.0, omega (arith, rest.1))
-
-key_is : (k l : PolyKey) → k.cenid ≡ l.cenid → k.polyid ≡ l.polyid → k ≡ l
-key_is k l a b = λ i. record { cenid = a i; polyid = b i }
-
--- one key is the same as itself, and as no other
-pub same_key-refl : (k : PolyKey) → same_key k k ≡ true
-same_key-refl k = rw (nat_list_eq_equiv.refl k.cenid) (eq-eqb k.polyid k.polyid refl)
-
-pub same_key-is : (k l : PolyKey) → same_key k l ≡ true → k ≡ l
-same_key-is k l h =
-    let one = both_true (pointwise nat_eq k.cenid l.cenid) (eqb k.polyid l.polyid) h in
-    key_is k l (same_text k.cenid l.cenid (sym one.0)) (eqb-true k.polyid l.polyid one.1)
-  where
-    both_true : (a b : Bool) → (a && b) ≡ true → (a ≡ true) × (b ≡ true)
-    both_true true b e = (refl, e)
-    both_true false b e = absurd (let h : false ≡ true = e in cc)
 
 -- the place of a key that stands once
 pub place_is : (ks : List PolyKey) (k : PolyKey) (n : ℕ) (found : PolyKey → Option ℕ) → Numbers ks found → found k ≡ Some n → place_of ks k ≡ n

@@ -8,7 +8,7 @@ use Rattle.tl_map.specs.declared.landmarks.Link.{Link}
 use Rattle.tl_map_county.specs.declared.landmarks.LandmarkRow.{LandmarkRow}
 use Rattle.tl_map.specs.Keeping.Landmarks.{links_to, polygons_to, AreRows}
 use Rattle.tl_map_county.specs.Rows.{IsRow, polygons_at}
-use Rattle.tl_map.proofs.JoinLemmas.{filter_part}
+use Rattle.tl_map_rules.proofs.PartLemmas.{filter_part}
 
 -- the links of landmark l stand from s to e
 pub run_of : (links : List Link) (s e l : ℕ) → s ≤ e → e ≤ length links → ((k : ℕ) (d : Link) → k < s → (get_or links k d).landmark < l) → ((k : ℕ) (d : Link) → s ≤ k → k < e → (get_or links k d).landmark ≡ l) → ((k : ℕ) (d : Link) → e ≤ k → k < length links → l < (get_or links k d).landmark) → links_to l links ≡ take (e - s) (drop s links)

@@ -14,7 +14,7 @@ use Rattle.tl_map_county.specs.TheMap.{MapLandmark}
 use Rattle.tl_map_county.specs.Landmarks.{AreOnce, ArePolygonsOf}
 use Rattle.tl_map_county.specs.Rows.{HasPolygonsOf, polygons_at, landmarks_in}
 use Rattle.tl_map.specs.Keeping.Landmarks.{landmark_from, AreLinked}
-use Rattle.tl_map.proofs.IndexLemmas.{same_key-refl}
+use Rattle.tl_map_rules.proofs.KeyLemmas.{same_key-refl}
 
 -- one number more that isn't there yet
 once_push : (kept : List ℕ) (x : ℕ) → AreOnce kept → list_any (λ y. eqb y x) kept ≡ false → AreOnce (kept ++ x ∷ [])

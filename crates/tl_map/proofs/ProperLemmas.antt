@@ -4,8 +4,8 @@ use Rattle.std.proofs.lemmas.Cmp.{int_eq_equiv}
 use Rattle.tl_geom.specs.declared.point.Point.{Point}
 use Rattle.tl_map_rules.specs.ChainsOf.{same_point}
 use Rattle.tl_map_county.specs.Chains.{IsProper}
-use Rattle.tl_map.specs.Keeping.Rows.{dedup_after}
-use Rattle.tl_map.proofs.RowLemmas.{dedup_from-is}
+use Rattle.tl_map_rules.specs.Keeping.Pairs.{dedup_after}
+use Rattle.tl_map_rules.proofs.PairLemmas.{dedup_from-is}
 
 same_point-refl : (p : Point) → same_point p p ≡ true
 same_point-refl p = rw (int_eq_equiv.refl p.x) (int_eq_equiv.refl p.y)

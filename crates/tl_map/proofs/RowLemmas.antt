@@ -13,16 +13,9 @@ use Rattle.tl_map_county.specs.declared.limits.TheConstants.{SEGMENT_LIMIT}
 use Rattle.tl_map_county.specs.Chains.{segment_count}
 use Rattle.tl_map_rules.specs.ChainsOf.{same_point}
 use Rattle.tl_map_county.specs.Rows.{IsWithin, chain_in, chains_in, IsTable}
-use Rattle.tl_map.specs.Keeping.Rows.{dedup_after, drawn_through}
-
--- dedup keeps the first point and what follows it
-pub dedup_from-is : (p : Point) (qs : List Point) → dedup_from same_point p qs ≡ p ∷ dedup_after p qs
-dedup_from-is p [] = refl
-dedup_from-is p (q ∷ qs) = go (same_point q p) (dedup_from-is p qs) (dedup_from-is q qs)
-  where
-    go : (b : Bool) → dedup_from same_point p qs ≡ p ∷ dedup_after p qs → dedup_from same_point q qs ≡ q ∷ dedup_after q qs → cond b (dedup_from same_point p qs) (p ∷ dedup_from same_point q qs) ≡ p ∷ cond b (dedup_after p qs) (q ∷ dedup_after q qs)
-    go true here next = here
-    go false here next = ap (λ ps. p ∷ ps) next
+use Rattle.tl_map.specs.Keeping.Rows.{drawn_through}
+use Rattle.tl_map_rules.specs.Keeping.Pairs.{dedup_after}
+use Rattle.tl_map_rules.proofs.PairLemmas.{dedup_from-is}
 
 -- a choice by a test whose denial is known
 otherwise : (b : Bool) (p q : List Point) → true ≡ not b → cond b p q ≡ q

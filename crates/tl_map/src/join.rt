@@ -8,8 +8,9 @@ ghost use Rattle.tl_map_county.specs.declared.limits.TheConstants.{CHAIN_LIMIT, 
 ghost use Rattle.std.specs.List.{flat_map};
 ghost use Rattle.tl_map.specs.Keeping.Entries.{entry_points, IsInside, AreRising, AreInOrder, chains_with, joined};
 ghost use Rattle.tl_map_county.specs.Rows.{IsTable, chains_in};
-ghost use Rattle.tl_map.specs.Keeping.Rows.{dedup_after, drawn_through, drawn_by, IsAdded, StopsAdding};
+ghost use Rattle.tl_map.specs.Keeping.Rows.{drawn_through, drawn_by, IsAdded, StopsAdding};
 ghost use Rattle.tl_map.specs.Keeping.Rows.{AreJoinedBy, StopsJoin};
+ghost use Rattle.tl_map_rules.specs.Keeping.Pairs.{dedup_after};
 
 use std::alloc::{AllocError, Global};
 use tl_geom::Point;

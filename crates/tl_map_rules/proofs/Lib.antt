@@ -1,3 +1,6 @@
 pub mod CountLemmas
 pub mod KnownLemmas
 pub mod OneMapLemmas
+pub mod PairLemmas
+pub mod PartLemmas
+pub mod KeyLemmas

@@ -4,3 +4,4 @@ pub mod Faults
 pub mod Messages
 pub mod Reading
 pub mod Subjects
+pub mod Keeping

@@ -10,12 +10,7 @@ use Rattle.tl_map_rules.specs.declared.entry.Fill.{Fill}
 use Rattle.tl_map_rules.specs.declared.entry.Fill.TheVariants.{Full, Ended, Gap}
 use Rattle.tl_map_rules.specs.ChainsOf.{same_point, used, has_gap}
 use Rattle.tl_map_county.specs.Chains.{CompleteChain}
-
--- is one of the pairs unused
-abbrev pub some_unused : List (Option Point) → Bool
-some_unused [] = false
-some_unused (None ∷ pairs) = true
-some_unused (Some p ∷ pairs) = some_unused pairs
+use Rattle.tl_map_rules.specs.Keeping.Pairs.{some_unused}
 
 -- how the pairs are filled
 abbrev pub fill_of : List (Option Point) → Fill

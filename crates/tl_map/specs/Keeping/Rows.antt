@@ -15,11 +15,6 @@ use Rattle.tl_map_county.specs.Rows.{IsTable, chains_in}
 use Rattle.tl_map_rules.specs.ChainsOf.{same_point}
 use Rattle.tl_map.specs.Keeping.Entries.{entry_points, joined}
 
--- what dedup leaves of the points that follow p
-abbrev pub dedup_after : Point → List Point → List Point
-dedup_after p [] = []
-dedup_after p (q ∷ qs) = if same_point q p then dedup_after p qs else q ∷ dedup_after q qs
-
 -- the points of a chain with these between its start and its end
 abbrev pub drawn_through : ChainEntry → List Point → List Point
 drawn_through c between = dedup same_point (c.from ∷ (between ++ c.to ∷ []))

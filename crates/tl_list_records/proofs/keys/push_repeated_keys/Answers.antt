@@ -1,10 +1,10 @@
 use Rattle.std.proofs.Common.{◌∙◌, sym, arith}
-use Rattle.tl_map.proofs.IndexLemmas.{same_key-is}
 use Rattle.tl_map_rules.specs.declared.fault.RecordFault.TheVariants.{DuplicatePolygon}
 use Rattle.tl_list_records.proofs.NumberLemmas.{next_none, next_more, next_other, next_all}
 use Rattle.tl_list_records.proofs.KeyLemmas.{other_key}
 use Rattle.tl_list_records.proofs.keys.push_repeated_keys.Goals as goal
 use Rattle.tl_list_records.proofs.keys.push_repeated_keys.Goals.{then-eq+in_ok-push, else-eq}
+use Rattle.tl_map_rules.proofs.KeyLemmas.{same_key-is}
 
 pub loop-place-init : goal.loop-place-init
 loop-place-init c = next_none DuplicatePolygon c.args.keys.now 1 c.args.faults.now.items (omega arith)

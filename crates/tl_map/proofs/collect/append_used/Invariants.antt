@@ -1,7 +1,7 @@
 use Rattle.std.proofs.Common.{◌≡◌, ◌++◌, take}
 use Rattle.tl_map_rules.specs.ChainsOf.{used, has_gap}
-use Rattle.tl_map.specs.Keeping.Entries.{some_unused}
 use Rattle.tl_map.proofs.collect.append_used.Given as goal
+use Rattle.tl_map_rules.specs.Keeping.Pairs.{some_unused}
 
 abbrev pub invariant-loop-pair : goal.invariant-loop-pair
 invariant-loop-pair l = record {

@@ -7,9 +7,10 @@ use Rattle.tl_record_key.specs.declared.key.PolyKey.{PolyKey}
 use Rattle.std.proofs.lemmas.Result.{err_from_is_err_and}
 use Rattle.indexmap.specs.IndexMap.{keys}
 use Rattle.tl_map_rules.specs.MapOf.{same_key}
-use Rattle.tl_map.proofs.IndexLemmas.{numbers_keys, key_laws, same_key-is}
+use Rattle.tl_map.proofs.IndexLemmas.{numbers_keys, key_laws}
 use Rattle.tl_map.proofs.LinkedLemmas.{links_inside}
 use Rattle.tl_map.proofs.landmarks.link_landmarks.Goals as goal
+use Rattle.tl_map_rules.proofs.KeyLemmas.{same_key-is}
 
 pub resolve_links-requires-clause-polygons : goal.resolve_links-requires-clause-polygons
 resolve_links-requires-clause-polygons c = c.requires.polygons

@@ -3,8 +3,9 @@ use Rattle.tl_geom.specs.declared.point.Point.{Point}
 use Rattle.tl_record.specs.declared.record.Record.{Record}
 use Rattle.tl_map_rules.specs.declared.entry.ShapeEntry.{ShapeEntry}
 use Rattle.tl_map_rules.specs.ChainsOf.{has_gap, pairs_up_to}
-use Rattle.tl_map.specs.Keeping.Entries.{some_unused, shapes_with, AreShapeEntries}
+use Rattle.tl_map.specs.Keeping.Entries.{shapes_with, AreShapeEntries}
 use Rattle.tl_map.proofs.passes.gap_tlid.Given as goal
+use Rattle.tl_map_rules.specs.Keeping.Pairs.{some_unused}
 
 abbrev pub invariant-loop-shape : goal.invariant-loop-shape
 invariant-loop-shape l = record {
