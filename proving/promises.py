@@ -91,13 +91,14 @@ class Source:
                 self.add_call(line, owner)
 
     def add_impl(self, at):
-        """The public functions of a type, or what it keeps of a trait."""
+        """The public functions of a type; or what it keeps of a trait, and the functions in which it promises more than that."""
         kept, owner = impl_of(self.lines[at])
         if kept and owner:
             self.kept.append(Kept(last_name(kept), owner, ghosts_in(self.lines, self.block(at))))
+        elif not owner:
             return
         for line in self.block(at):
-            if re.match(r" {4}pub (const )?fn ", self.lines[line]):
+            if re.match(r" {4}fn " if kept else r" {4}pub (const )?fn ", self.lines[line]):
                 self.add_call(line, owner)
 
 
