@@ -63,7 +63,7 @@ pub fn places_list_what_lies_there()
         ListsWhatLies m q place }
 {}
 
-/// And then each side of each chain names what lies there.
+/// Where chains are planar and faces agree, each side of each chain names what lies there.
 pub fn true_sides()
     ensures { (chains : List MapChain) → IsPlanar chains → FacesAgree chains → AreSidesTrue chains }
 {}
@@ -84,12 +84,13 @@ pub fn one_polygon_by_slabs()
     ensures { (K : ℤ) (chains : List MapChain) → AreAllNear K chains → IsPlanar chains → AreSlabsFacing K chains → HasOnePolygon chains }
 {}
 
-/// The second by that.
+/// Where chains are planar and facing sides agree along the lists of all slabs, each side of each chain names what lies
+/// there.
 pub fn true_sides_by_slabs()
     ensures { (K : ℤ) (chains : List MapChain) → AreAllNear K chains → IsPlanar chains → AreSlabsFacing K chains → AreSidesTrue chains }
 {}
 
-/// And where chains are planar and faces agree there are such lists.
+/// Where chains are planar and faces agree, all slabs have lists along which facing sides agree.
 pub fn slabs_have_lists()
     ensures { (K : ℤ) (chains : List MapChain) → pos 0 <ℤ K → AreAllNear K chains → IsPlanar chains → FacesAgree chains →
         AreSlabsFacing K chains }

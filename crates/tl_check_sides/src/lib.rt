@@ -6,6 +6,8 @@
 //! agree. What sides, rings and boundaries are is defined in `specs/Sides`, without any list of a stranger's.
 //!
 //! Who lists rounds, or looks at the darts of each node, begins with the darts that [`sort_darts`] gives.
+//!
+//! Only [`Rounds::new`], [`Walks::new`] and [`sort_darts`] take memory.
 #![tactic(auto)]
 
 mod fault;

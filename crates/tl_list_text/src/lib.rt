@@ -2,6 +2,8 @@
 //!
 //! A [`Listing`] says that the county is sound, or has all its faults or all its lines that are refused. [`print_listing`]
 //! says exactly which bytes are written of it, and an error comes exactly where a write failed.
+//!
+//! Nothing here takes memory.
 #![tactic(auto)]
 
 mod faults;

@@ -61,6 +61,8 @@ impl<W: Sink> Sink for FailAtOut<W> {
         ensures failures { CountsWrite (⟦<FailAtOut<W> as Sink>⟧.failure_count self.old)
             (⟦<FailAtOut<W> as Sink>⟧.failure_count self.new) result bytes.now }
         ensures kind { self.new.kind ≡ self.old.kind }
+        // The write at its turn answers an error of its kind and leaves the sink as it was. At each other the sink
+        // counts an error as one failure.
         ensures turn { CountsDown (writes_before self.old) (writes_before self.new)
             (MatchResult result (λ _. ⊥) (λ error. error_kind error ≡ self.old.kind)
             × (sink_of self.new ≡ sink_of self.old))
