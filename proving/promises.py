@@ -476,8 +476,9 @@ def rows_of_kept(source, before, kept):
     name = f"`{before}{kept.owner}` as `{kept.trait}`"
     for clause in kept.clauses:
         found = cited_by(source, clause)
-        if found:
-            yield name, without_links(clause.comment) or sentence(found[0].comment), carriers(source, [clause])
+        promise = without_links(clause.comment) or (sentence(found[0].comment) if found else "")
+        if found and promise:
+            yield name, promise, carriers(source, [clause])
             name = ""
 
 
