@@ -14,8 +14,8 @@ use tl_check_faces::{FaceFault, OddGap};
 use tl_check_sweep::{Gaps, SweepReport, sweep};
 use tl_map_county::Map;
 
-/// Faces of a map that disagree, where its chains are planar; `None` where all agree. Which is told of those that
-/// [`crate::find_all_face_faults`] tells is open. The error is that memory was refused.
+/// Faces of a map that disagree, where its chains are planar; `None` where all agree. Which one is found of those that
+/// [`crate::find_all_face_faults`] tells is left open. The error is that memory was refused.
 pub fn find_face_fault(alloc: Global, map: &Map) -> Result<Option<FaceFault>, AllocError>
     requires planar { IsPlanar map.now.chains }
     // `None` is answered only where all faces agree.

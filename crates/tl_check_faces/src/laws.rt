@@ -171,7 +171,7 @@ pub fn disagreements_contradict()
     ensures outward { (chains : List MapChain) (one : FacingSide) (x y : ℤ) → IsOutwardDisagreement chains one x y → ¬ FacesAgree chains }
 {}
 
-/// Faces that disagree from a place do so from it however it is written, as in lowest terms.
+/// Faces that disagree from a place disagree from it however it is written, as in lowest terms.
 pub fn disagreements_are_of_places()
     ensures first { (chains : List MapChain) (one other : FacingSide) (p : Rational) → IsSame one.place p →
         IsFaceDisagreement chains one other → IsFaceDisagreement chains (from_place one p) other }
@@ -181,13 +181,13 @@ pub fn disagreements_are_of_places()
         IsOutwardDisagreement chains one x y → IsOutwardDisagreement chains (from_place one p) x y }
 {}
 
-/// Where a fault of faces is true of a map, its faces don't agree. So none is told of a map whose faces agree.
+/// Where a fault of faces is true of a map, its faces don't agree. So none is true of a map whose faces agree.
 pub fn a_true_face_fault_contradicts()
     ensures { (m : TheMap) (fault : FaceFault) → IsTrueFaceFault m fault → ¬ FacesAgree m.chains }
 {}
 
-/// And on planar chains whose sides agree about nodes such a fault says that faces aren't true: none is told of a map that has one
-/// polygon at each place, and whose sides name what lies there.
+/// Where a fault of faces is true of a map whose chains are planar and whose sides agree about nodes, faces aren't
+/// true. So none is true of such a map that has one polygon at each place, and whose sides name what lies there.
 pub fn a_true_face_fault_denies_true_faces()
     ensures { (m : TheMap) (fault : FaceFault) → AreProper m.chains → IsPlanar m.chains → SidesAgree m.chains → IsTrueFaceFault m fault →
         ¬ AreFacesTrue m.chains }

@@ -82,6 +82,7 @@ impl<R: Source> Source for FailAt<R> {
 
     ghost reference = { λ failing. R.reference (source_of failing) };
 
+    /// Reads as the source does, but at its turn.
     fn fetch(&mut self, buf: &mut [u8]) -> io::Result<usize>
         ensures bound { ReadsAtMost result buf.new }
         ensures bytes { ReadConsumes (⟦<FailAt<R> as Source>⟧.remaining self.old)

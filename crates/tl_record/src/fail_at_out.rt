@@ -54,6 +54,7 @@ impl<W: Sink> Sink for FailAtOut<W> {
 
     ghost failure_count = { λ failing. with_own (writes_before failing) (W.failure_count (sink_of failing)) };
 
+    /// Writes as the sink does, but at its turn.
     fn put(&mut self, bytes: &[u8]) -> io::Result<usize>
         ensures bound { WritesAtMost result bytes.now }
         ensures bytes { WriteAppends (⟦<FailAtOut<W> as Sink>⟧.contents self.old)
