@@ -81,10 +81,12 @@ class Source:
         return range(at + 1, self.end_of(at))
 
     def add_call(self, at, owner):
+        """A function by itself, or of the item that owns it."""
         name = re.match(FUNCTION, self.lines[at]).group("name")
         self.calls.append(Call(name, doc_above(self.lines, at), clauses_below(self.lines, at), owner))
 
     def add_trait(self, at):
+        """The functions of a trait, whose contracts each type that keeps it keeps."""
         owner = re.search(r"trait (\w+)", self.lines[at]).group(1)
         for line in self.block(at):
             if re.match(r" {4}fn ", self.lines[line]):
