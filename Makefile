@@ -21,13 +21,14 @@
 # make pictures            reads what `draw` makes, and shows it by a browser where one is there
 # make pages               looks at the manual page and the completions, which are made of the program's help, and at what
 #                          `--progress` shows
+# make promises            makes docs/promises.md anew behind its first page, from the contracts and their comments
 # make install PREFIX=..   installs the program as PREFIX/bin/tigertopo, its manual page and its completions
 # make uninstall PREFIX=.. takes these away
 
 PREFIX = /usr/local
 PROGRAM = crates/tigertopo/out/tigertopo
 
-.PHONY: build check wrong-bodies rows certificates judge full-size limits memory devices examples counties bench ways speed geojson pictures pages install uninstall
+.PHONY: build check wrong-bodies rows certificates judge full-size limits memory devices examples counties bench ways speed geojson pictures pages promises install uninstall
 
 build:
 	python3 proving/prove.py
@@ -95,6 +96,9 @@ pictures: build
 pages: build
 	python3 tests/installed/installed.py
 	python3 tests/installed/progress.py
+
+promises:
+	python3 proving/promises.py
 
 SHARE = $(DESTDIR)$(PREFIX)/share
 

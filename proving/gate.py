@@ -27,6 +27,7 @@ import made_files
 import memory
 import pictures
 import progress
+import promises
 import rows
 import run as examples
 import skipped
@@ -78,6 +79,7 @@ def parts():
         ("rows", rows.play_all),
         ("rows over the core", core.play_all),
         ("what pages name", cited.play_all),
+        ("promises", promises.play_all),
     ]
     if geojson.can_play():
         found.append(("files of GeoJSON", geojson.play_all))

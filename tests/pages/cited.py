@@ -36,16 +36,10 @@ def definitions_in(text):
 
 
 def edits_in(page):
-    """The edits that a page names in the columns under `Refused edits`."""
-    is_table = False
+    """The edits that a page names in its lines of refused edits."""
     for line in page.splitlines():
-        cells = [it.strip() for it in line.split("|")]
-        if cells[-2:-1] == ["Refused edits"]:
-            is_table = True
-        elif not line.startswith("|"):
-            is_table = False
-        elif is_table:
-            yield from re.findall(r"(?<!of )`([a-z_0-9]+)`(?! of)", re.sub(NAMED, "", cells[-2]))
+        if line.startswith("Refused edits: "):
+            yield from re.findall(r"`(\w+)` \(", line)
 
 
 def missing_of(where, text):

@@ -83,8 +83,8 @@ pub trait FileSystem {
             (all_names (map string_bytes names.now) (option_map (λ name. string_bytes name.now) single.entry)) None
             (Q.answers reading.now known alone) (Q.stops reading.now known alone) result };
 
-    /// The same once more, where each of the files can be read again from its beginning. `None` says that one can't: it is no regular
-    /// file, as a pipe is none.
+    /// Has the files read once more, as [`FileSystem::read`] does, where each of them can be read again from its
+    /// beginning. `None` says that one can't: it is no regular file, as a pipe is none.
     fn read_again<Q: Reading>(
         &mut self,
         alloc: Global,

@@ -92,7 +92,8 @@ pub fn read_each<O: Opener, Q: Reading>(
     reading.read(alloc, &mut joined, &mut alone)
 }
 
-/// The same where each of the files can be read again from its beginning, and else `None`.
+/// Has the files read as [`read_each`] does, where each of them can be read again from its beginning, and else answers
+/// `None`.
 pub fn read_each_again<O: Opener, Q: Reading>(
     opener: &O,
     alloc: Global,

@@ -23,7 +23,7 @@ pub fn make_file<F: FileSystem, T: Text>(
     requires ready { T.is_ready text.now }
     ensures made { MakesFile (F.under files.old) (F.under files.new) name.now (Fails F.knows (F.log files.old) (F.log files.new))
         (T.text text.now) result }
-    // No new file is left behind, and a failure is counted where a device is told, and nowhere else.
+    // No new file is left behind, and a failure is counted where `Device` is answered, and nowhere else.
     ensures logged { F.knows ≡ true → LogsFailure (F.log files.old) (F.log files.new) result }
 {
     let mut draft = files.draft(alloc, name, read, kind)?;

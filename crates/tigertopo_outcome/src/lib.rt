@@ -1,4 +1,5 @@
-//! What each command answers of what it reads, and how that is told: which text, on which output, and with which exit status.
+//! What each command answers of what it reads, and how it says so: with which text, on which output, and with which
+//! exit status.
 //!
 //! What is asked of records is a [`reading::Question`], which [`reading::over_records`] has answered of their files. [`records`] answers
 //! of records alone, and [`convert`] reads a certificate to write it in version 2. An answer is an [`Answer`](said::Answer), a text and a

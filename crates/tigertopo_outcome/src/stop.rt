@@ -28,9 +28,9 @@ pub const STOPPED: u8 = 4;
 /// The status where the words are no command, or no file may be made.
 pub const USAGE: u8 = 64;
 
-/// Says on `err` why a command stopped, and gives the exit status of that. Where the write fails, the status alone is left
-/// to tell it. The lines are put together here and not by `Display`, whose errors no contract excludes: so each stop is
-/// told as what it is.
+/// Says on `err` why a command stopped, and gives the exit status of that. Where the write fails, the status alone is
+/// left to tell it. The lines are put together here and not by `Display`, whose errors no contract excludes: so the
+/// line of each stop is its own.
 pub fn stopped<E: Sink>(stop: &Stop, err: &mut E) -> u8
     ensures status { result ≡ stop_status stop.now }
     ensures told { Tries (stream E.contents E.failure_count err.old err.new) (line_of (stop_text stop.now)) }

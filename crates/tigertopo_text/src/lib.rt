@@ -2,6 +2,8 @@
 //!
 //! [`JoinedSources`] reads several files as one text, and [`Buffered`] many bytes at a time. [`print_chains`],
 //! [`print_landmarks`], [`print_on_chain`] and [`print_inside`] say exactly which bytes are printed.
+//!
+//! Nothing here takes memory.
 #![tactic(auto)]
 
 mod buffered;

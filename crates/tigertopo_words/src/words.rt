@@ -36,6 +36,7 @@ pub fn command<S: AsStr>(alloc: Global, words: &[S]) -> Result<Command, WordsSto
     // Words that are a use of a command are refused for want of memory alone, and words of which the first shows that they are
     // none never for that.
     ensures stops { IfErr result (StopsPlanning (map S.text words.now)) }
+    // A text that is shown has no escape (0x1B), so no word can send one to a terminal.
     ensures texts { IfErr result ShowsNoEscape }
 {
     let Ok(mut line) = command_line::command(alloc) else {

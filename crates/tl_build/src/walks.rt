@@ -14,9 +14,12 @@ use tl_map_county::Map;
 
 /// The walks of a map that is sound; none of one that isn't. It stops where memory was refused, and nowhere else.
 pub fn find_walks(alloc: Global, map: &Map) -> Result<Option<Vec<Vec<u32>>>, Stop>
+    // Walks are given only where the map is sound, and none only where it isn't.
     ensures sound { IfOk result (λ found. MatchOption found (¬ IsSound map.now) (λ walks. IsSound map.now)) }
+    // They are the map's: rings in which each dart stands once and nothing else does.
     ensures walks { IfOk result (λ found. IfSome found (λ walks. AreWalks map.now.chains (map_list (λ w. w.items) walks.items))) }
     ensures counted { IfOk result (λ found. IfSome found (λ walks. length walks.items < 2 ^ 32)) }
+    // It stops for memory alone.
     ensures stops { IfErr result IsMemoryStop }
 {
     match decide(alloc, map, false)? {

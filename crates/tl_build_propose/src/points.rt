@@ -39,7 +39,8 @@ pub fn find_misplaced_beside(
     }
 }
 
-/// The same by a tree of the map's segments.
+/// A polygon whose point doesn't lie where it has to, if there is one, by the walks of a map and a tree of its
+/// segments.
 pub fn find_misplaced_by(
     alloc: Global,
     map: &Map,

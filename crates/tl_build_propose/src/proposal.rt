@@ -27,6 +27,8 @@ use tl_tree_pack::pack;
 
 /// The certificate of version 2 that is proposed for a map.
 pub fn propose(alloc: Global, map: &Map) -> Result<Certificate, AllocError>
+    // Its counts are the map's, its tree fits the segments, is split evenly and has at most 8 levels, and its rounds
+    // and its walks hold each dart once; where the chains are planar, they are the map's.
     ensures { IfOk result (IsProposal map.now) }
 {
     let counts = counts_of(map);
@@ -97,7 +99,9 @@ pub fn propose_walks(alloc: Global, map: &Map) -> Result<Vec<Vec<u32>>, AllocErr
 
 /// The walks of a map whose darts head apart about each node, planar or not; none where two of a node head in one direction.
 pub fn propose_walks_apart(alloc: Global, map: &Map) -> Result<Option<Vec<Vec<u32>>>, AllocError>
+    // Walks are given only where darts head apart, and none only where they don't.
     ensures apart { IfOk result (λ found. MatchOption found (¬ HeadApart map.now.chains) (λ walks. HeadApart map.now.chains)) }
+    // They are the map's, where each chain has two points or more, of which neighbours differ.
     ensures are_walks { IfOk result (λ found. IfSome found (λ walks. AreProper map.now.chains →
         AreWalks map.now.chains (lists_in walks.items))) }
     ensures counted { IfOk result (λ found. IfSome found (λ walks. AreDartLists (lists_in walks.items))) }

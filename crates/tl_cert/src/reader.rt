@@ -59,7 +59,10 @@ impl<R: Source> CertReader<R> {
     /// read fails, an interrupted one too; [`CertStop::Memory`] where there is no memory for the part. After any of
     /// these and after the end, each later call answers the same and reads nothing.
     pub fn next_part(&mut self) -> Result<Option<CertPart>, CertStop>
-        // The parts of the one certificate that has the text, in their order; or why there is none.
+        // Where the bytes are known: the parts of the one certificate that has the text, in their order; or why there is
+        // none. Where no certificate has the text, it is the line that none has: one more than the line feeds in the
+        // longest beginning that begins the text of some certificate. The counts and the tree are given before, unless the
+        // text breaks off in them. Each part leaves fewer to come.
         ensures gives { Gives R.remaining self.old self.new result (standing_of self.old) }
         // An end or a stop is answered again and again, and nothing is read any more.
         ensures settles { Settles (standing_of self.new) result }

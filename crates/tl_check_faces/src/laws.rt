@@ -63,7 +63,7 @@ pub fn places_list_what_lies_there()
         ListsWhatLies m q place }
 {}
 
-/// And then each side of each chain names what lies there.
+/// Where chains are planar and faces agree, each side of each chain names what lies there.
 pub fn true_sides()
     ensures { (chains : List MapChain) → IsPlanar chains → FacesAgree chains → AreSidesTrue chains }
 {}
@@ -84,12 +84,13 @@ pub fn one_polygon_by_slabs()
     ensures { (K : ℤ) (chains : List MapChain) → AreAllNear K chains → IsPlanar chains → AreSlabsFacing K chains → HasOnePolygon chains }
 {}
 
-/// The second by that.
+/// Where chains are planar and facing sides agree along the lists of all slabs, each side of each chain names what lies
+/// there.
 pub fn true_sides_by_slabs()
     ensures { (K : ℤ) (chains : List MapChain) → AreAllNear K chains → IsPlanar chains → AreSlabsFacing K chains → AreSidesTrue chains }
 {}
 
-/// And where chains are planar and faces agree there are such lists.
+/// Where chains are planar and faces agree, all slabs have lists along which facing sides agree.
 pub fn slabs_have_lists()
     ensures { (K : ℤ) (chains : List MapChain) → pos 0 <ℤ K → AreAllNear K chains → IsPlanar chains → FacesAgree chains →
         AreSlabsFacing K chains }
@@ -170,7 +171,7 @@ pub fn disagreements_contradict()
     ensures outward { (chains : List MapChain) (one : FacingSide) (x y : ℤ) → IsOutwardDisagreement chains one x y → ¬ FacesAgree chains }
 {}
 
-/// Faces that disagree from a place do so from it however it is written, as in lowest terms.
+/// Faces that disagree from a place disagree from it however it is written, as in lowest terms.
 pub fn disagreements_are_of_places()
     ensures first { (chains : List MapChain) (one other : FacingSide) (p : Rational) → IsSame one.place p →
         IsFaceDisagreement chains one other → IsFaceDisagreement chains (from_place one p) other }
@@ -180,13 +181,13 @@ pub fn disagreements_are_of_places()
         IsOutwardDisagreement chains one x y → IsOutwardDisagreement chains (from_place one p) x y }
 {}
 
-/// Where a fault of faces is true of a map, its faces don't agree. So none is told of a map whose faces agree.
+/// Where a fault of faces is true of a map, its faces don't agree. So none is true of a map whose faces agree.
 pub fn a_true_face_fault_contradicts()
     ensures { (m : TheMap) (fault : FaceFault) → IsTrueFaceFault m fault → ¬ FacesAgree m.chains }
 {}
 
-/// And on planar chains whose sides agree about nodes such a fault says that faces aren't true: none is told of a map that has one
-/// polygon at each place, and whose sides name what lies there.
+/// Where a fault of faces is true of a map whose chains are planar and whose sides agree about nodes, faces aren't
+/// true. So none is true of such a map that has one polygon at each place, and whose sides name what lies there.
 pub fn a_true_face_fault_denies_true_faces()
     ensures { (m : TheMap) (fault : FaceFault) → AreProper m.chains → IsPlanar m.chains → SidesAgree m.chains → IsTrueFaceFault m fault →
         ¬ AreFacesTrue m.chains }

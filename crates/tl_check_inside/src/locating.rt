@@ -32,6 +32,8 @@ pub fn locate<X: BoxIndex>(
     point: Point,
 ) -> Result<Place, Memory>
     requires fits { X.fits index.now (segments_before map.now.chains (length map.now.chains)) (segment_rect map.now.chains) }
+    // The lowest chain that holds the point; or, where none does, by rising numbers exactly the polygons and the
+    // landmarks whose counts there aren't 0.
     ensures { IfOk result (IsPlaceOf map.now point) }
 {
     let mut hits = Vec::new(alloc);

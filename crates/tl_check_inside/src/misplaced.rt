@@ -42,6 +42,8 @@ pub fn find_misplaced<X: BoxIndex>(
     index: &X,
 ) -> Result<Option<Misplaced>, Memory>
     requires fits { X.fits index.now (segments_before map.now.chains (length map.now.chains)) (segment_rect map.now.chains) }
+    // `None` is answered only where the point of each polygon is on no chain, inside its own polygon and clear of every
+    // other; what is found is true.
     ensures { IfOk result (λ found. MatchOption found (ArePlaced map.now) (IsTrueMisplaced map.now)) }
 {
     let mut sites = sites_of(alloc, map)?;
@@ -58,6 +60,8 @@ pub fn find_among<X: BoxIndex>(
 ) -> Result<Option<Misplaced>, Memory>
     requires fits { X.fits index.now (segments_before map.now.chains (length map.now.chains)) (segment_rect map.now.chains) }
     requires sites { All (IsSiteOf map.now) sites.old.items }
+    // `None` is answered only where each of these points is on no chain, inside its own polygon and clear of every
+    // other; what is found is true.
     ensures { IfOk result (λ found. MatchOption found (All (IsPlacedSite map.now) sites.old.items) (IsTrueMisplaced map.now)) }
 {
     look_at_points(map);

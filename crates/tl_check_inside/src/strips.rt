@@ -35,6 +35,7 @@ pub fn sites_of(alloc: Global, map: &Map) -> Result<Vec<Site>, Memory>
     Ok(sites)
 }
 
+/// Adds a point to a list of some. An error says that memory was refused.
 pub fn push_site(sites: &mut Vec<Site>, site: Site) -> Result<(), Memory>
     ensures { OnOk result (sites.new.items ≡ sites.old.items ++ site ∷ []) }
 {

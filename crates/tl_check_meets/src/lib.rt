@@ -1,7 +1,7 @@
 //! All conflicts of items, and all places where a map's chains meet that they may not.
 //!
 //! Where a search for one conflict ends at the first, [`all_conflicts`] lists them all, each once and in order, and
-//! [`all_meets`] does so of a map's segments.
+//! [`all_meets`] lists all conflicts of a map's segments.
 #![tactic(auto)]
 
 mod behind;

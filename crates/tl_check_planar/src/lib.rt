@@ -3,6 +3,8 @@
 //! The segments of a map are items of a search that conflict exactly where they share a point that they may not share. So a
 //! search that finds no conflict says that the map's chains are planar, and one that finds a conflict names a point where
 //! they aren't.
+//!
+//! Nothing here takes memory.
 #![tactic(auto)]
 
 mod allowed;

@@ -36,6 +36,9 @@ pub enum Meeting {
 pub fn first_meet<X: BoxIndex>(map: &Map, index: &X, budget: u64) -> Meeting
     requires { X.fits index.now (segments_before map.now.chains (length map.now.chains))
         (segment_rect map.now.chains) }
+    // `Found` has two segments, in order, that conflict by its point, and names their chains. `Clear` says that the
+    // chains are planar, and that at most as many pairs of segments as the budget have rectangles that meet. `Budget`
+    // says that more have, and that as many of these as the budget don't conflict.
     ensures { MayMeet map.now.chains budget result }
 {
     match index.first_conflict(&Segments::new(map), budget) {

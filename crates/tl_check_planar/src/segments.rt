@@ -55,6 +55,8 @@ impl<'a> Items for Segments<'a> {
 
     ghost bounds_of = { segment_rect };
 
+    // A rational point that both share and may not share, that of their contact unless they may share it; or that they
+    // may share each point that they share.
     ghost tells = { MayTell };
 
     ghost apart = { apart_are_free };

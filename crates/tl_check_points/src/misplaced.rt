@@ -32,6 +32,8 @@ pub fn find_misplaced<X: BoxIndex>(
     requires walks { AreWalks map.now.chains rings.now.rings }
     requires boxed { AreBoxed map.now.chains rings.now }
     requires few { length rings.now.rings < 2 ^ 32 }
+    // `None` is answered only where the point of each polygon is on no chain, inside its own polygon and clear of every
+    // other; what is found is true.
     ensures { IfOk result (λ found. MatchOption found (ArePlaced map.now) (IsTrueMisplaced map.now)) }
 {
     let mut suspects = Vec::new(alloc);

@@ -1,11 +1,14 @@
 //! Sides that agree: the darts about each node, and the rings that they make.
 //!
 //! A stranger lists the darts that start at each node in their order round it ([`Rounds`]), and rings of darts
-//! ([`Walks`]). Both are taken list by list, against a map, and each is told exactly to be right as a whole, or why it
-//! isn't. Rounds that are right give the next dart about its node of each dart ([`Next`]), which decides whether sides
-//! agree. What sides, rings and boundaries are is defined in `specs/Sides`, without any list of a stranger's.
+//! ([`Walks`]). Both are taken list by list, against a map, and the answer is exactly whether each is right as a whole,
+//! and if not, why. Rounds that are right give the next dart about its node of each dart ([`Next`]), which decides
+//! whether sides agree. What sides, rings and boundaries are is defined in `specs/Sides`, without any list of a
+//! stranger's.
 //!
 //! Who lists rounds, or looks at the darts of each node, begins with the darts that [`sort_darts`] gives.
+//!
+//! Only [`Rounds::new`], [`Walks::new`] and [`sort_darts`] take memory.
 #![tactic(auto)]
 
 pub mod cells;

@@ -25,7 +25,10 @@ impl Next {
     /// Two darts whose sides disagree, if sides don't agree.
     pub fn disagreement(&self, map: &Map) -> Option<Disagreement>
         requires { KeepNext map.now.chains self.now }
+        // `None` is answered only where sides agree.
         ensures none { IsNone result → SidesAgree map.now.chains }
+        // The second is next after the first about its node, and what is on the left of the first isn't what is on the
+        // right of the second.
         ensures some { IfSome result (λ found. IsNext map.now.chains found.first found.next
             × (dart_left map.now.chains found.first ≢ dart_right map.now.chains found.next)) }
     {

@@ -57,8 +57,10 @@ impl Rounds {
         requires sized { AreSized map.now.chains self.old }
         requires some { zero < length round.now }
         ensures sized { AreSized map.now.chains self.new }
+        // It is taken behind those that were taken before, and none of them is wrong.
         ensures taken { OnOk result ((rounds : List (List ℕ)) →
             HaveTaken map.now.chains rounds self.old → HaveTaken map.now.chains (and_list rounds round.now) self.new) }
+        // A fault is true of the rounds up to this one, whatever rounds follow.
         ensures fault { IfErr result (λ fault. (rounds more : List (List ℕ)) →
             HaveTaken map.now.chains rounds self.old →
             IsRoundFault map.now.chains (and_list rounds round.now ++ more) fault) }
@@ -88,10 +90,14 @@ impl Rounds {
     /// Ends the rounds: they are those of the map, and the next dart of each is known, or a dart is missing.
     pub fn end(self, map: &Map) -> Result<Next, RoundFault>
         requires sized { AreSized map.now.chains self }
+        // They are the rounds of the map: each dart once and nothing else, in each the darts of one node with headings
+        // that rise strictly counter-clockwise from east, and no two of one node.
         ensures whole { OnOk result ((rounds : List (List ℕ)) →
             HaveTaken map.now.chains rounds self → AreRounds map.now.chains rounds) }
+        // The dart that is kept for each is next after it about its node, and no other is.
         ensures next { IfOk result (λ next. (rounds : List (List ℕ)) →
             HaveTaken map.now.chains rounds self → KeepNext map.now.chains next) }
+        // A fault is true of the rounds.
         ensures fault { IfErr result (λ fault. (rounds : List (List ℕ)) →
             HaveTaken map.now.chains rounds self → IsRoundFault map.now.chains rounds fault) }
     {

@@ -54,8 +54,10 @@ impl Walks {
         requires ready { AreReady map.now.chains self.old }
         requires some { zero < length walk.now }
         ensures ready { AreReady map.now.chains self.new }
+        // It is taken behind those that were taken before, and none of them is wrong.
         ensures taken { OnOk result ((walks : List (List ℕ)) →
             HaveWalked map.now.chains walks self.old → HaveWalked map.now.chains (and_list walks walk.now) self.new) }
+        // A fault is true of the walks up to this one, whatever walks follow.
         ensures fault { IfErr result (λ fault. (walks more : List (List ℕ)) →
             HaveWalked map.now.chains walks self.old →
             IsWalkFault map.now.chains (and_list walks walk.now ++ more) fault) }
@@ -79,8 +81,10 @@ impl Walks {
     /// is missing.
     pub fn end(self, map: &Map) -> Result<u32, WalkFault>
         requires ready { AreReady map.now.chains self }
+        // They are rings in which each dart stands once and nothing else does, and their number is answered.
         ensures whole { IfOk result (λ count. (walks : List (List ℕ)) →
             HaveWalked map.now.chains walks self → AreWalks map.now.chains walks × (count ≡ length walks)) }
+        // A fault is true of the walks.
         ensures fault { IfErr result (λ fault. (walks : List (List ℕ)) →
             HaveWalked map.now.chains walks self → IsWalkFault map.now.chains walks fault) }
     {

@@ -64,14 +64,25 @@ pub struct Told {
 /// of the eastern one, those with no segment on a side before the others; or some of these, if there are any. The error is that memory
 /// was refused.
 pub fn sweep(alloc: Global, map: &Map, gaps: Gaps) -> Result<SweepReport, AllocError>
+    // `Placed` is answered only where the chains are planar and the point of each polygon lies where it has to.
     ensures placed { IfOk result (λ report. report.swept ≡ Swept.Placed → IsPlanar map.now.chains × ArePlaced map.now) }
+    // `Planar` is answered only where the chains are planar.
     ensures planar { IfOk result (λ report. report.swept ≡ Swept.Planar → IsPlanar map.now.chains) }
+    // A meet that is answered is of two segments, in order, that conflict by its point, and it names their chains.
     ensures meet { IfOk result (λ report. (meet : Meet) → report.swept ≡ Swept.Meet meet → IsTrueMeet map.now.chains meet) }
+    // The polygons that are listed are polygons of the map.
     ensures known { IfOk result (λ report. All (λ p. p < length map.now.polygons) report.suspects.items) }
+    // The point of each polygon that isn't listed lies where it has to.
     ensures others { IfOk result (λ report. (p : ℕ) (polygon : Polygon) → slice_get map.now.polygons p ≡ Some polygon →
         Contains report.suspects.items p ⊎ IsPlacedIn map.now polygon.point p) }
+    // Where a list of gaps is answered, the chains are planar, and each gap is one of a slab's list whose facing sides
+    // differ, the lowest between its segments.
     ensures odd { IfOk result (λ report. IfSome report.gaps (λ found. IsPlanar map.now.chains × All (IsLowestOddGap widest map.now.chains) found.items)) }
+    // Where this list is empty, faces agree.
     ensures agree { IfOk result (λ report. IfSome report.gaps (λ found. found.items ≡ [] → FacesAgree map.now.chains)) }
+    // Where all gaps are asked for, it has for each such gap of each slab's list one between the same two segments, of
+    // that slab or a lower one. They rise strictly by what stands west of them, and of one such by what stands east, so
+    // that no two segments stand there twice.
     ensures all { gaps ≡ Gaps.All → IfOk result (λ report. IfSome report.gaps (λ found. AreAllOddGaps widest map.now.chains found.items)) }
 {
     map.has_proper_chains();

@@ -25,8 +25,8 @@ pub fn a_sound_map_has_no_fault()
     ensures { (faces : Bool) (m : TheMap) (fault : MapFault) → IsTrueOfMap faces m fault → ¬ IsSoundFor faces m }
 {}
 
-/// No fault is true of a certificate that is valid for the map. So a sound map with a valid certificate is told to be
-/// sound, unless the check is stopped.
+/// No fault is true of a certificate that is valid for the map. So the answer for a sound map with a valid certificate
+/// is that it is sound, unless the check is stopped.
 pub fn a_valid_certificate_has_no_fault()
     ensures { (m : TheMap) (c : TheCertificate) (fault : CertFault) → IsTrueOfCert m c fault → ¬ IsValid m c }
 {}

@@ -3,6 +3,11 @@
 //!
 //! Points have whole coordinates; the records of a county give them in millionths of a degree, `x` to the east and `y`
 //! to the north. Every call answers for all `i32` coordinates. Nothing here rounds, allocates or fails.
+//!
+//! The types have invariants of their own: a [`Segment`] has two different ends, the step of a [`Direction`] isn't 0
+//! both ways, and a [`Rational`] has a denominator above 0. These and [`Contact`] compare by their fields, so two ways
+//! to write one rational point, or two steps of one direction, are not `==`. What [`Rect::join`] gives for an empty
+//! rectangle is left open, beyond that it holds both.
 #![tactic(auto)]
 
 mod common_end;

@@ -20,10 +20,16 @@ use crate::{Contact, Point, Rational, Segment};
 /// absolute cross product of the two directions.
 #[inline]
 pub fn contact(s: Segment, t: Segment) -> Contact
+    // They are apart exactly where they share no rational point.
     ensures apart { (result ≡ Contact.Apart) ↔ AreApart s t }
+    // They meet at ends exactly where they share one point alone, and it is an end of both.
     ensures at_ends { (p : Point) → (result ≡ Contact.AtEnds p) ↔ MeetAtEnds s t p }
+    // The point of a crossing lies on both.
     ensures shared { IfCrossing result (IsShared s t) }
+    // It isn't an end of both.
     ensures not_both_ends { IfCrossing result (λ r. ¬ AreBothEnded s t r) }
+    // It is the middle of the overlap, over 2; or an end of one inside the other, over 1; or a point inside both, over
+    // the absolute cross product of the directions.
     ensures crossing { IfCrossing result (IsCrossing s t) }
 {
     meeting(s, t)
@@ -31,7 +37,9 @@ pub fn contact(s: Segment, t: Segment) -> Contact
 
 /// The segment of all points that two segments share, or `None` where they share one point at most.
 pub fn overlap(s: Segment, t: Segment) -> Option<Segment>
+    // The points of a segment that is answered are exactly those that both share.
     ensures overlap { IfSome result (IsOverlap s t) }
+    // None is answered only where no segment has exactly these points.
     ensures none { IfNone result ((o : Segment) → ¬ IsOverlap s t o) }
 {
     if are_in_line(s, t) {

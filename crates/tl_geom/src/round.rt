@@ -9,8 +9,11 @@ use std::cmp::Ordering;
 /// The order of directions counter-clockwise from east, which is the lowest: this project's own choice of a first
 /// direction. `Equal` says that both are one direction, not that they are steps of one length.
 pub fn round_cmp(u: Direction, v: Direction) -> Ordering
+    // `Less` is answered exactly where `u` is below `v`.
     ensures below { (result ≡ Ordering.Less) ↔ IsBelow u v }
+    // `Equal` is answered exactly where both are one direction.
     ensures same { (result ≡ Ordering.Equal) ↔ IsOneDirection u v }
+    // `Greater` is answered exactly where `v` is below `u`.
     ensures above { (result ≡ Ordering.Greater) ↔ IsBelow v u }
 {
     if is_first_half(u) {

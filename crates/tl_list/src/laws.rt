@@ -26,8 +26,8 @@ pub fn each_fault_that_is_listed_is_true()
         EachFault listing (IsTrueOfRecords options.faces (records_of (layout_with options) text)) }
 {}
 
-/// Each fault that is true is told by the list, so that which `tl_build` names of several is among them: itself, but for the point at which
-/// two segments meet, the pair of zero-cell ids, and a polygon's point where points are left.
+/// The list tells each fault that is true, so that the one of several which `tl_build` names is among them: itself, but
+/// for the point at which two segments meet, the pair of zero-cell ids, and a polygon's point where points are left.
 pub fn each_fault_that_is_true_is_told()
     ensures { (options : Options) (text : List ℕ) (listing : Listing) (fault : MapFault) →
         IsListingOf options text listing → IsTrueOfRecords options.faces (records_of (layout_with options) text) fault → Tells listing fault }

@@ -1,7 +1,9 @@
-//! What is told of a county where all that is wrong with it is asked for, and how it is printed.
+//! The answer where all that is wrong with a county is asked for, and how it is printed.
 //!
 //! A [`Listing`] says that the county is sound, or has all its faults or all its lines that are refused. [`print_listing`]
 //! says exactly which bytes are written of it, and an error comes exactly where a write failed.
+//!
+//! Nothing here takes memory.
 #![tactic(auto)]
 
 mod faults;

@@ -5,6 +5,9 @@
 //! answer is that of the whole text, its first refused line, or a fault that is true of its records. Records are
 //! gathered as they come, sorted once and joined by merging; the points of all chains lie in one list. Polygons and
 //! landmarks are kept in `indexmap` maps, whose hasher's keys come from the caller, so that no file can be made against it.
+//!
+//! Which of several true faults is answered is left open. Where a call stops it hands out nothing: a [`MapStop`] holds
+//! no chain.
 #![tactic(auto)]
 
 mod areas;

@@ -90,6 +90,7 @@ impl Chains {
     /// How many segments the chains have together.
     pub fn segments(&self) -> u32
         ensures count { result ≡ segment_count self.now.chains }
+        // They are at most 16,777,216.
         ensures few { result ≤ most_segments }
     {
         (self.points.len() - self.rows.len()) as u32

@@ -3,6 +3,8 @@
 //! [`Map`] has the chains of a county with what lies on both sides, its polygons, and its landmarks with their polygons,
 //! each by its number; segments, darts and nodes are numbered from them. [`Chains`] are the chains alone. `tl_map` makes
 //! both from records, and is where to begin; who makes maps of other files makes them here, by [`Map::new`].
+//!
+//! The look-ups of [`Chains`] and of [`Map`] take no memory.
 #![tactic(auto)]
 
 mod chains;

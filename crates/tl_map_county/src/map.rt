@@ -174,6 +174,7 @@ impl Map {
     /// How many segments the chains have together.
     pub fn segments(&self) -> u32
         ensures count { result ≡ segments_before self.now.chains (length self.now.chains) }
+        // They are at most 16,777,216.
         ensures few { result ≤ most_segments }
     {
         self.segment_chains.len() as u32
@@ -205,6 +206,7 @@ impl Map {
     /// How many landmarks there are.
     pub fn landmarks(&self) -> u32
         ensures count { result ≡ length self.now.landmarks }
+        // The polygons of each are numbers of polygons of the map, each once.
         ensures polygons { (l : ℕ) (landmark : MapLandmark) → slice_get self.now.landmarks l ≡ Some landmark →
             ArePolygonsOf (length self.now.polygons) landmark.polygons }
     {
@@ -249,6 +251,7 @@ impl Map {
         requires { l < length self.now.landmarks }
         ensures landmark { slice_get self.now.landmarks l ≡
             Some (record { land = result.land; point = result.point; polygons = result.polygons.now }) }
+        // Its polygons are numbers of polygons of the map, each once.
         ensures polygons { ArePolygonsOf (length self.now.polygons) result.polygons.now }
     {
         let row = self.rows[l as usize];

@@ -82,6 +82,7 @@ impl<R: Source> Source for FailAt<R> {
 
     ghost reference = { λ failing. R.reference (source_of failing) };
 
+    /// Reads as the source does, but at its turn.
     fn fetch(&mut self, buf: &mut [u8]) -> io::Result<usize>
         ensures bound { ReadsAtMost result buf.new }
         ensures bytes { ReadConsumes (⟦<FailAt<R> as Source>⟧.remaining self.old)
@@ -91,6 +92,8 @@ impl<R: Source> Source for FailAt<R> {
         ensures same_reference { ⟦<FailAt<R> as Source>⟧.reference self.new
             ≡ ⟦<FailAt<R> as Source>⟧.reference self.old }
         ensures kind { self.new.kind ≡ self.old.kind }
+        // The read at its turn answers an error of its kind and leaves the source as it was. At each other the source
+        // counts an error as one failure.
         ensures turn { CountsDown (reads_before self.old) (reads_before self.new)
             (MatchResult result (λ _. ⊥) (λ error. error_kind error ≡ self.old.kind)
             × (source_of self.new ≡ source_of self.old))

@@ -54,6 +54,7 @@ impl<W: Sink> Sink for FailAtOut<W> {
 
     ghost failure_count = { λ failing. with_own (writes_before failing) (W.failure_count (sink_of failing)) };
 
+    /// Writes as the sink does, but at its turn.
     fn put(&mut self, bytes: &[u8]) -> io::Result<usize>
         ensures bound { WritesAtMost result bytes.now }
         ensures bytes { WriteAppends (⟦<FailAtOut<W> as Sink>⟧.contents self.old)
@@ -61,6 +62,8 @@ impl<W: Sink> Sink for FailAtOut<W> {
         ensures failures { CountsWrite (⟦<FailAtOut<W> as Sink>⟧.failure_count self.old)
             (⟦<FailAtOut<W> as Sink>⟧.failure_count self.new) result bytes.now }
         ensures kind { self.new.kind ≡ self.old.kind }
+        // The write at its turn answers an error of its kind and leaves the sink as it was. At each other the sink
+        // counts an error as one failure.
         ensures turn { CountsDown (writes_before self.old) (writes_before self.new)
             (MatchResult result (λ _. ⊥) (λ error. error_kind error ≡ self.old.kind)
             × (sink_of self.new ≡ sink_of self.old))

@@ -214,6 +214,7 @@ pub(crate) fn judge_into(layout: &Layout, number: u64, raw: &[u8], place: &mut R
 
 /// What a raw line, which stands without its line feed, means under its number, counted from 1.
 pub fn judge_line(layout: &Layout, number: u64, raw: &[u8]) -> Judgement
+    // Its record, or that it is passed over, or the first cause for which it is refused.
     ensures { result ≡ judgement layout.now number raw.now }
 {
     let mut record = NO_RECORD;

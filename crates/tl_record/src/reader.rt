@@ -93,7 +93,10 @@ impl<R: Source> RecordReader<R> {
     /// A reader of the source's records, by the column table of the TIGER/Line files of 2006.
     pub fn new(source: R) -> RecordReader<R>
         ensures source { source_of result ≡ source }
+        // Where the bytes are known, and however reads cut them: the records before the first refused line are to come,
+        // and then that refusal or the end.
         ensures records { outcome R.remaining result ≡ option_map (records_of tiger_2006) (R.remaining source) }
+        // Where the bytes are known, all lines that are refused are to come as refusals.
         ensures refusals { refusals_to_come R.remaining result
             ≡ option_map (refusals_of tiger_2006) (R.remaining source) }
         ensures extent { extent R.remaining result ≡ extent_of 0 (R.remaining source) }
@@ -107,8 +110,11 @@ impl<R: Source> RecordReader<R> {
     /// A reader of the source's records, by that column table with what the options choose of type I.
     pub fn with(source: R, options: Options) -> RecordReader<R>
         ensures source { source_of result ≡ source }
+        // Where the bytes are known, and however reads cut them: the records before the first refused line are to come,
+        // and then that refusal or the end.
         ensures records { outcome R.remaining result
             ≡ option_map (records_of (layout_with options)) (R.remaining source) }
+        // Where the bytes are known, all lines that are refused are to come as refusals.
         ensures refusals { refusals_to_come R.remaining result
             ≡ option_map (refusals_of (layout_with options)) (R.remaining source) }
         ensures extent { extent R.remaining result ≡ extent_of 0 (R.remaining source) }
@@ -260,6 +266,7 @@ impl<R: Source> RecordReader<R> {
             (FailsWhole R.remaining self.old self.new (answer_with result place.new)) }
         ensures refusals { KeepsRefusals (refusals_to_come R.remaining self.old)
             (refusals_to_come R.remaining self.new) }
+        // Where no record is answered the place stays as it was.
         ensures kept { KeepsUnanswered result place.old place.new }
     {
         match self.standing {
@@ -289,6 +296,7 @@ impl<R: Source> RecordReader<R> {
             (R.failure_count (source_of self.new)) result }
         // Its source is the one that it was.
         ensures same_reference { R.reference (source_of self.new) ≡ R.reference (source_of self.old) }
+        // With `Device`, the lines that were accepted are those whose line feed was read.
         ensures whole_lines { WhereReading (standing_of self.old) (FailsWhole R.remaining self.old self.new result) }
         // No line that is refused is lost: the one at which it stops is still to come, and so are those behind it.
         ensures refusals { KeepsRefusals (refusals_to_come R.remaining self.old)

@@ -29,6 +29,7 @@ impl BoxTree {
     pub fn from_nodes(alloc: Global, nodes: &[TreeNode]) -> Result<BoxTree, TreeStop>
         requires whole { IsPreorder nodes.now }
         requires numbered { length nodes.now < 2 ^ 32 }
+        // The tree is the one that the nodes spell.
         ensures tree { IfOk result (λ tree. unboxed tree ≡ tree_of nodes.now) }
         ensures shallow { IfOk result (λ _. depth (tree_of nodes.now) ≤ 64) }
         ensures deep { IfErr result (λ stop. stop ≡ TooDeep → 64 < depth (tree_of nodes.now)) }

@@ -43,6 +43,7 @@ impl<'a> FlatTree<'a> {
     pub fn from_nodes(alloc: Global, nodes: &'a [TreeNode]) -> Result<FlatTree<'a>, TreeStop>
         requires whole { IsPreorder nodes.now }
         requires numbered { length nodes.now < 2 ^ 32 }
+        // The tree is the one that the nodes spell.
         ensures tree { IfOk result (λ tree. tree ≡ nodes.now) }
         ensures shallow { IfOk result (λ _. depth (tree_of nodes.now) ≤ 64) }
         ensures deep { IfErr result (λ stop. stop ≡ TooDeep → 64 < depth (tree_of nodes.now)) }

@@ -1,9 +1,13 @@
 //! Trees of rectangles over any items.
 //!
-//! An index finds two items that conflict, or shows by its answer that no two do; and it lists what a probe hits.
-//! Items and probes are traits with one law each: items that conflict have rectangles that meet, and an item that is
-//! hit has a rectangle that meets the probe's region. A tree that a stranger made is told exactly to fit the items, or
-//! why it doesn't.
+//! An index finds two items that conflict, or shows by its answer that no two do; and it lists what a probe hits. Items
+//! and probes are traits with one law each: items that conflict have rectangles that meet, and an item that is hit has
+//! a rectangle that meets the probe's region. A tree that a stranger made is checked against the items: the answer is
+//! exactly whether it fits them, and if not, why.
+//!
+//! [`PlainList::new`] and `first_conflict` of each index take no memory. Tests show, and no contract says, that items
+//! are asked whether they conflict only where their rectangles meet, and of no pair twice, and that subtrees that lie
+//! apart aren't searched against each other.
 #![tactic(auto)]
 
 mod box_tree;

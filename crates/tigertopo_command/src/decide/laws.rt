@@ -18,13 +18,14 @@ pub fn an_audit_is_exact()
         IsDoneWhereSound options known status }
 {}
 
-/// So it is where `check` answers, unless it tells a fault of the certificate, with the status 2.
+/// Where `check` answers, and with no fault of the certificate, which has the status 2, its status is 0 exactly where
+/// the map of the records keeps what is asked of it.
 pub fn a_check_is_exact()
     ensures { (options : Options) (budget : ℕ) (known spelt : Option (List ℕ)) (status : ℕ) (said : List ℕ) →
         CheckAnswers options budget known spelt status said → status ≢ 2 → IsDoneWhereSound options known status }
 {}
 
-/// And where `build` answers.
+/// Where `build` answers, its status is 0 exactly where the map of the records keeps what is asked of it.
 pub fn a_build_is_exact()
     ensures { (w : World) (options : Options) (known : Option (List ℕ)) (name : List ℕ) (status : ℕ) (said : List ℕ) →
         BuildAnswers w options known name status said → IsDoneWhereSound options known status }

@@ -67,7 +67,8 @@ pub fn a_polygon_counts_nothing_outside_of_its_box()
         IsOutsideOfBox (IsOnBoundary chains (is_polygon p)) q → IsPolygonCount chains q p n ↔ (n ≡ pos 0) }
 {}
 
-/// The same of any sides, as those of a landmark, and of any rectangle that holds their boundary.
+/// The count of any sides, as those of a landmark, is 0, and no other number, at each point outside of any rectangle
+/// that holds their boundary.
 pub fn sides_count_nothing_outside_of_a_rectangle()
     ensures { (chains : List MapChain) (r : Rect) (q : Point) (S : Side → Bool) (n : ℤ) → AreProper chains → HeadApart chains → SidesAgree chains →
         ((p : Point) → IsOnBoundary chains S p → Holds r p) → ¬ Holds r q → IsCount chains q S n ↔ (n ≡ pos 0) }

@@ -16,9 +16,14 @@ use tl_tree_index::Memory;
 /// Of a map in which a dart has an id it holds 24 bytes for each node until it answers, and `Memory` comes where those
 /// were refused. Of any other map it takes no memory.
 pub fn find_cells_at_odds(alloc: Global, map: &Map) -> Result<Option<CellsAtOdds>, Memory>
+    // `None` is answered only where cells agree: of any two darts that have ids, the ids are equal exactly where the
+    // darts start at one point.
     ensures agree { IfOk result (λ found. IsNone found → CellsAgree map.now.chains) }
+    // The first is below the second, both have ids, these, and either the ids are equal and the starts differ, or the
+    // starts are equal and the ids differ.
     ensures at_odds { IfOk result (λ found. IfSome found (λ odds.
         AreCellsAtOdds map.now.chains odds.first odds.second odds.first_id odds.second_id)) }
+    // Of a map in which no dart has an id the answer is `None`, and not that memory was refused.
     ensures no_cells { HaveNoCells map.now.chains → result ≡ Ok None }
 {
     if !has_cells(map) {

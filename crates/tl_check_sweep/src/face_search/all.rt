@@ -21,8 +21,10 @@ use tl_map_county::Map;
 /// in their order. There is none exactly where faces agree. The error is that memory was refused.
 pub fn find_all_face_faults(alloc: Global, map: &Map) -> Result<Vec<FaceFault>, AllocError>
     requires planar { IsPlanar map.now.chains }
+    // Each fault is true of the map.
     ensures true_ones { IfOk result (λ faults. All (IsTrueFaceFault map.now) faults.items) }
     ensures all { IfOk result (λ faults. AreOfAllGaps widest map.now faults.items) }
+    // There is none exactly where faces agree.
     ensures agree { IfOk result (λ faults. (faults.items ≡ []) ↔ FacesAgree map.now.chains) }
 {
     let SweepReport {
@@ -33,8 +35,9 @@ pub fn find_all_face_faults(alloc: Global, map: &Map) -> Result<Vec<FaceFault>, 
     all_face_faults(alloc, map, gaps)
 }
 
-/// The same where a sweep of the map has told of all gaps already. Where it told nothing of them, slabs are listed one by one, as
-/// [`gaps_by_slabs`] does. The error is that memory was refused.
+/// All faces of a map that disagree, as [`find_all_face_faults`] tells them, where a sweep of the map has told of all
+/// gaps already. Where it told nothing of them, slabs are listed one by one, as [`gaps_by_slabs`] does. The error is
+/// that memory was refused.
 pub fn all_face_faults(
     alloc: Global,
     map: &Map,

@@ -14,11 +14,13 @@ use std::alloc::{AllocError, Global};
 use tl_check_faces::{FaceFault, OddGap};
 use tl_map_county::Map;
 
-/// Faces of a map that disagree, where its chains are planar; `None` where all agree. Which is told of those that
-/// [`crate::face_search::find_all_face_faults`] tells is open. The error is that memory was refused.
+/// Faces of a map that disagree, where its chains are planar; `None` where all agree. Which one is found of those that
+/// [`crate::face_search::find_all_face_faults`] tells is left open. The error is that memory was refused.
 pub fn find_face_fault(alloc: Global, map: &Map) -> Result<Option<FaceFault>, AllocError>
     requires planar { IsPlanar map.now.chains }
+    // `None` is answered only where all faces agree.
     ensures agree { IfOk result (λ found. found ≡ None → FacesAgree map.now.chains) }
+    // A fault that is found is true of the map.
     ensures fault { IfOk result (λ found. (fault : FaceFault) → found ≡ Some fault → IsTrueFaceFault map.now fault) }
 {
     let SweepReport {
@@ -29,8 +31,9 @@ pub fn find_face_fault(alloc: Global, map: &Map) -> Result<Option<FaceFault>, Al
     face_fault_of(alloc, map, gaps)
 }
 
-/// The same where a sweep of the map has told of gaps already. Where it told nothing of them, slabs are listed one by one, as
-/// [`gaps_by_slabs`] does. The error is that memory was refused.
+/// Faces of a map that disagree, as [`find_face_fault`] finds them, where a sweep of the map has told of gaps already.
+/// Where it told nothing of them, slabs are listed one by one, as [`gaps_by_slabs`] does. The error is that memory was
+/// refused.
 pub fn face_fault_of(
     alloc: Global,
     map: &Map,

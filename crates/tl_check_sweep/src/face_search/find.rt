@@ -20,7 +20,9 @@ use tl_record_key::PolyKey;
 pub fn face_fault(map: &Map, gap: OddGap) -> FaceFault
     requires planar { IsPlanar map.now.chains }
     requires odd { IsLowestOddGap widest map.now.chains gap }
+    // What it says is true of the map.
     ensures true_one { IsTrueFaceFault map.now result }
+    // It is of that gap.
     ensures gap { IsOfGap widest map.now gap result }
 {
     look_at_points(map);
