@@ -32,11 +32,11 @@ use Rattle.tl_list_text.specs.declared.listing.Listing.TheVariants.{Sound, Refus
 use Rattle.tl_list_text.specs.Listings.{IsListingOf}
 use Rattle.tl_list.specs.Findings.{AreFindingsOf}
 use Rattle.tl_list.proofs.Listed.{sound_alone}
-use Rattle.tigertopo_fault_records.specs.SpokenOf.{chains_of}
-use Rattle.tigertopo_fault_records.specs.Keeping.{held}
-use Rattle.tigertopo_fault_lines.specs.declared.again.Spoken.{Spoken}
-use Rattle.tigertopo_fault_lines.specs.Again.{AreSpoken}
-use Rattle.tigertopo_fault_map.specs.Texts.{faults_text}
+use Rattle.tigertopo_faults.specs.Records.SpokenOf.{chains_of}
+use Rattle.tigertopo_faults.specs.Records.Keeping.{held}
+use Rattle.tigertopo_faults.specs.declared.lines.again.Spoken.{Spoken}
+use Rattle.tigertopo_faults.specs.Lines.Again.{AreSpoken}
+use Rattle.tigertopo_faults.specs.Geojson.Texts.{faults_text}
 use Rattle.tigertopo_outcome.specs.Records.{StopsNever}
 use Rattle.tigertopo_outcome.specs.declared.said.Answer.{Answer}
 use Rattle.tigertopo_lists.specs.declared.listed.Listed.{Listed}

@@ -9,7 +9,7 @@ use Rattle.tl_record.specs.declared.refusal.Refusal.{Refusal}
 use Rattle.tl_cert_output.specs.declared.stop.Stop.{Stop}
 use Rattle.tl_cert_output.specs.declared.stop.Stop.TheVariants.{Record, Memory}
 use Rattle.tl_list_text.specs.declared.listing.Listing.TheVariants as listing
-use Rattle.tigertopo_fault_lines.specs.declared.again.Spoken.{Spoken}
+use Rattle.tigertopo_faults.specs.declared.lines.again.Spoken.{Spoken}
 use Rattle.tigertopo_outcome.specs.declared.said.Answer.{Answer}
 use Rattle.tigertopo_lists.specs.declared.listed.Listed.{Listed}
 use Rattle.tigertopo_lists.specs.declared.listed.Listed.TheVariants.{Listing, Lines}

@@ -1,15 +1,15 @@
 //! The file of GeoJSON.
 
 ghost use Rattle.std.specs.Prelude.{[], map, option_map, option_copied, string_bytes};
-ghost use Rattle.tigertopo_fault_map.specs.Texts.{faults_text};
+ghost use Rattle.tigertopo_faults.specs.Geojson.Texts.{faults_text};
 ghost use Rattle.tigertopo_files.specs.World.{Does, Made, MayMake, world};
 ghost use Rattle.tigertopo_files.specs.declared.beginning.FileKind.TheVariants.{Collection};
-ghost use Rattle.tigertopo_fault_records.specs.Keeping.{held};
+ghost use Rattle.tigertopo_faults.specs.Records.Keeping.{held};
 ghost use Rattle.tigertopo_outcome.specs.Records.{StopsNever};
 
 use std::alloc::Global;
-use tigertopo_fault_lines::Spoken;
-use tigertopo_fault_map::FaultsText;
+use tigertopo_faults::geojson::FaultsText;
+use tigertopo_faults::lines::Spoken;
 use tigertopo_files::{FileKind, FileSystem, make_file};
 use tl_cert_output::Stop;
 use tl_check_verdict::MapFault;

@@ -2,7 +2,7 @@
 //! or as a file of GeoJSON.
 //!
 //! [`list`] reads a county's files, lists all that is wrong (`tl_list`), reads the files again for the records that
-//! faults speak of where these are asked for (`tigertopo_fault_lines`), makes the file (`tigertopo_fault_map`), and answers what was found.
+//! faults speak of where these are asked for (`tigertopo_faults::lines`), makes the file (`tigertopo_faults::geojson`), and answers what was found.
 //!
 //! Where one fault is asked for a refused line is a stop. Where all are asked for, all refused lines are answered, or
 //! so many from the front, and no file is made. Beside a file that failed, a device is said to have failed only where

@@ -18,7 +18,7 @@ use crate::prepared::prepare;
 use crate::speaking::{featured, speak_of};
 use std::alloc::Global;
 use std::hash::RandomState;
-use tigertopo_fault_lines::Spoken;
+use tigertopo_faults::lines::Spoken;
 use tigertopo_files::FileSystem;
 use tigertopo_outcome::reading::over_records;
 use tigertopo_outcome::said::Answer;

@@ -1,15 +1,15 @@
 //! What is printed of faults, put together before anything is made or told.
 
 ghost use Rattle.std.specs.Prelude.{◌≡◌, IfOk, map, option_copied, string_bytes};
-ghost use Rattle.tigertopo_fault_records.specs.SpokenOf.{chains_of};
+ghost use Rattle.tigertopo_faults.specs.Records.SpokenOf.{chains_of};
 ghost use Rattle.tl_list_text.specs.Texts.{lines};
 ghost use Rattle.tl_check_verdict.specs.Messages.{map_fault_text};
-ghost use Rattle.tigertopo_fault_lines.specs.Texts.{chosen};
+ghost use Rattle.tigertopo_faults.specs.Lines.Texts.{chosen};
 ghost use Rattle.tigertopo_words.specs.declared.budget.Told.TheVariants.{One};
 ghost use Rattle.tigertopo_lists.specs.Keeping.{IsPrepared};
 
 use std::alloc::{AllocError, Global};
-use tigertopo_fault_lines::{Spoken, placed_text};
+use tigertopo_faults::lines::{Spoken, placed_text};
 use tigertopo_words::Told;
 use tl_check_verdict::MapFault;
 use tl_list_text::fault_line;

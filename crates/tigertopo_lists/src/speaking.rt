@@ -2,17 +2,17 @@
 
 ghost use Rattle.std.specs.Prelude.{◌≡◌, true, IfOk, IfErr, map, option_copied, string_bytes};
 ghost use Rattle.tl_record.specs.Layout.{layout_with};
-ghost use Rattle.tigertopo_fault_records.specs.SpokenOf.{chains_of};
+ghost use Rattle.tigertopo_faults.specs.Records.SpokenOf.{chains_of};
 ghost use Rattle.tl_cert_output.specs.Stops.{StopsFor};
 ghost use Rattle.tigertopo_files.specs.Log.{LogsAgain};
 ghost use Rattle.tigertopo_files.specs.World.{world};
 ghost use Rattle.tigertopo_where.specs.Hint.Again.{FailsAgain};
-ghost use Rattle.tigertopo_fault_lines.specs.Again.{AreSpoken};
+ghost use Rattle.tigertopo_faults.specs.Lines.Again.{AreSpoken};
 ghost use Rattle.tigertopo_lists.specs.Listed.{featured};
 
 use std::alloc::Global;
 use std::hash::RandomState;
-use tigertopo_fault_lines::{Spoken, read_again};
+use tigertopo_faults::lines::{Spoken, read_again};
 use tigertopo_files::FileSystem;
 use tigertopo_words::Told;
 use tl_cert_output::Stop;

@@ -1,7 +1,7 @@
 use Rattle.std.proofs.Common.{map, string_bytes}
 use Rattle.std.specs.Prelude.{option_copied}
-use Rattle.tigertopo_fault_records.specs.Keeping.{held}
-use Rattle.tigertopo_fault_map.specs.Texts.{faults_text}
+use Rattle.tigertopo_faults.specs.Records.Keeping.{held}
+use Rattle.tigertopo_faults.specs.Geojson.Texts.{faults_text}
 use Rattle.tigertopo_files.proofs.WorldLemmas.{does_make}
 use Rattle.tigertopo_outcome.specs.Records.{StopsNever}
 use Rattle.tigertopo_lists.proofs.collection.make_collection.Goals as goal

@@ -3,15 +3,15 @@ use Rattle.std.specs.Prelude.{option_copied, option_map}
 use Rattle.tl_record.specs.Layout.{layout_with}
 use Rattle.tl_map_county.specs.TheMap.{TheMap}
 use Rattle.tl_check_verdict.specs.declared.fault.MapFault.{MapFault}
-use Rattle.tigertopo_fault_records.specs.SpokenOf.{chains_of}
-use Rattle.tigertopo_fault_records.specs.Keeping.{held}
+use Rattle.tigertopo_faults.specs.Records.SpokenOf.{chains_of}
+use Rattle.tigertopo_faults.specs.Records.Keeping.{held}
 use Rattle.tl_cert_output.specs.declared.stop.Stop.TheVariants.{Memory}
 use Rattle.tigertopo_files.specs.World.{Made, MayMake, world}
 use Rattle.tigertopo_files.specs.declared.beginning.FileKind.TheVariants.{Collection}
 use Rattle.tigertopo_files.proofs.WorldLemmas.{does_fail, does_answer}
-use Rattle.tigertopo_fault_lines.specs.declared.again.Spoken.{Spoken}
-use Rattle.tigertopo_fault_lines.specs.Again.{AreSpoken}
-use Rattle.tigertopo_fault_map.specs.Texts.{faults_text}
+use Rattle.tigertopo_faults.specs.declared.lines.again.Spoken.{Spoken}
+use Rattle.tigertopo_faults.specs.Lines.Again.{AreSpoken}
+use Rattle.tigertopo_faults.specs.Geojson.Texts.{faults_text}
 use Rattle.tigertopo_lists.specs.Listed.{featured, wanted_of}
 use Rattle.tigertopo_lists.specs.Keeping.{IsPrepared}
 use Rattle.tigertopo_lists.proofs.ListLemmas.{does_not, does_not_read_again, made_behind, answer_text, answer_status}

@@ -1,7 +1,0 @@
-use Rattle.tigertopo_fault_map.specs.Records.{records_text}
-use Rattle.tl_cert_output.proofs.PrinterLemmas.{both}
-use Rattle.tigertopo_fault_map.proofs.record.print_records.Goals as goal
-
-pub returns : goal.returns
-unfolding records_text
-returns g c = both (both c.add.ensures c.print_both.ensures) c.add-2.ensures

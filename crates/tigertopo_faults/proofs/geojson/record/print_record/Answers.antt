@@ -1,0 +1,9 @@
+use Rattle.std.proofs.Common.{refl}
+use Rattle.tigertopo_faults.specs.Geojson.Records.{record_text}
+use Rattle.tl_cert_output.proofs.PrinterLemmas.{both, as_text}
+use Rattle.tigertopo_faults.proofs.geojson.record.print_record.Goals as goal
+
+pub returns : goal.returns
+unfolding record_text
+returns g c =
+    as_text (both (both (both (both c.add.ensures c.print_line.ensures) c.add-2.ensures) c.add-3.ensures) c.add-4.ensures) (rw c.type_of.ensures refl)

@@ -1,0 +1,66 @@
+-- Faults as one FeatureCollection.
+use Rattle.std.specs.Prelude.{ℕ, Bool, ◌==◌, List, [], ◌++◌, Option, None, Some, option_to_list, codes, decimal, length, slice_get, if◌then◌else◌}
+use Rattle.std.specs.Option.{option_map_or}
+use Rattle.std.specs.List.{flat_map, list_any}
+use Rattle.tl_map_county.specs.declared.polygons.Polygon.{Polygon}
+use Rattle.tl_map_county.specs.TheMap.{TheMap, MapChain}
+use Rattle.tl_check_verdict.specs.declared.fault.MapFault.{MapFault}
+use Rattle.tigertopo_faults.specs.declared.records.line.RecordLine.{RecordLine}
+use Rattle.tigertopo_faults.specs.declared.records.subject.Subject.{Subject}
+use Rattle.tigertopo_faults.specs.Records.SpokenOf.{chains_of}
+use Rattle.tigertopo_faults.specs.Lines.Texts.{fault_place}
+use Rattle.tigertopo_geojson.specs.Strings.{string_text, key_string}
+use Rattle.tigertopo_geojson.specs.Features.{separated, features_below, chain_text, collection_opening, collection_closing}
+use Rattle.tigertopo_faults.specs.Geojson.Named.{listed, tlids_of, keys_of, land_of}
+use Rattle.tigertopo_faults.specs.Geojson.Words.{told_text, first_word, behind_word}
+use Rattle.tigertopo_faults.specs.Geojson.Places.{geometry_text, exact_text}
+use Rattle.tigertopo_faults.specs.Geojson.Records.{spoken_lines, records_text}
+
+-- the code, the name and the text of a fault
+unfoldable pub words_text : List ℕ → List ℕ
+words_text told =
+    codes "\"code\":" ++ string_text (first_word told) ++ codes ",\"name\":" ++ string_text (first_word (behind_word told))
+    ++ codes ",\"fault\":" ++ string_text told
+
+-- the TLIDs, the keys and the LAND that a fault names
+unfoldable pub names_text : List MapChain → MapFault → List ℕ
+names_text chains fault =
+    codes ",\"tlids\":[" ++ separated decimal (listed (tlids_of chains fault))
+    ++ codes "],\"polygons\":[" ++ separated key_string (listed (keys_of fault))
+    ++ codes "],\"landmarks\":[" ++ separated decimal (option_to_list (land_of fault)) ++ codes "]"
+
+-- a fault: the point where it lies, its words, what it names and the records that it speaks of
+unfoldable pub fault_text : List (List ℕ) → List ℕ → List MapChain → (Subject → List RecordLine) → MapFault → List ℕ
+fault_text names counts chains about fault =
+    codes "{\"type\":\"Feature\",\"geometry\":" ++ geometry_text (fault_place chains about fault)
+    ++ codes ",\"properties\":{" ++ words_text (told_text fault)
+    ++ codes ",\"at\":" ++ exact_text (fault_place chains about fault)
+    ++ names_text chains fault ++ records_text names counts (spoken_lines chains about fault) ++ codes "}}"
+
+-- the fault with this number
+abbrev pub fault_feature : List (List ℕ) → List ℕ → List MapChain → (Subject → List RecordLine) → List MapFault → ℕ → List ℕ
+fault_feature names counts chains about faults n = option_map_or (fault_text names counts chains about) (slice_get faults n) []
+
+-- the TLIDs that faults name
+abbrev pub named_tlids : List MapChain → List MapFault → List ℕ
+named_tlids chains faults = flat_map (λ fault. listed (tlids_of chains fault)) faults
+
+-- is a TLID one of these
+abbrev pub is_among : ℕ → List ℕ → Bool
+is_among tlid tlids = list_any (λ t. t == tlid) tlids
+
+-- a chain behind another feature, where its TLID is one of these
+abbrev pub named_chain : List Polygon → List ℕ → MapChain → List ℕ
+named_chain polygons tlids chain =
+    if is_among chain.tlid tlids then codes ",\n" ++ chain_text polygons chain.tlid chain.points chain.left chain.right else []
+
+-- the chains of a map that have these TLIDs, by rising number
+abbrev pub chains_text : Option TheMap → List ℕ → List ℕ
+chains_text None tlids = []
+chains_text (Some m) tlids = flat_map (named_chain m.polygons tlids) m.chains
+
+-- all faults, and behind them the chains that they name; where there is no fault, there is no such chain
+unfoldable pub faults_text : List (List ℕ) → List ℕ → Option TheMap → (Subject → List RecordLine) → List MapFault → List ℕ
+faults_text names counts drawn about faults =
+    collection_opening ++ features_below 0 (fault_feature names counts (chains_of drawn) about faults) (length faults)
+    ++ chains_text drawn (named_tlids (chains_of drawn) faults) ++ collection_closing

@@ -1,0 +1,16 @@
+//! The records that faults speak of, with the lines where they stand.
+//!
+//! [`subjects_of`] says what a fault speaks of: the records of a TLID and of some types, of a polygon's key, of a LAND. A
+//! county's text is read a second time for them, once for all faults: [`record_lines`] gives the [`RecordLines`] that hold
+//! each such record with its line's number. Of the text nothing is kept but what the faults speak of.
+
+mod line;
+mod lines;
+mod read;
+mod subject;
+mod wanted;
+
+pub use line::RecordLine;
+pub use lines::RecordLines;
+pub use read::record_lines;
+pub use subject::{Subject, Subjects, subjects_of, tlid_of};
