@@ -7,6 +7,7 @@ ghost use Rattle.tl_check_planar.specs.Planar.{IsPlanar};
 ghost use Rattle.tl_check_planar.specs.declared.meet.Meet.{Meet};
 ghost use Rattle.tl_check_planar.specs.Searching.{IsTrueMeet};
 ghost use Rattle.tl_check_inside.specs.Placed.{ArePlaced};
+ghost use Rattle.tl_check_inside.specs.Suspects.{AreSuspects};
 ghost use Rattle.tl_check_planar.specs.ByHeight.Heights.{widest};
 ghost use Rattle.tl_check_faces.specs.Facing.{FacesAgree};
 ghost use Rattle.tl_check_faces.specs.Odd.{IsLowestOddGap};
@@ -84,10 +85,10 @@ fn decide(alloc: Global, map: &Map, asked: bool) -> Result<Built, Stop>
 {
     let SweepReport {
         swept,
-        suspects: _suspects,
+        suspects,
         gaps,
     } = sweep(alloc, map, Gaps::First)?;
-    decide_by(alloc, map, asked, swept, gaps)
+    decide_by(alloc, map, asked, swept, &suspects, gaps)
 }
 
 /// The same by what the sweep says.
@@ -96,16 +97,18 @@ fn decide_by(
     map: &Map,
     asked: bool,
     swept: Swept,
+    suspects: &[u32],
     gaps: Option<Vec<OddGap>>,
 ) -> Result<Built, Stop>
     requires placed { swept ≡ Swept.Placed → IsPlanar map.now.chains × ArePlaced map.now }
     requires planar { swept ≡ Swept.Planar → IsPlanar map.now.chains }
     requires meet { (meet : Meet) → swept ≡ Swept.Meet meet → IsTrueMeet map.now.chains meet }
+    requires suspects { AreSuspects map.now suspects.now }
     requires odd { IfSome gaps (λ found. All (IsLowestOddGap widest map.now.chains) found.items) }
     requires agree { IfSome gaps (λ found. found.items ≡ [] → FacesAgree map.now.chains) }
     ensures { BuildsFor asked map.now result }
 {
-    match build_swept(alloc, map, swept)? {
+    match build_swept(alloc, map, swept, suspects)? {
         Built::Cert(cert) => ask_for_faces(alloc, map, asked, cert, gaps),
         Built::Fault(fault) => Ok(Built::Fault(fault)),
     }
@@ -133,15 +136,16 @@ fn ask_for_faces(
 
 /// Makes a certificate or names a fault without faces, of a map of which a sweep has said this, and where it says nothing of the
 /// map by a search.
-fn build_swept(alloc: Global, map: &Map, swept: Swept) -> Result<Built, Stop>
+fn build_swept(alloc: Global, map: &Map, swept: Swept, suspects: &[u32]) -> Result<Built, Stop>
     requires placed { swept ≡ Swept.Placed → IsPlanar map.now.chains × ArePlaced map.now }
     requires planar { swept ≡ Swept.Planar → IsPlanar map.now.chains }
     requires meet { (meet : Meet) → swept ≡ Swept.Meet meet → IsTrueMeet map.now.chains meet }
+    requires suspects { AreSuspects map.now suspects.now }
     ensures { Builds map.now result }
 {
     match swept {
-        Swept::Placed => build_planar(alloc, map, true),
-        Swept::Planar => build_planar(alloc, map, false),
+        Swept::Placed => build_planar(alloc, map, suspects),
+        Swept::Planar => build_planar(alloc, map, suspects),
         Swept::Meet(meet) => Ok(Built::Fault(MapFault::Meet(meet))),
         Swept::Unknown => build_by_search(alloc, map),
     }

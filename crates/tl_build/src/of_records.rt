@@ -8,6 +8,7 @@ ghost use Rattle.tl_check_planar.specs.Planar.{IsPlanar};
 ghost use Rattle.tl_check_planar.specs.declared.meet.Meet.{Meet};
 ghost use Rattle.tl_check_planar.specs.Searching.{IsTrueMeet};
 ghost use Rattle.tl_check_inside.specs.Placed.{ArePlaced};
+ghost use Rattle.tl_check_inside.specs.Suspects.{AreSuspects};
 ghost use Rattle.tl_check_planar.specs.ByHeight.Heights.{widest};
 ghost use Rattle.tl_check_faces.specs.Facing.{FacesAgree};
 ghost use Rattle.tl_check_faces.specs.Odd.{IsLowestOddGap};
@@ -108,10 +109,10 @@ pub fn decide(alloc: Global, map: &Map, asked: bool) -> Result<Audit, Stop>
 {
     let SweepReport {
         swept,
-        suspects: _suspects,
+        suspects,
         gaps,
     } = sweep(alloc, map, Gaps::First)?;
-    decide_by(alloc, map, asked, swept, gaps)
+    decide_by(alloc, map, asked, swept, &suspects, gaps)
 }
 
 /// The same by what the sweep says.
@@ -120,16 +121,18 @@ fn decide_by(
     map: &Map,
     asked: bool,
     swept: Swept,
+    suspects: &[u32],
     gaps: Option<Vec<OddGap>>,
 ) -> Result<Audit, Stop>
     requires placed { swept ≡ Swept.Placed → IsPlanar map.now.chains × ArePlaced map.now }
     requires planar { swept ≡ Swept.Planar → IsPlanar map.now.chains }
     requires meet { (meet : Meet) → swept ≡ Swept.Meet meet → IsTrueMeet map.now.chains meet }
+    requires suspects { AreSuspects map.now suspects.now }
     requires odd { IfSome gaps (λ found. All (IsLowestOddGap widest map.now.chains) found.items) }
     requires agree { IfSome gaps (λ found. found.items ≡ [] → FacesAgree map.now.chains) }
     ensures { AuditsFor asked map.now result }
 {
-    match decide_swept(alloc, map, swept)? {
+    match decide_swept(alloc, map, swept, suspects)? {
         Audit::Sound(report) => ask_for_faces(alloc, map, asked, report, gaps),
         Audit::Fault(fault) => Ok(Audit::Fault(fault)),
     }

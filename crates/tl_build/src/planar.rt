@@ -1,14 +1,17 @@
 //! The decision of maps whose chains are planar, with no certificate given.
 
-ghost use Rattle.std.specs.Prelude.{◌<◌, ◌^◌, length, IfOk, IsTrue, MatchOption, false};
+ghost use Rattle.std.specs.Prelude.{◌<◌, ◌^◌, length, IfOk, MatchOption, false};
+ghost use Rattle.tl_tree_index.specs.Preorder.{IsPreorder};
 ghost use Rattle.tl_check_planar.specs.Planar.{IsPlanar};
 ghost use Rattle.tl_check_sides.specs.Sides.{SidesAgree};
 ghost use Rattle.tl_check_sides.specs.Walks.{AreWalks};
 ghost use Rattle.tl_check_inside.specs.Placed.{ArePlaced};
+ghost use Rattle.tl_check_inside.specs.Suspects.{AreSuspects};
 ghost use Rattle.tl_check_sides.specs.Cells.Cells.{CellsAgree};
 ghost use Rattle.tl_check_faces.specs.Crossings.Headings.{AreProper};
 ghost use Rattle.tl_check_verdict.specs.Sound.{IsSound};
 ghost use Rattle.tl_check_verdict.specs.Truth.{IsTrueOfMap};
+ghost use Rattle.tl_check_verdict.specs.Valid.{IsTree};
 ghost use Rattle.tl_build.specs.Keeping.Deciding.{Audits, Builds};
 ghost use Rattle.tl_build_propose.specs.Keeping.Lists.{lists_in};
 ghost use Rattle.tl_build_propose.specs.Keeping.Proposed.{IsProposal};
@@ -23,17 +26,18 @@ use tl_cert_output::Stop;
 use tl_check_sides::cells::find_cells_at_odds;
 use tl_check_verdict::{MapFault, report};
 use tl_map_county::Map;
-use tl_tree_index::Memory;
+use tl_tree_index::{Memory, TreeNode};
 
-/// Decides whether a map is sound whose chains are planar, and whose polygons' points may be known to be placed.
-pub fn audit_planar(alloc: Global, map: &Map, placed: bool) -> Result<Audit, Stop>
+/// Decides whether a map is sound whose chains are planar, where the points of all polygons but the suspects are known to
+/// lie where they have to.
+pub fn audit_planar(alloc: Global, map: &Map, suspects: &[u32]) -> Result<Audit, Stop>
     requires planar { IsPlanar map.now.chains }
-    requires placed { IsTrue placed → ArePlaced map.now }
+    requires suspects { AreSuspects map.now suspects.now }
     ensures { Audits map.now result }
 {
     map.has_proper_chains();
     let walks = propose_walks(alloc, map)?;
-    match find_fault(alloc, map, &walks, placed)? {
+    match find_fault(alloc, map, &walks, suspects)? {
         None => Ok(Audit::Sound(report(map, walks.len() as u32))),
         Some(fault) => Ok(Audit::Fault(fault)),
     }
@@ -44,24 +48,17 @@ fn find_fault(
     alloc: Global,
     map: &Map,
     walks: &[Vec<u32>],
-    placed: bool,
+    suspects: &[u32],
 ) -> Result<Option<MapFault>, Memory>
     requires planar { IsPlanar map.now.chains }
     requires proper { AreProper map.now.chains }
     requires walks { AreWalks map.now.chains (lists_in walks.now) }
-    requires few { length walks.now < 2 ^ 32 }
-    requires placed { IsTrue placed → ArePlaced map.now }
+    requires suspects { AreSuspects map.now suspects.now }
     ensures { IfOk result (λ found. MatchOption found (IsSound map.now) (IsTrueOfMap false map.now)) }
 {
     match find_at_odds(alloc, map, walks)? {
         Some(fault) => Ok(Some(fault)),
-        None => {
-            if placed {
-                Ok(None)
-            } else {
-                find_misplaced_beside(alloc, map, walks)
-            }
-        }
+        None => look_at_suspects(alloc, map, suspects),
     }
 }
 
@@ -78,16 +75,16 @@ fn find_at_odds(alloc: Global, map: &Map, walks: &[Vec<u32>]) -> Result<Option<M
     }
 }
 
-/// Makes a certificate of a map whose chains are planar, and whose polygons' points may be known to be placed, or names a
-/// fault of it.
-pub fn build_planar(alloc: Global, map: &Map, placed: bool) -> Result<Built, Stop>
+/// Makes a certificate of a map whose chains are planar, where the points of all polygons but the suspects are known
+/// to lie where they have to, or names a fault of it.
+pub fn build_planar(alloc: Global, map: &Map, suspects: &[u32]) -> Result<Built, Stop>
     requires planar { IsPlanar map.now.chains }
-    requires placed { IsTrue placed → ArePlaced map.now }
+    requires suspects { AreSuspects map.now suspects.now }
     ensures { Builds map.now result }
 {
     map.has_proper_chains();
     let cert = propose(alloc, map)?;
-    match find_fault_beside(alloc, map, &cert, placed)? {
+    match find_fault_beside(alloc, map, &cert, suspects)? {
         None => Ok(Built::Cert(cert)),
         Some(fault) => Ok(Built::Fault(fault)),
     }
@@ -98,22 +95,46 @@ fn find_fault_beside(
     alloc: Global,
     map: &Map,
     cert: &Certificate,
-    placed: bool,
+    suspects: &[u32],
 ) -> Result<Option<MapFault>, Memory>
     requires planar { IsPlanar map.now.chains }
     requires proper { AreProper map.now.chains }
     requires proposed { IsProposal map.now cert.now }
-    requires placed { IsTrue placed → ArePlaced map.now }
+    requires suspects { AreSuspects map.now suspects.now }
     ensures { IfOk result (λ found. MatchOption found (IsSound map.now) (IsTrueOfMap false map.now)) }
 {
     match find_at_odds(alloc, map, cert.walks())? {
         Some(fault) => Ok(Some(fault)),
-        None => {
-            if placed {
-                Ok(None)
-            } else {
-                find_misplaced_by(alloc, map, cert.tree(), cert.walks())
-            }
-        }
+        None => look_at_suspects_by(alloc, map, cert.tree(), suspects),
     }
+}
+
+/// A suspect whose point doesn't lie where it has to, if there is one. Where there are no suspects nothing is looked at.
+fn look_at_suspects(alloc: Global, map: &Map, suspects: &[u32]) -> Result<Option<MapFault>, Memory>
+    requires suspects { AreSuspects map.now suspects.now }
+    ensures { IfOk result (λ found. MatchOption found (ArePlaced map.now) (IsTrueOfMap false map.now)) }
+{
+    if suspects.is_empty() {
+        return Ok(None);
+    }
+    find_misplaced_beside(alloc, map, suspects)
+}
+
+/// The same by a tree of the map's segments.
+fn look_at_suspects_by(
+    alloc: Global,
+    map: &Map,
+    nodes: &[TreeNode],
+    suspects: &[u32],
+) -> Result<Option<MapFault>, Memory>
+    requires whole { IsPreorder nodes.now }
+    requires numbered { length nodes.now < 2 ^ 32 }
+    requires tree { IsTree map.now nodes.now }
+    requires suspects { AreSuspects map.now suspects.now }
+    ensures { IfOk result (λ found. MatchOption found (ArePlaced map.now) (IsTrueOfMap false map.now)) }
+{
+    if suspects.is_empty() {
+        return Ok(None);
+    }
+    find_misplaced_by(alloc, map, nodes, suspects)
 }

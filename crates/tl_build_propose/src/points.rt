@@ -1,4 +1,4 @@
-//! The points of polygons, by the rings of a map.
+//! The points of polygons, by the rings of a map or along their rays.
 
 ghost use Rattle.std.specs.Prelude.{◌≡◌, ◌⊎◌, ℕ, ◌<◌, ◌^◌, Some, length, slice_get, All, Contains, IfOk, MatchOption, false};
 ghost use Rattle.tl_map_county.specs.Segments.{segments_before};
@@ -8,6 +8,7 @@ ghost use Rattle.tl_check_planar.specs.Rectangles.{segment_rect};
 ghost use Rattle.tl_check_sides.specs.Sides.{SidesAgree};
 ghost use Rattle.tl_check_sides.specs.Walks.{AreWalks};
 ghost use Rattle.tl_check_inside.specs.Placed.{ArePlaced, IsPlacedIn};
+ghost use Rattle.tl_check_inside.specs.Suspects.{AreSuspects};
 ghost use Rattle.tl_check_points.specs.Rings.{AreBoxed};
 ghost use Rattle.tl_check_verdict.specs.Truth.{IsTrueOfMap};
 ghost use Rattle.tl_check_verdict.specs.Valid.{IsTree};
@@ -15,66 +16,40 @@ ghost use Rattle.tl_build_propose.specs.Keeping.Lists.{lists_in};
 
 use crate::proposal::propose_tree;
 use std::alloc::Global;
-use tl_check_points::{Rings, find_misplaced, list_suspects};
+use tl_check_points::{Rings, find_among_suspects, list_suspects};
 use tl_check_verdict::MapFault;
 use tl_map_county::Map;
 use tl_tree::FlatTree;
 use tl_tree_index::{BoxIndex, Memory, TreeNode, TreeStop};
 
-/// A polygon whose point doesn't lie where it has to, if there is one, by the walks of a map and a tree that is made of its
-/// segments.
+/// A polygon whose point doesn't lie where it has to, if there is one, where the points of all polygons but these are known to, by a
+/// tree that is made of the map's segments.
 pub fn find_misplaced_beside(
     alloc: Global,
     map: &Map,
-    walks: &[Vec<u32>],
+    suspects: &[u32],
 ) -> Result<Option<MapFault>, Memory>
-    requires sides { SidesAgree map.now.chains }
-    requires walks { AreWalks map.now.chains (lists_in walks.now) }
-    requires few { length walks.now < 2 ^ 32 }
+    requires suspects { AreSuspects map.now suspects.now }
     ensures { IfOk result (λ found. MatchOption found (ArePlaced map.now) (IsTrueOfMap false map.now)) }
 {
     match propose_tree(alloc, map) {
-        Ok(nodes) => find_misplaced_by(alloc, map, &nodes, walks),
+        Ok(nodes) => find_misplaced_by(alloc, map, &nodes, suspects),
         Err(_) => Err(Memory),
     }
 }
 
-/// A polygon whose point doesn't lie where it has to, if there is one, by the walks of a map and a tree of its
-/// segments.
+/// A polygon whose point doesn't lie where it has to, if there is one, where the points of all polygons but these are known to, by a
+/// tree of the map's segments.
 pub fn find_misplaced_by(
     alloc: Global,
     map: &Map,
     nodes: &[TreeNode],
-    walks: &[Vec<u32>],
+    suspects: &[u32],
 ) -> Result<Option<MapFault>, Memory>
     requires whole { IsPreorder nodes.now }
     requires numbered { length nodes.now < 2 ^ 32 }
     requires tree { IsTree map.now nodes.now }
-    requires sides { SidesAgree map.now.chains }
-    requires walks { AreWalks map.now.chains (lists_in walks.now) }
-    requires few { length walks.now < 2 ^ 32 }
-    ensures { IfOk result (λ found. MatchOption found (ArePlaced map.now) (IsTrueOfMap false map.now)) }
-{
-    match rings_of(alloc, map, walks) {
-        Ok(rings) => find_misplaced_among(alloc, map, nodes, &rings),
-        Err(_) => Err(Memory),
-    }
-}
-
-/// The same by the map's rings.
-fn find_misplaced_among(
-    alloc: Global,
-    map: &Map,
-    nodes: &[TreeNode],
-    rings: &Rings,
-) -> Result<Option<MapFault>, Memory>
-    requires whole { IsPreorder nodes.now }
-    requires numbered { length nodes.now < 2 ^ 32 }
-    requires tree { IsTree map.now nodes.now }
-    requires sides { SidesAgree map.now.chains }
-    requires walks { AreWalks map.now.chains rings.now.rings }
-    requires boxed { AreBoxed map.now.chains rings.now }
-    requires few { length rings.now.rings < 2 ^ 32 }
+    requires suspects { AreSuspects map.now suspects.now }
     ensures { IfOk result (λ found. MatchOption found (ArePlaced map.now) (IsTrueOfMap false map.now)) }
 {
     let tree = match FlatTree::from_nodes(alloc, nodes) {
@@ -82,7 +57,7 @@ fn find_misplaced_among(
         Err(TreeStop::Memory) => return Err(Memory),
         Err(TreeStop::TooDeep) => unreachable!(),
     };
-    match find_misplaced(alloc, map, &tree, rings) {
+    match find_among_suspects(alloc, map, &tree, suspects) {
         Ok(Some(fault)) => Ok(Some(MapFault::PolygonPoint(fault))),
         Ok(None) => Ok(None),
         Err(_) => Err(Memory),

@@ -2,5 +2,6 @@
 pub mod Inside
 pub mod Places
 pub mod Placed
+pub mod Suspects
 pub mod Alone
 pub mod Keeping

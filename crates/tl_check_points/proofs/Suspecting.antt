@@ -10,6 +10,7 @@ use Rattle.tl_check_inside.specs.declared.strips.Site.{Site}
 use Rattle.tl_check_inside.specs.Placed.{IsPlacedIn, ArePlaced}
 use Rattle.tl_check_inside.specs.Keeping.Strips.{IsPlacedSite, numbers}
 use Rattle.tl_check_inside.proofs.Stripping.{one_more}
+use Rattle.tl_check_inside.specs.Suspects.{AreSuspects}
 use Rattle.tl_check_points.specs.Keeping.Looking.{IsPlacedPolygon, IsPlacedOrIn}
 
 -- the first k of these polygons are placed or listed
@@ -54,8 +55,8 @@ listed_or_placed m suspects all p polygon is = elim (all p (slice_get_within m.p
 ]
 
 -- where those that are listed are placed, all are
-pub all_placed : (m : TheMap) (suspects : List ℕ) (sites : List Site) → ((p : ℕ) → p < length m.polygons → IsPlacedOrIn m suspects p) → numbers sites ≡ suspects → All (IsPlacedSite m) sites → ArePlaced m
-all_placed m suspects sites others are all p polygon is = elim (others p (slice_get_within m.polygons p polygon is)) [
+pub all_placed : (m : TheMap) (suspects : List ℕ) (sites : List Site) → AreSuspects m suspects → numbers sites ≡ suspects → All (IsPlacedSite m) sites → ArePlaced m
+all_placed m suspects sites known are all p polygon is = elim (known.others p polygon is) [
   | inl listed ↦
       let c = subst (λ ns. Contains ns p) (sym are) listed in
       let k : ℕ = c.0 in
@@ -63,5 +64,5 @@ all_placed m suspects sites others are all p polygon is = elim (others p (slice_
       let d : Site = record { polygon = p; point = polygon.point } in
       let at : (get_or sites k d).polygon ≡ p = sym (get_or-map (λ (s : Site). s.polygon) sites k d p lt) ∙ c.2 in
       subst (IsPlacedIn m polygon.point) at (all k d lt polygon (ap (λ i. slice_get m.polygons i) at ∙ is))
-  | inr placed ↦ placed polygon is
+  | inr placed ↦ placed
 ]

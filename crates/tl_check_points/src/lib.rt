@@ -18,6 +18,6 @@ mod sites;
 mod spot;
 mod suspects;
 
-pub use misplaced::find_misplaced;
+pub use misplaced::{find_among_suspects, find_misplaced};
 pub use rings::Rings;
 pub use suspects::list_suspects;

@@ -1,13 +1,13 @@
 //! Polygons' points that don't lie where they have to.
 
-ghost use Rattle.std.specs.Prelude.{◌≡◌, ℕ, ◌<◌, ◌^◌, length, All, IfOk, MatchOption};
+ghost use Rattle.std.specs.Prelude.{◌<◌, ◌^◌, length, IfOk, MatchOption};
 ghost use Rattle.tl_map_county.specs.Segments.{segments_before};
 ghost use Rattle.tl_check_planar.specs.Rectangles.{segment_rect};
 ghost use Rattle.tl_check_sides.specs.Sides.{SidesAgree};
 ghost use Rattle.tl_check_sides.specs.Walks.{AreWalks};
 ghost use Rattle.tl_check_inside.specs.Placed.{ArePlaced, IsTrueMisplaced};
+ghost use Rattle.tl_check_inside.specs.Suspects.{AreSuspects};
 ghost use Rattle.tl_check_points.specs.Rings.{AreBoxed};
-ghost use Rattle.tl_check_points.specs.Keeping.Looking.{IsPlacedOrIn};
 
 use crate::points::{Wrong, look_at_points};
 use crate::rings::Rings;
@@ -38,22 +38,24 @@ pub fn find_misplaced<X: BoxIndex>(
 {
     let mut suspects = Vec::new(alloc);
     match look_at_points(alloc, map, index, rings, Wrong::First, &mut suspects) {
-        Ok(None) => find_in_rays(alloc, map, index, &suspects),
+        Ok(None) => find_among_suspects(alloc, map, index, &suspects),
         Ok(Some(found)) => Ok(Some(found)),
         Err(refused) => Err(refused),
     }
 }
 
-/// The same by the rays of these polygons' points, where the points of all others lie where they have to.
-fn find_in_rays<X: BoxIndex>(
+/// Looks for such a polygon among these along the rays of their points, where the points of all others are known to lie where they
+/// have to. Nothing is asked of sides.
+pub fn find_among_suspects<X: BoxIndex>(
     alloc: Global,
     map: &Map,
     index: &X,
     suspects: &[u32],
 ) -> Result<Option<Misplaced>, Memory>
     requires fits { X.fits index.now (segments_before map.now.chains (length map.now.chains)) (segment_rect map.now.chains) }
-    requires known { All (λ p. p < length map.now.polygons) suspects.now }
-    requires others { (p : ℕ) → p < length map.now.polygons → IsPlacedOrIn map.now suspects.now p }
+    requires suspects { AreSuspects map.now suspects.now }
+    // `None` is answered only where the point of each polygon is on no chain, inside its own polygon and clear of every
+    // other; what is found is true.
     ensures { IfOk result (λ found. MatchOption found (ArePlaced map.now) (IsTrueMisplaced map.now)) }
 {
     let mut sites = sites_of(alloc, map, suspects)?;

@@ -14,7 +14,7 @@ use Rattle.tl_check_inside.specs.Placed.{ArePlaced, IsTrueMisplaced}
 use Rattle.tl_check_meets.specs.Meets.{AreAllMeets}
 use Rattle.tl_list_map.specs.Nodes.Disagreements.{AreAllDisagreements}
 use Rattle.tl_list_map.specs.Points.AllMisplaced.{FaultPlace, IsTrueAt, AreAllMisplaced}
-use Rattle.tl_list_map.specs.Points.Suspects.{AreSuspects}
+use Rattle.tl_check_inside.specs.Suspects.{AreSuspects}
 use Rattle.tl_check_verdict.specs.declared.fault.MapFault.{MapFault}
 use Rattle.tl_check_verdict.specs.declared.fault.MapFault.TheVariants as fault
 use Rattle.tl_list_text.specs.MapFaults.{side_fault, ArePointsTold, AreMapFaults}

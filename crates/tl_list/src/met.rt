@@ -7,7 +7,7 @@ ghost use Rattle.tl_check_sides.specs.Sides.{SidesAgree};
 ghost use Rattle.tl_check_sides.specs.Walks.{AreWalks};
 ghost use Rattle.tl_build_propose.specs.Keeping.Lists.{lists_in};
 ghost use Rattle.tl_check_meets.specs.Meets.{AreAllMeets};
-ghost use Rattle.tl_list_map.specs.Points.Suspects.{AreSuspects};
+ghost use Rattle.tl_check_inside.specs.Suspects.{AreSuspects};
 ghost use Rattle.tl_list.specs.Keeping.OfMap.{IsListingOfMap, AddsPoints, AddsRest};
 
 use crate::parts::{push_disagreements, push_misplaced};

@@ -7,7 +7,7 @@ ghost use Rattle.tl_check_planar.specs.Rectangles.{segment_rect};
 ghost use Rattle.tl_check_inside.specs.Placed.{ArePlaced};
 ghost use Rattle.tl_check_planar.specs.ByHeight.Heights.{widest};
 ghost use Rattle.tl_check_sweep.specs.Gaps.{AreAllOddGaps};
-ghost use Rattle.tl_list_map.specs.Points.Suspects.{AreSuspects};
+ghost use Rattle.tl_check_inside.specs.Suspects.{AreSuspects};
 ghost use Rattle.tl_check_verdict.specs.Sound.{IsSound};
 ghost use Rattle.tl_check_verdict.specs.Verdicts.{IsReport};
 ghost use Rattle.tl_list.specs.Keeping.OfMap.{IsListingOfMap, IsListingFor};

@@ -3,7 +3,7 @@
 ghost use Rattle.std.specs.Prelude.{false, IfOk, OnOk, length};
 ghost use Rattle.tl_map_county.specs.Segments.{segments_before};
 ghost use Rattle.tl_check_planar.specs.Rectangles.{segment_rect};
-ghost use Rattle.tl_list_map.specs.Points.Suspects.{AreSuspects};
+ghost use Rattle.tl_check_inside.specs.Suspects.{AreSuspects};
 ghost use Rattle.tl_list.specs.Keeping.OfMap.{AddsAgreement, AddsCells, AddsPoints};
 
 use crate::tell::{push_cells, push_points, push_sides};

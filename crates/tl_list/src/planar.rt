@@ -2,7 +2,7 @@
 
 ghost use Rattle.std.specs.Prelude.{◌≡◌, [], false, IfOk, OnOk, MatchOption};
 ghost use Rattle.tl_check_planar.specs.Planar.{IsPlanar};
-ghost use Rattle.tl_list_map.specs.Points.Suspects.{AreSuspects};
+ghost use Rattle.tl_check_inside.specs.Suspects.{AreSuspects};
 ghost use Rattle.tl_list.specs.Keeping.OfMap.{IsListingOfMap, IsFaulty, HasRings, AddsPoints};
 
 use crate::parts::{push_all_cells, push_disagreements, push_misplaced};

@@ -1,3 +1,2 @@
 pub mod AllMisplaced
-pub mod Suspects
 pub mod Keeping

@@ -11,7 +11,7 @@ use Rattle.tl_map_county.specs.TheMap.{TheMap}
 use Rattle.tl_check_inside.specs.declared.misplaced.Misplaced.{Misplaced}
 use Rattle.tl_check_inside.specs.declared.misplaced.Misplaced.TheVariants.{OnChain, Outside, InOther}
 use Rattle.tl_list_map.specs.Points.AllMisplaced.{FaultPlace, IsTrueAt, AreAllMisplaced}
-use Rattle.tl_list_map.specs.Points.Suspects.{AreSuspects}
+use Rattle.tl_check_inside.specs.Suspects.{AreSuspects}
 use Rattle.tl_list_map.specs.Points.Keeping.Parts.{AreFaultsIn, HasPart, IsBefore, IsOfPolygon, IsOfAny}
 use Rattle.tl_list_map.proofs.Points.Joining.{joined}
 use Rattle.tl_list_map.proofs.Points.Wholes.{all_of}

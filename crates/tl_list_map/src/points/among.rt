@@ -4,7 +4,7 @@ ghost use Rattle.std.specs.Prelude.{length, IfOk};
 ghost use Rattle.tl_map_county.specs.Segments.{segments_before};
 ghost use Rattle.tl_check_planar.specs.Rectangles.{segment_rect};
 ghost use Rattle.tl_list_map.specs.Points.AllMisplaced.{AreAllMisplaced};
-ghost use Rattle.tl_list_map.specs.Points.Suspects.{AreSuspects};
+ghost use Rattle.tl_check_inside.specs.Suspects.{AreSuspects};
 
 use crate::points::listed::sort_once;
 use crate::points::misplaced::list_at;
