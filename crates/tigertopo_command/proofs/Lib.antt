@@ -1,3 +1,3 @@
 -- Lemmas on commands.
 pub mod CommandLemmas
-pub mod Decide
+pub mod DecideLemmas

@@ -1,3 +1,3 @@
-pub mod Records
-pub mod Lines
-pub mod Geojson
+pub mod RecordsLemmas
+pub mod LinesLemmas
+pub mod GeojsonLemmas

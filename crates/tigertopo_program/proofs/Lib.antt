@@ -1,4 +1,4 @@
 -- Lemmas on the program.
 pub mod WholeLemmas
-pub mod Export
-pub mod Draw
+pub mod ExportLemmas
+pub mod DrawLemmas

@@ -2,4 +2,4 @@ pub mod PlaceLemmas
 pub mod FindingLemmas
 pub mod ShownLemmas
 pub mod DegreeLemmas
-pub mod Hint
+pub mod HintLemmas

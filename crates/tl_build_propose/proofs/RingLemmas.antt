@@ -16,7 +16,7 @@ use Rattle.tl_check_sides.proofs.Boundaries.{back_again}
 use Rattle.tl_check_sides.proofs.FollowFacts.{reverse_starts}
 use Rattle.tl_check_sides.proofs.ListLemmas.{IsIn, list_of, before_stands, two_before}
 use Rattle.tl_check_faces.specs.Crossings.Headings.{AreProper}
-use Rattle.tl_check_faces.proofs.Crossings.Rounds.{below, once_at, one_list, next_in_round}
+use Rattle.tl_check_faces.proofs.CrossingsLemmas.Rounds.{below, once_at, one_list, next_in_round}
 use Rattle.tl_build_propose.specs.Keeping.Lists.{lists_in}
 use Rattle.tl_build_propose.specs.Keeping.Following.{IsOneToOne, IsLinkedIn, GoesBy}
 

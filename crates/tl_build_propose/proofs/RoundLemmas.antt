@@ -16,7 +16,7 @@ use Rattle.tl_check_sides.specs.Rounds.{AreRounds, HasOneNode, AreRising, round_
 use Rattle.tl_check_sides.proofs.ListLemmas.{one_place}
 use Rattle.tl_check_sides.proofs.NodeFacts.{starts_first}
 use Rattle.tl_check_faces.specs.Crossings.Headings.{HeadApart}
-use Rattle.tl_check_faces.proofs.Crossings.Rounds.{once_at}
+use Rattle.tl_check_faces.proofs.CrossingsLemmas.Rounds.{once_at}
 use Rattle.tl_check_sides.specs.declared.headed.HeadedDart.{HeadedDart}
 use Rattle.tl_build_propose.specs.Keeping.Lists.{darts_in}
 use Rattle.tl_build_propose.specs.Keeping.Sorting.{AreCut, IsGroup, IsStartOf, node_of}

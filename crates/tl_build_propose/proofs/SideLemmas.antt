@@ -14,7 +14,7 @@ use Rattle.tl_check_sides.proofs.Boundaries.{back_again}
 use Rattle.tl_check_sides.proofs.Headings.{dart_within}
 use Rattle.tl_check_sides.proofs.ListLemmas.{IsIn, list_of}
 use Rattle.tl_check_faces.specs.Crossings.Headings.{HeadApart}
-use Rattle.tl_check_faces.proofs.Crossings.Nexts.{one_next}
+use Rattle.tl_check_faces.proofs.CrossingsLemmas.Nexts.{one_next}
 use Rattle.tl_check_verdict.specs.Truth.{AreAtOdds}
 use Rattle.tl_build_propose.specs.Keeping.Lists.{lists_in}
 use Rattle.tl_build_propose.specs.Keeping.Siding.{HasOneLeft}

@@ -13,7 +13,7 @@ use Rattle.tl_check_planar.specs.Planar.{IsPlanar}
 use Rattle.tl_check_sides.specs.Sides.{SidesAgree}
 use Rattle.tl_check_inside.specs.Inside.{is_polygon}
 use Rattle.tl_check_faces.specs.Crossings.Headings.{AreProper, HeadApart}
-use Rattle.tl_check_faces.proofs.Crossings.Apart.{apart}
+use Rattle.tl_check_faces.proofs.CrossingsLemmas.Apart.{apart}
 use Rattle.tl_check_faces.specs.Facing.{IsOff, IsStrictlyBetween, FacesAgree}
 use Rattle.tl_check_faces.specs.Clear.{IsClearAlong}
 use Rattle.tl_check_faces.specs.Truth.{LiesAt, AreSidesTrue, AreFacesTrue}

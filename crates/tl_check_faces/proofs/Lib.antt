@@ -42,4 +42,4 @@ pub mod ToFaces
 pub mod Contradicts
 pub mod FromTruth
 pub mod Rewritten
-pub mod Crossings
+pub mod CrossingsLemmas

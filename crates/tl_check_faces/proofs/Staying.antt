@@ -19,11 +19,11 @@ use Rattle.tl_check_planar.proofs.Numbering.{HaveSameEnds, same_ends}
 use Rattle.tl_check_sides.specs.Sides.{SidesAgree}
 use Rattle.tl_check_inside.specs.Inside.{flanks_at, balance}
 use Rattle.tl_check_faces.specs.Crossings.Headings.{AreProper, HeadApart}
-use Rattle.tl_check_faces.proofs.Crossings.Telescoping.{bit}
-use Rattle.tl_check_faces.proofs.Crossings.Located.{IsLocated, located}
-use Rattle.tl_check_faces.proofs.Crossings.Listing.{all_hits}
-use Rattle.tl_check_faces.proofs.Crossings.Signed.{is_either, all_add, balance_by}
-use Rattle.tl_check_faces.proofs.Crossings.Gaining.{AreAllGaining, no_gain}
+use Rattle.tl_check_faces.proofs.CrossingsLemmas.Telescoping.{bit}
+use Rattle.tl_check_faces.proofs.CrossingsLemmas.Located.{IsLocated, located}
+use Rattle.tl_check_faces.proofs.CrossingsLemmas.Listing.{all_hits}
+use Rattle.tl_check_faces.proofs.CrossingsLemmas.Signed.{is_either, all_add, balance_by}
+use Rattle.tl_check_faces.proofs.CrossingsLemmas.Gaining.{AreAllGaining, no_gain}
 use Rattle.tl_check_faces.specs.Rays.{IsCrossedAt, AreCrossedAt, IsCountAt}
 use Rattle.tl_check_faces.specs.Clear.{IsClearAlong}
 use Rattle.tl_check_faces.proofs.Crossing.{IsEast, east_of_crossed, crossed_of_east}

@@ -12,8 +12,8 @@ use Rattle.tl_geom.proofs.Polynomials.{num, ◌⊗◌, same}
 use Rattle.tl_geom.proofs.Signs.{cancel_lt}
 use Rattle.tl_check_planar.specs.ByHeight.Heights.{turn_at}
 use Rattle.tl_check_planar.proofs.ByHeight.Lying.{turned}
-use Rattle.tl_check_faces.proofs.Crossings.Telescoping.{bit, int_lt-true, int_lt-false, lt_of, le_of}
-use Rattle.tl_check_faces.proofs.Crossings.Signed.{adds}
+use Rattle.tl_check_faces.proofs.CrossingsLemmas.Telescoping.{bit, int_lt-true, int_lt-false, lt_of, le_of}
+use Rattle.tl_check_faces.proofs.CrossingsLemmas.Signed.{adds}
 use Rattle.tl_check_faces.specs.Facing.{step_y}
 use Rattle.tl_check_faces.proofs.Numbers.{le_lt, lt_le}
 use Rattle.tl_check_faces.proofs.Crossing.{IsEastUp}

@@ -13,8 +13,8 @@ use Rattle.tl_map_county.specs.Darts.{chain_of, is_along, dart_left}
 use Rattle.tl_check_inside.specs.declared.flanks.Flanks.{Flanks}
 use Rattle.tl_check_inside.specs.Inside.{balance, total}
 use Rattle.tl_check_faces.specs.Crossings.Rings.{goes_up_across, crossing, crossings, dart_crossings, has_left}
-use Rattle.tl_check_faces.proofs.Crossings.Across.{adds_one, takes_one, adds_nothing}
-use Rattle.tl_check_faces.proofs.Crossings.Steps.{crossings_more, crossings_few, total_more}
+use Rattle.tl_check_faces.proofs.CrossingsLemmas.Across.{adds_one, takes_one, adds_nothing}
+use Rattle.tl_check_faces.proofs.CrossingsLemmas.Steps.{crossings_more, crossings_few, total_more}
 use Rattle.tl_check_points.specs.Keeping.Looking.{AddCounts, on_side, left_count}
 
 -- nothing is appended

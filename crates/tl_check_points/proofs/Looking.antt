@@ -21,8 +21,8 @@ use Rattle.tl_check_faces.specs.Crossings.Headings.{AreProper}
 use Rattle.tl_map_county.specs.declared.sides.Side.TheVariants.{Outside}
 use Rattle.tl_map_county.specs.Darts.{dart_left}
 use Rattle.tl_check_faces.specs.Crossings.Rings.{winding, rings_count, ring_count as of_ring}
-use Rattle.tl_check_faces.proofs.Crossings.OneLeft.{counts_whole}
-use Rattle.tl_check_faces.proofs.Crossings.RingCounts.{hits_count}
+use Rattle.tl_check_faces.proofs.CrossingsLemmas.OneLeft.{counts_whole}
+use Rattle.tl_check_faces.proofs.CrossingsLemmas.RingCounts.{hits_count}
 use Rattle.tl_check_points.specs.Rings.{TheRings, AreBoxed, box_at}
 use Rattle.tl_check_points.specs.Keeping.Spots.{ring_count, IsBoxAt}
 use Rattle.tl_check_points.specs.Keeping.Looking.{AddCounts, IsPlacedPolygon}

@@ -4,7 +4,7 @@ use Rattle.std.specs.Prelude.{int_lt}
 use Rattle.std.specs.Ordering.{int_cmp, is_gt}
 use Rattle.std.proofs.lemmas.Int.{ints, by_lt_z}
 use Rattle.tl_geom.proofs.Conditions.{gt_test}
-use Rattle.tl_check_faces.proofs.Crossings.Telescoping.{int_lt-true, int_lt-false}
+use Rattle.tl_check_faces.proofs.CrossingsLemmas.Telescoping.{int_lt-true, int_lt-false}
 
 pub left_where_greater : (t : ℤ) (o : Ordering) (r : Bool) → o ≡ int_cmp t (pos 0) → r ≡ is_gt o → r ≡ int_lt (pos 0) t
 left_where_greater t o r is told =

@@ -15,4 +15,4 @@ pub mod WalkFacts
 pub mod Boundaries
 pub mod Lasting
 pub mod Lent
-pub mod Cells
+pub mod CellsLemmas

@@ -9,7 +9,7 @@ use Rattle.tl_check_sides.specs.Cells.Cells.{CellsAgree, AreCellsAtOdds}
 use Rattle.tl_check_meets.specs.Meets.{AreAllMeets}
 use Rattle.tl_list_map.specs.Nodes.Disagreements.{AreAllDisagreements}
 use Rattle.tl_list_map.specs.Nodes.CellOdds.{AreAllCellsAtOdds}
-use Rattle.tl_list_map.proofs.Nodes.Emptiness.{cells_agree}
+use Rattle.tl_list_map.proofs.NodesLemmas.Emptiness.{cells_agree}
 use Rattle.tl_list_map.specs.Points.AllMisplaced.{AreAllMisplaced}
 use Rattle.tl_check_verdict.specs.declared.fault.MapFault.{MapFault}
 use Rattle.tl_check_verdict.specs.declared.fault.MapFault.TheVariants as fault

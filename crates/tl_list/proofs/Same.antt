@@ -17,12 +17,12 @@ use Rattle.tl_check_planar.specs.declared.meet.Meet.{Meet}
 use Rattle.tl_check_planar.specs.Searching.{IsTrueMeet}
 use Rattle.tl_check_sides.specs.declared.fault.Disagreement.{Disagreement}
 use Rattle.tl_check_sides.specs.declared.cells.at_odds.CellsAtOdds.{CellsAtOdds}
-use Rattle.tl_check_sides.proofs.Cells.Cells.{one_id}
+use Rattle.tl_check_sides.proofs.CellsLemmas.Cells.{one_id}
 use Rattle.tl_check_inside.specs.declared.misplaced.Misplaced.{Misplaced}
 use Rattle.tl_check_meets.specs.Meets.{AreAllMeets}
 use Rattle.tl_list_map.specs.Nodes.Disagreements.{HaveSidesAtOdds, AreAllDisagreements}
 use Rattle.tl_list_map.specs.Nodes.CellOdds.{AreToldAtOdds, AreAllCellsAtOdds}
-use Rattle.tl_list_map.proofs.Nodes.Agreeing.{at_odds}
+use Rattle.tl_list_map.proofs.NodesLemmas.Agreeing.{at_odds}
 use Rattle.tl_list_map.specs.Points.AllMisplaced.{AreAllMisplaced}
 use Rattle.tl_check_verdict.specs.declared.fault.MapFault.{MapFault}
 use Rattle.tl_check_verdict.specs.declared.fault.MapFault.TheVariants as fault

@@ -9,7 +9,7 @@ use Rattle.tl_check_sides.specs.declared.fault.Disagreement.{Disagreement}
 use Rattle.tl_check_inside.specs.declared.misplaced.Misplaced.{Misplaced}
 use Rattle.tl_check_sides.specs.declared.cells.at_odds.CellsAtOdds.{CellsAtOdds}
 use Rattle.tl_list_map.specs.Nodes.CellOdds.{AreAllCellsAtOdds}
-use Rattle.tl_list_map.proofs.Nodes.Emptiness.{cells_agree}
+use Rattle.tl_list_map.proofs.NodesLemmas.Emptiness.{cells_agree}
 use Rattle.tl_check_verdict.specs.declared.fault.MapFault.{MapFault}
 use Rattle.tl_check_verdict.specs.declared.fault.MapFault.TheVariants as fault
 use Rattle.tl_check_verdict.specs.Truth.{IsTrueOfMap}

@@ -10,7 +10,7 @@ use Rattle.tl_check_sides.specs.declared.fault.Disagreement.{Disagreement}
 use Rattle.tl_check_inside.specs.declared.misplaced.Misplaced.{Misplaced}
 use Rattle.tl_check_inside.specs.Placed.{IsTrueMisplaced}
 use Rattle.tl_list_map.specs.Nodes.Disagreements.{HaveSidesAtOdds}
-use Rattle.tl_list_map.proofs.Nodes.Agreeing.{at_odds}
+use Rattle.tl_list_map.proofs.NodesLemmas.Agreeing.{at_odds}
 use Rattle.tl_check_verdict.specs.declared.fault.MapFault.{MapFault}
 use Rattle.tl_check_verdict.specs.declared.fault.MapFault.TheVariants as fault
 use Rattle.tl_check_verdict.specs.Truth.{IsTrueOfMap}

@@ -1,2 +1,2 @@
-pub mod Nodes
-pub mod Points
+pub mod NodesLemmas
+pub mod PointsLemmas

@@ -16,4 +16,4 @@ pub mod PointLemmas
 pub mod LimitLemmas
 pub mod PartLemmas
 pub mod OneListLemmas
-pub mod Refusals
+pub mod RefusalsLemmas

@@ -1,7 +1,7 @@
 use Rattle.std.proofs.Common.{refl, subst}
 use Rattle.std.specs.Option.{IfSome, IsNone}
 use Rattle.tl_check_sides.specs.Cells.Cells.{CellsAgree, AreCellsAtOdds}
-use Rattle.tl_check_faces.proofs.Crossings.Apart.{apart}
+use Rattle.tl_check_faces.proofs.CrossingsLemmas.Apart.{apart}
 use Rattle.tl_build.proofs.Decided.{both_agree}
 use Rattle.tl_build.proofs.planar.find_at_odds.Goals as goal
 

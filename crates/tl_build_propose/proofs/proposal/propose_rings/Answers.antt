@@ -1,6 +1,6 @@
 use Rattle.std.proofs.Common.{sym, subst}
 use Rattle.std.proofs.lemmas.Result.{err_from_is_err_and}
-use Rattle.tl_check_faces.proofs.Crossings.Apart.{apart}
+use Rattle.tl_check_faces.proofs.CrossingsLemmas.Apart.{apart}
 use Rattle.tl_build_propose.specs.Keeping.Sorting.{AreStarts}
 use Rattle.tl_build_propose.proofs.proposal.propose_rings.Goals as goal
 

@@ -1,4 +1,4 @@
-use Rattle.tl_check_faces.proofs.Crossings.Apart.{apart}
+use Rattle.tl_check_faces.proofs.CrossingsLemmas.Apart.{apart}
 use Rattle.tl_list.proofs.planar.count_rings.Goals as goal
 
 pub find_sides_at_odds-requires-clause-apart : goal.find_sides_at_odds-requires-clause-apart

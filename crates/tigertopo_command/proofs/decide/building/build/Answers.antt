@@ -8,7 +8,7 @@ use Rattle.tigertopo_outcome.specs.Answers.{IsReadMap, IsSaid}
 use Rattle.tigertopo_files.specs.Reading.{text_under}
 use Rattle.tigertopo_outcome.specs.Records.{StopsRecords}
 use Rattle.tigertopo_command.specs.Decide.Building.{BuildAnswers}
-use Rattle.tigertopo_command.proofs.Decide.BuildLemmas.{build_of_fault, build_of_read}
+use Rattle.tigertopo_command.proofs.DecideLemmas.BuildLemmas.{build_of_fault, build_of_read}
 use Rattle.tigertopo_command.proofs.decide.building.build.Goals as goal
 
 pub returns-in_err-map : goal.returns-in_err-map

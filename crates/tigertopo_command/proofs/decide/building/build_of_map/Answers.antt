@@ -1,7 +1,7 @@
 use Rattle.std.proofs.Common.{string_bytes}
 use Rattle.tigertopo_command.specs.Decide.Building.{IsBuildOf}
 use Rattle.tigertopo_files.specs.World.{world}
-use Rattle.tigertopo_command.proofs.Decide.BuildLemmas.{build_faulty, build_stopped}
+use Rattle.tigertopo_command.proofs.DecideLemmas.BuildLemmas.{build_faulty, build_stopped}
 use Rattle.tigertopo_command.proofs.decide.building.build_of_map.Goals as goal
 
 pub keep-requires-clause-sound : goal.keep-requires-clause-sound

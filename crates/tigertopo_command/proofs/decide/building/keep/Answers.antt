@@ -5,7 +5,7 @@ use Rattle.tigertopo_files.specs.World.{world}
 use Rattle.tigertopo_files.proofs.WorldLemmas.{does_make, does_fail, does_answer}
 use Rattle.tigertopo_outcome.specs.Records.{StopsNever}
 use Rattle.tigertopo_command.specs.Decide.Building.{IsBuildOf}
-use Rattle.tigertopo_command.proofs.Decide.BuildLemmas.{is_built}
+use Rattle.tigertopo_command.proofs.DecideLemmas.BuildLemmas.{is_built}
 use Rattle.tigertopo_command.proofs.decide.building.keep.Goals as goal
 
 pub returns-in_err-make_file : goal.returns-in_err-make_file

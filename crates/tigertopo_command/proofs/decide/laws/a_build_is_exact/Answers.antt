@@ -1,4 +1,4 @@
-use Rattle.tigertopo_command.proofs.Decide.LawLemmas.{build_is_exact}
+use Rattle.tigertopo_command.proofs.DecideLemmas.LawLemmas.{build_is_exact}
 use Rattle.tigertopo_command.proofs.decide.laws.a_build_is_exact.Goals as goal
 
 pub returns : goal.returns

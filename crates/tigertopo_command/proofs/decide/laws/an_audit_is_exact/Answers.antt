@@ -1,4 +1,4 @@
-use Rattle.tigertopo_command.proofs.Decide.LawLemmas.{audit_is_exact}
+use Rattle.tigertopo_command.proofs.DecideLemmas.LawLemmas.{audit_is_exact}
 use Rattle.tigertopo_command.proofs.decide.laws.an_audit_is_exact.Goals as goal
 
 pub returns : goal.returns

@@ -1,4 +1,4 @@
-use Rattle.tigertopo_command.proofs.Decide.LawLemmas.{built_is_valid}
+use Rattle.tigertopo_command.proofs.DecideLemmas.LawLemmas.{built_is_valid}
 use Rattle.tigertopo_command.proofs.decide.laws.what_was_built_is_valid.Goals as goal
 
 pub returns : goal.returns

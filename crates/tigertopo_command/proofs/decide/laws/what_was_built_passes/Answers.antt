@@ -1,4 +1,4 @@
-use Rattle.tigertopo_command.proofs.Decide.LawLemmas.{passes, not_stopped}
+use Rattle.tigertopo_command.proofs.DecideLemmas.LawLemmas.{passes, not_stopped}
 use Rattle.tigertopo_command.proofs.decide.laws.what_was_built_passes.Goals as goal
 
 pub returns-clause-status : goal.returns-clause-status

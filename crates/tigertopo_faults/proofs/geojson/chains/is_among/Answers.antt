@@ -1,4 +1,4 @@
-use Rattle.tigertopo_faults.proofs.Geojson.ChainLemmas.{among_found}
+use Rattle.tigertopo_faults.proofs.GeojsonLemmas.ChainLemmas.{among_found}
 use Rattle.tigertopo_faults.proofs.geojson.chains.is_among.Goals as goal
 
 pub returns : goal.returns

@@ -1,6 +1,6 @@
 use Rattle.std.proofs.Common.{arith}
 use Rattle.tl_cert_output.proofs.PrinterLemmas.{both, as_text}
-use Rattle.tigertopo_faults.proofs.Geojson.ChainLemmas.{named_next}
+use Rattle.tigertopo_faults.proofs.GeojsonLemmas.ChainLemmas.{named_next}
 use Rattle.tigertopo_faults.proofs.geojson.chains.print_chains_of.Goals as goal
 
 pub loop-number-preserved : goal.loop-number-preserved

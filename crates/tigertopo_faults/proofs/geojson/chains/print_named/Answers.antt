@@ -1,6 +1,6 @@
 use Rattle.std.proofs.Common.{sym, ◌∙◌}
 use Rattle.tl_cert_output.proofs.PrinterLemmas.{both, as_text}
-use Rattle.tigertopo_faults.proofs.Geojson.ChainLemmas.{named_is}
+use Rattle.tigertopo_faults.proofs.GeojsonLemmas.ChainLemmas.{named_is}
 use Rattle.tigertopo_faults.proofs.geojson.chains.print_named.Goals as goal
 
 pub returns-then-is_among : goal.returns-then-is_among

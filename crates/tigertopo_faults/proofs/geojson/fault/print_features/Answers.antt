@@ -5,7 +5,7 @@ use Rattle.tigertopo_faults.specs.Records.Keeping.{held}
 use Rattle.tl_cert_output.proofs.PrinterLemmas.{both, as_text}
 use Rattle.tigertopo_geojson.proofs.FeatureLemmas.{one_feature_more}
 use Rattle.tigertopo_faults.specs.Geojson.Texts.{fault_text, fault_feature}
-use Rattle.tigertopo_faults.proofs.Geojson.ListLemmas.{text_at}
+use Rattle.tigertopo_faults.proofs.GeojsonLemmas.ListLemmas.{text_at}
 use Rattle.tigertopo_faults.proofs.geojson.fault.print_features.Goals as goal
 
 pub loop-number-preserved : goal.loop-number-preserved

@@ -1,6 +1,6 @@
 use Rattle.tigertopo_geojson.specs.Strings.{key_string}
 use Rattle.tl_cert_output.proofs.PrinterLemmas.{both, as_text}
-use Rattle.tigertopo_faults.proofs.Geojson.ListLemmas.{two_separated}
+use Rattle.tigertopo_faults.proofs.GeojsonLemmas.ListLemmas.{two_separated}
 use Rattle.tigertopo_faults.proofs.geojson.fault.print_keys.Goals as goal
 
 pub returns-in-Some-Some : goal.returns-in-Some-Some

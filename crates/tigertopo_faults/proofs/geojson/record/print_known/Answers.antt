@@ -2,7 +2,7 @@ use Rattle.std.proofs.Common.{◌≡◌, refl, map, None, slice_get, string_byte
 use Rattle.std.proofs.lemmas.Option.{slice_get-map, slice_get_past}
 use Rattle.std.specs.Prelude.{option_map}
 use Rattle.tl_cert_output.proofs.PrinterLemmas.{both, as_text}
-use Rattle.tigertopo_faults.proofs.Geojson.ListLemmas.{mapped_at}
+use Rattle.tigertopo_faults.proofs.GeojsonLemmas.ListLemmas.{mapped_at}
 use Rattle.tigertopo_faults.proofs.geojson.record.print_known.Goals as goal
 
 pub returns-then-place-names : goal.returns-then-place-names

@@ -1,7 +1,7 @@
 use Rattle.std.proofs.Common.{map, string_bytes}
 use Rattle.tl_cert_output.proofs.PrinterLemmas.{both, as_text}
 use Rattle.tigertopo_faults.specs.Geojson.Records.{record_text}
-use Rattle.tigertopo_faults.proofs.Geojson.ListLemmas.{more_next}
+use Rattle.tigertopo_faults.proofs.GeojsonLemmas.ListLemmas.{more_next}
 use Rattle.tigertopo_faults.proofs.geojson.record.print_more.Goals as goal
 
 pub loop-line-preserved : goal.loop-line-preserved

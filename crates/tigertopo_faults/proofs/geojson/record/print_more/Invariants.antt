@@ -2,7 +2,7 @@ use Rattle.std.proofs.Common.{take, map, string_bytes}
 use Rattle.std.specs.List.{flat_map}
 use Rattle.tl_cert_output.specs.Printing.{Prints}
 use Rattle.tigertopo_faults.specs.Geojson.Records.{record_text}
-use Rattle.tigertopo_faults.proofs.Geojson.ListLemmas.{behind_comma}
+use Rattle.tigertopo_faults.proofs.GeojsonLemmas.ListLemmas.{behind_comma}
 use Rattle.tigertopo_faults.proofs.geojson.record.print_more.Given as goal
 
 abbrev pub invariant-loop-line : goal.invariant-loop-line

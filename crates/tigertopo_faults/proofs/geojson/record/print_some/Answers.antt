@@ -2,7 +2,7 @@ use Rattle.std.proofs.Common.{◌<◌, length, map, string_bytes, arith}
 use Rattle.std.proofs.lemmas.Bool.Decides.{nat_tests}
 use Rattle.tl_cert_output.proofs.PrinterLemmas.{both, as_text}
 use Rattle.tigertopo_faults.specs.Geojson.Records.{record_text}
-use Rattle.tigertopo_faults.proofs.Geojson.ListLemmas.{separated_parts}
+use Rattle.tigertopo_faults.proofs.GeojsonLemmas.ListLemmas.{separated_parts}
 use Rattle.tigertopo_faults.proofs.geojson.record.print_some.Goals as goal
 
 pub returns-then-not-is_empty : goal.returns-then-not-is_empty

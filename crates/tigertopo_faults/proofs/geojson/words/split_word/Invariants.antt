@@ -1,4 +1,4 @@
-use Rattle.tigertopo_faults.proofs.Geojson.WordLemmas.{IsOneWord}
+use Rattle.tigertopo_faults.proofs.GeojsonLemmas.WordLemmas.{IsOneWord}
 use Rattle.tigertopo_faults.proofs.geojson.words.split_word.Given as goal
 
 abbrev pub invariant-loop-place : goal.invariant-loop-place

@@ -5,7 +5,7 @@ use Rattle.tl_record.specs.Records.{records_of}
 use Rattle.tigertopo_files.specs.World.{world}
 use Rattle.tigertopo_faults.specs.Records.SpokenOf.{chains_of}
 use Rattle.tigertopo_faults.specs.Records.Finding.{HoldsAll}
-use Rattle.tigertopo_faults.proofs.Lines.AgainLemmas.{found_in, stops_in}
+use Rattle.tigertopo_faults.proofs.LinesLemmas.AgainLemmas.{found_in, stops_in}
 use Rattle.tigertopo_faults.proofs.lines.again.lines_again.Goals as goal
 
 pub returns-clause-found : goal.returns-clause-found

@@ -1,6 +1,6 @@
 use Rattle.std.proofs.Common.{◌∙◌}
 use Rattle.tl_record.specs.Reader.{standing_of}
-use Rattle.tigertopo_faults.proofs.Records.ReadingLemmas.{kept_more, none_failed}
+use Rattle.tigertopo_faults.proofs.RecordsLemmas.ReadingLemmas.{kept_more, none_failed}
 use Rattle.tigertopo_faults.proofs.records.read.read_into.Goals as goal
 
 pub records-preserved : goal.records-preserved

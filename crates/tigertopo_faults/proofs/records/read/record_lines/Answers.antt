@@ -1,7 +1,7 @@
 use Rattle.std.specs.Prelude.{option_copied}
 use Rattle.tl_record.specs.Layout.{layout_with}
 use Rattle.tigertopo_faults.specs.Records.SpokenOf.{chains_of}
-use Rattle.tigertopo_faults.proofs.Records.ReadingLemmas.{then_all}
+use Rattle.tigertopo_faults.proofs.RecordsLemmas.ReadingLemmas.{then_all}
 use Rattle.tigertopo_faults.proofs.records.read.record_lines.Goals as goal
 
 pub returns-clause-lines : goal.returns-clause-lines

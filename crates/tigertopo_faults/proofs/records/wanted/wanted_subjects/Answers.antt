@@ -1,6 +1,6 @@
 use Rattle.std.specs.Prelude.{option_copied}
 use Rattle.tigertopo_faults.specs.Records.SpokenOf.{chains_of}
-use Rattle.tigertopo_faults.proofs.Records.ReadingLemmas.{has_more, has_all}
+use Rattle.tigertopo_faults.proofs.RecordsLemmas.ReadingLemmas.{has_more, has_all}
 use Rattle.tigertopo_faults.proofs.records.wanted.wanted_subjects.Goals as goal
 
 pub loop-fault-preserved : goal.loop-fault-preserved

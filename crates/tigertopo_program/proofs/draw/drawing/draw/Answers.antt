@@ -7,7 +7,7 @@ use Rattle.tigertopo_outcome.specs.Answers.{IsSaid}
 use Rattle.tigertopo_outcome.specs.Records.{StopsNever, StopsRecords}
 use Rattle.tigertopo_program.specs.Draw.Drawing.{DrawAnswers, IsDrawnOf, Wanted}
 use Rattle.tigertopo_program.specs.Draw.Subjects.{IsSubjectOf}
-use Rattle.tigertopo_program.proofs.Draw.DrawLemmas.{says_drawn}
+use Rattle.tigertopo_program.proofs.DrawLemmas.DrawLemmas.{says_drawn}
 use Rattle.tigertopo_program.proofs.draw.drawing.draw.Goals as goal
 
 pub returns-in-Ok : goal.returns-in-Ok

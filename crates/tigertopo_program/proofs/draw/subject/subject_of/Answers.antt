@@ -3,7 +3,7 @@ use Rattle.tl_record.specs.Layout.{layout_with}
 use Rattle.tl_cert_output.proofs.StopLemmas.{by_stop}
 use Rattle.tigertopo_files.specs.World.{MayStop}
 use Rattle.tigertopo_outcome.specs.Records.{StopsRecords}
-use Rattle.tigertopo_program.proofs.Draw.SubjectLemmas.{IsWhy, subject_found, subject_missing}
+use Rattle.tigertopo_program.proofs.DrawLemmas.SubjectLemmas.{IsWhy, subject_found, subject_missing}
 use Rattle.tigertopo_program.proofs.draw.subject.subject_of.Goals as goal
 
 pub returns-in-Some-clause-found : goal.returns-in-Some-clause-found

@@ -8,7 +8,7 @@ use Rattle.tigertopo_outcome.specs.Answers.{IsReadMap, IsSaid}
 use Rattle.tigertopo_files.specs.Reading.{text_under}
 use Rattle.tigertopo_outcome.specs.Records.{StopsRecords}
 use Rattle.tigertopo_program.specs.Export.Exports.{ExportAnswers}
-use Rattle.tigertopo_program.proofs.Export.ExportLemmas.{export_of_fault, export_of_read}
+use Rattle.tigertopo_program.proofs.ExportLemmas.ExportLemmas.{export_of_fault, export_of_read}
 use Rattle.tigertopo_program.proofs.export.county.export.Goals as goal
 
 pub returns-in_err-map : goal.returns-in_err-map

@@ -5,7 +5,7 @@ use Rattle.tigertopo_files.specs.World.{world}
 use Rattle.tigertopo_files.proofs.WorldLemmas.{does_make, does_fail, does_answer}
 use Rattle.tigertopo_outcome.specs.Records.{StopsNever}
 use Rattle.tigertopo_program.specs.Export.Exports.{IsExportedOf}
-use Rattle.tigertopo_program.proofs.Export.ExportLemmas.{exported_plain}
+use Rattle.tigertopo_program.proofs.ExportLemmas.ExportLemmas.{exported_plain}
 use Rattle.tigertopo_program.proofs.export.county.export_faulty.Goals as goal
 
 pub returns-in_err-make_file : goal.returns-in_err-make_file

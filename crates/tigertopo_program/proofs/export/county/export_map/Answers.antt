@@ -1,7 +1,7 @@
 use Rattle.std.proofs.Common.{string_bytes}
 use Rattle.tigertopo_files.specs.World.{world}
 use Rattle.tigertopo_program.specs.Export.Exports.{IsExportedOf}
-use Rattle.tigertopo_program.proofs.Export.ExportLemmas.{export_stopped}
+use Rattle.tigertopo_program.proofs.ExportLemmas.ExportLemmas.{export_stopped}
 use Rattle.tigertopo_program.proofs.export.county.export_map.Goals as goal
 
 pub returns-in_err-walks : goal.returns-in_err-walks

@@ -4,8 +4,8 @@ use Rattle.tigertopo_files.specs.World.{world}
 use Rattle.tl_cert_output.specs.Stops.{StopsFor}
 use Rattle.tl_cert_output.proofs.StopLemmas.{by_stop, stops_for}
 use Rattle.tigertopo_where.specs.Hint.Again.{FailsAgain}
-use Rattle.tigertopo_where.proofs.Hint.HintLemmas.{same_count, text_at, not_known, counts_more, among}
-use Rattle.tigertopo_where.proofs.Hint.AgainLemmas.{fails_among, fails_behind, passing_one, stops_one}
+use Rattle.tigertopo_where.proofs.HintLemmas.HintLemmas.{same_count, text_at, not_known, counts_more, among}
+use Rattle.tigertopo_where.proofs.HintLemmas.AgainLemmas.{fails_among, fails_behind, passing_one, stops_one}
 use Rattle.tigertopo_where.proofs.hint.again.count_all.Goals as goal
 
 pub returns-in_err-count-clause-stops : goal.returns-in_err-count-clause-stops

@@ -1,8 +1,8 @@
 use Rattle.std.proofs.Common.{map, string_bytes}
 use Rattle.tl_record.specs.Layout.{layout_with}
 use Rattle.tigertopo_files.specs.World.{world}
-use Rattle.tigertopo_where.proofs.Hint.HintLemmas.{made_then, failed_then, among, hint_within, hint_beyond}
-use Rattle.tigertopo_where.proofs.Hint.AgainLemmas.{fails_among}
+use Rattle.tigertopo_where.proofs.HintLemmas.HintLemmas.{made_then, failed_then, among, hint_within, hint_beyond}
+use Rattle.tigertopo_where.proofs.HintLemmas.AgainLemmas.{fails_among}
 use Rattle.tigertopo_where.proofs.hint.tell.place_line.Goals as goal
 
 pub returns-then-place-names-clause-hint : goal.returns-then-place-names-clause-hint

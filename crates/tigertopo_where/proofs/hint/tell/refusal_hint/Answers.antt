@@ -3,7 +3,7 @@ use Rattle.tl_record.specs.Layout.{layout_with}
 use Rattle.tigertopo_where.specs.LinePlaces.{place_pair}
 use Rattle.tigertopo_files.specs.Files.{Under}
 use Rattle.tigertopo_where.specs.Hint.Telling.{HaveTexts}
-use Rattle.tigertopo_where.proofs.Hint.HintLemmas.{made_then, by_place, by_none}
+use Rattle.tigertopo_where.proofs.HintLemmas.HintLemmas.{made_then, by_place, by_none}
 use Rattle.tigertopo_where.proofs.hint.tell.refusal_hint.Goals as goal
 
 pub returns-in-Some-place_of-clause-hint : goal.returns-in-Some-place_of-clause-hint

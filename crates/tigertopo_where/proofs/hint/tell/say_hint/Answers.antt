@@ -1,7 +1,7 @@
 use Rattle.std.proofs.Common.{subst, ◌∙◌, ℕ, List}
 use Rattle.tl_record.specs.Layout.{layout_with}
 use Rattle.tl_cert_output.specs.Streams.{Tries, stream}
-use Rattle.tigertopo_where.proofs.Hint.HintLemmas.{hint_told, tries}
+use Rattle.tigertopo_where.proofs.HintLemmas.HintLemmas.{hint_told, tries}
 use Rattle.tigertopo_where.proofs.hint.tell.say_hint.Goals as goal
 
 pub returns-clause-hint : goal.returns-clause-hint

@@ -1,5 +1,5 @@
 use Rattle.tl_check_inside.specs.Inside.{is_polygon}
-use Rattle.tl_check_faces.proofs.Crossings.Boxed.{counts_nothing}
+use Rattle.tl_check_faces.proofs.CrossingsLemmas.Boxed.{counts_nothing}
 use Rattle.tl_check_faces.proofs.crossings.laws.a_polygon_counts_nothing_outside_of_its_box.Goals as goal
 
 pub returns : goal.returns

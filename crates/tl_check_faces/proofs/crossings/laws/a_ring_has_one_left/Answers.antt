@@ -1,4 +1,4 @@
-use Rattle.tl_check_faces.proofs.Crossings.OneLeft.{one_left, counts_whole}
+use Rattle.tl_check_faces.proofs.CrossingsLemmas.OneLeft.{one_left, counts_whole}
 use Rattle.tl_check_faces.proofs.crossings.laws.a_ring_has_one_left.Goals as goal
 
 pub returns-clause-one_left : goal.returns-clause-one_left

@@ -1,5 +1,5 @@
-use Rattle.tl_check_faces.proofs.Crossings.Apart.{apart}
-use Rattle.tl_check_faces.proofs.Crossings.Rays.{east_is_west}
+use Rattle.tl_check_faces.proofs.CrossingsLemmas.Apart.{apart}
+use Rattle.tl_check_faces.proofs.CrossingsLemmas.Rays.{east_is_west}
 use Rattle.tl_check_faces.proofs.crossings.laws.east_is_west.Goals as goal
 
 pub returns : goal.returns

@@ -1,5 +1,5 @@
-use Rattle.tl_check_faces.proofs.Crossings.Neighbours.{next_after}
-use Rattle.tl_check_faces.proofs.Crossings.Rounds.{next_in_round}
+use Rattle.tl_check_faces.proofs.CrossingsLemmas.Neighbours.{next_after}
+use Rattle.tl_check_faces.proofs.CrossingsLemmas.Rounds.{next_in_round}
 use Rattle.tl_check_faces.proofs.crossings.laws.next_is_the_neighbour.Goals as goal
 
 pub returns-clause-of_a_node : goal.returns-clause-of_a_node

@@ -1,5 +1,5 @@
-use Rattle.tl_check_faces.proofs.Crossings.Apart.{apart}
-use Rattle.tl_check_faces.proofs.Crossings.Telling.{nowhere}
+use Rattle.tl_check_faces.proofs.CrossingsLemmas.Apart.{apart}
+use Rattle.tl_check_faces.proofs.CrossingsLemmas.Telling.{nowhere}
 use Rattle.tl_check_faces.proofs.crossings.laws.nothing_lies_outside_of_the_box_of_all_chains.Goals as goal
 
 pub returns : goal.returns

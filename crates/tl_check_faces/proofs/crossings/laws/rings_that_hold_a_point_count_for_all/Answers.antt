@@ -1,5 +1,5 @@
-use Rattle.tl_check_faces.proofs.Crossings.Winding.{winds_about_none}
-use Rattle.tl_check_faces.proofs.Crossings.RingCounts.{hits_count}
+use Rattle.tl_check_faces.proofs.CrossingsLemmas.Winding.{winds_about_none}
+use Rattle.tl_check_faces.proofs.CrossingsLemmas.RingCounts.{hits_count}
 use Rattle.tl_check_faces.proofs.crossings.laws.rings_that_hold_a_point_count_for_all.Goals as goal
 
 pub returns-clause-outside : goal.returns-clause-outside

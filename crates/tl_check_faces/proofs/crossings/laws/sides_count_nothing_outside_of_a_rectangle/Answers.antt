@@ -1,6 +1,6 @@
 use Rattle.tl_check_faces.specs.Crossings.Boxes.{IsOnBoundary}
-use Rattle.tl_check_faces.proofs.Crossings.Boxed.{counts_nothing}
-use Rattle.tl_check_faces.proofs.Crossings.Boxes.{outside_rect}
+use Rattle.tl_check_faces.proofs.CrossingsLemmas.Boxed.{counts_nothing}
+use Rattle.tl_check_faces.proofs.CrossingsLemmas.Boxes.{outside_rect}
 use Rattle.tl_check_faces.proofs.crossings.laws.sides_count_nothing_outside_of_a_rectangle.Goals as goal
 
 pub returns : goal.returns

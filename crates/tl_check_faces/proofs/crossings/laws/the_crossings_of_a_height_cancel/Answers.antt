@@ -1,4 +1,4 @@
-use Rattle.tl_check_faces.proofs.Crossings.Cancelling.{cancelled}
+use Rattle.tl_check_faces.proofs.CrossingsLemmas.Cancelling.{cancelled}
 use Rattle.tl_check_faces.proofs.crossings.laws.the_crossings_of_a_height_cancel.Goals as goal
 
 pub returns : goal.returns

@@ -2,7 +2,7 @@ use Rattle.std.proofs.Common.{◌*◌, length, refl, sym}
 use Rattle.std.proofs.lemmas.Bool.{false≢true}
 use Rattle.std.proofs.lemmas.Option.{IfSome_then}
 use Rattle.tl_check_sides.specs.Cells.Keeping.Kept.{KeepFirst}
-use Rattle.tl_check_sides.proofs.Cells.Cells.{all_agree, repeat_at_odds}
+use Rattle.tl_check_sides.proofs.CellsLemmas.Cells.{all_agree, repeat_at_odds}
 use Rattle.tl_check_sides.proofs.cells.find.find_by_node.Goals as goal
 
 pub returns-clause-agree : goal.returns-clause-agree

@@ -1,4 +1,4 @@
-use Rattle.tl_check_sides.proofs.Cells.Cells.{HaveNoneBelow}
+use Rattle.tl_check_sides.proofs.CellsLemmas.Cells.{HaveNoneBelow}
 use Rattle.tl_check_sides.proofs.cells.find.has_cells.Given as goal
 
 abbrev pub invariant-loop-dart : goal.invariant-loop-dart

@@ -1,7 +1,7 @@
 use Rattle.std.proofs.Common.{◌≡◌, Some, sym, ap, subst, ◌∙◌, arith}
 use Rattle.std.proofs.lemmas.Bool.{false≢true}
 use Rattle.tl_check_sides.specs.Cells.Keeping.Kept.{KeepFirst}
-use Rattle.tl_check_sides.proofs.Cells.Cells.{IsHere, first_at, keep_on, keep_more, odd_here}
+use Rattle.tl_check_sides.proofs.CellsLemmas.Cells.{IsHere, first_at, keep_on, keep_more, odd_here}
 use Rattle.tl_check_sides.proofs.cells.find.keep_first.Goals as goal
 
 pub loop-dart-preserved-in_default : goal.loop-dart-preserved-in_default

@@ -1,6 +1,6 @@
 use Rattle.std.proofs.Common.{refl, sym, arith}
 use Rattle.std.proofs.lemmas.Bool.{false≢true}
-use Rattle.tl_check_sides.proofs.Cells.Rising.{all_two, neighbours_more}
+use Rattle.tl_check_sides.proofs.CellsLemmas.Rising.{all_two, neighbours_more}
 use Rattle.tl_check_sides.proofs.cells.kept.find_repeat.Goals as goal
 
 pub loop-place-preserved : goal.loop-place-preserved

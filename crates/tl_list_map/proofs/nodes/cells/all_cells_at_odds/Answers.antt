@@ -2,8 +2,8 @@ use Rattle.std.proofs.Common.{List, length, arith, subst}
 use Rattle.std.proofs.lemmas.Result.{err_from_is_err_and}
 use Rattle.tl_list_map.specs.declared.nodes.starts.CellStart.{CellStart}
 use Rattle.tl_list_map.specs.Nodes.Keeping.Odds.{HaveTold}
-use Rattle.tl_list_map.proofs.Nodes.StartLemmas.{sorted_of, firsts_of}
-use Rattle.tl_list_map.proofs.Nodes.Telling.{all_told}
+use Rattle.tl_list_map.proofs.NodesLemmas.StartLemmas.{sorted_of, firsts_of}
+use Rattle.tl_list_map.proofs.NodesLemmas.Telling.{all_told}
 use Rattle.tl_list_map.proofs.nodes.cells.all_cells_at_odds.Goals as goal
 
 pub find_pairs-requires-clause-starts : goal.find_pairs-requires-clause-starts

@@ -2,8 +2,8 @@ use Rattle.std.proofs.Common.{◌≡◌, ◌<◌, ◌++◌, length, length-set, 
 use Rattle.std.proofs.lemmas.Result.{err_from_is_err_and}
 use Rattle.tl_list_map.specs.Nodes.Keeping.Starts.{no_start, start_at, first_of, IsHeadOf}
 use Rattle.tl_list_map.specs.Nodes.Keeping.Odds.{start_odds, HaveTold}
-use Rattle.tl_list_map.proofs.Nodes.OddLemmas.{head_first, not_first, is_first, seen_kept, seen_more, seen_same, seen_other}
-use Rattle.tl_list_map.proofs.Nodes.Telling.{told_skipped, told_more}
+use Rattle.tl_list_map.proofs.NodesLemmas.OddLemmas.{head_first, not_first, is_first, seen_kept, seen_more, seen_same, seen_other}
+use Rattle.tl_list_map.proofs.NodesLemmas.Telling.{told_skipped, told_more}
 use Rattle.tl_list_map.proofs.nodes.cells.find_pairs.Goals as goal
 
 pub loop-place-preserved-then-eq : goal.loop-place-preserved-then-eq

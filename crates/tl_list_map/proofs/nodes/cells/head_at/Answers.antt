@@ -1,5 +1,5 @@
 use Rattle.std.proofs.Common.{◌≡◌, ◌+◌, ◌-◌, arith}
-use Rattle.tl_list_map.proofs.Nodes.OddLemmas.{head_kept}
+use Rattle.tl_list_map.proofs.NodesLemmas.OddLemmas.{head_kept}
 use Rattle.tl_list_map.proofs.nodes.cells.head_at.Goals as goal
 
 pub returns-then-starts-place : goal.returns-then-starts-place

@@ -1,7 +1,7 @@
 use Rattle.std.proofs.Common.{◌+◌, arith, sym, ◌∙◌}
 use Rattle.std.proofs.lemmas.Bool.{false≢true}
-use Rattle.tl_list_map.proofs.Nodes.Places.{at_place}
-use Rattle.tl_list_map.proofs.Nodes.Ends.{end_on, end_here}
+use Rattle.tl_list_map.proofs.NodesLemmas.Places.{at_place}
+use Rattle.tl_list_map.proofs.NodesLemmas.Ends.{end_on, end_here}
 use Rattle.tl_list_map.proofs.nodes.groups.end_at.Goals as goal
 use Rattle.tl_list_map.proofs.nodes.groups.end_at.Goals.{else-place-darts-via-then-place-darts+else-head_together, else-place-darts-via-else-place-darts}
 

@@ -2,7 +2,7 @@ use Rattle.std.proofs.Common.{◌-◌, ap, ◌∙◌, arith}
 use Rattle.std.proofs.lemmas.List.{get_or_default}
 use Rattle.tl_check_sides.specs.declared.headed.HeadedDart.{HeadedDart}
 use Rattle.tl_list_map.specs.Nodes.Keeping.Around.{nowhere}
-use Rattle.tl_list_map.proofs.Nodes.Ends.{first_of_all, first_kept, first_here}
+use Rattle.tl_list_map.proofs.NodesLemmas.Ends.{first_of_all, first_kept, first_here}
 use Rattle.tl_list_map.proofs.nodes.groups.first_at.Goals as goal
 
 pub returns-then-place-eq0 : goal.returns-then-place-eq0

@@ -1,7 +1,7 @@
 use Rattle.std.proofs.Common.{◌≡◌, ◌+◌, ◌-◌, length, subst, slice_set, arith}
 use Rattle.std.proofs.lemmas.Result.{err_from_is_err_and}
 use Rattle.tl_list_map.specs.Nodes.Keeping.Grouped.{IsEndOf, AreEnds}
-use Rattle.tl_list_map.proofs.Nodes.Ends.{one_end}
+use Rattle.tl_list_map.proofs.NodesLemmas.Ends.{one_end}
 use Rattle.tl_list_map.proofs.nodes.groups.group_ends.Goals as goal
 
 pub end_at-end-requires-clause-behind : goal.end_at-end-requires-clause-behind

@@ -6,7 +6,7 @@ use Rattle.std.proofs.lemmas.Result.{err_from_is_err_and}
 use Rattle.tl_list_map.specs.Nodes.Keeping.Grouped.{AreNexts}
 use Rattle.tl_check_sides.specs.declared.headed.HeadedDart.{HeadedDart}
 use Rattle.tl_list_map.specs.Nodes.Keeping.Around.{nowhere, headed_at}
-use Rattle.tl_list_map.proofs.Nodes.Ends.{begun, one_next}
+use Rattle.tl_list_map.proofs.NodesLemmas.Ends.{begun, one_next}
 use Rattle.tl_list_map.proofs.nodes.groups.next_groups.Goals as goal
 
 pub loop-place-preserved : goal.loop-place-preserved

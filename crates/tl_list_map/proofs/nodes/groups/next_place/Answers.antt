@@ -2,7 +2,7 @@ use Rattle.std.proofs.Common.{ap, ◌∙◌, arith}
 use Rattle.std.proofs.lemmas.List.{get_or_default}
 use Rattle.tl_check_sides.specs.declared.headed.HeadedDart.{HeadedDart}
 use Rattle.tl_list_map.specs.Nodes.Keeping.Around.{nowhere}
-use Rattle.tl_list_map.proofs.Nodes.Ends.{next_behind, next_around}
+use Rattle.tl_list_map.proofs.NodesLemmas.Ends.{next_behind, next_around}
 use Rattle.tl_list_map.proofs.nodes.groups.next_place.Goals as goal
 use Rattle.tl_list_map.proofs.nodes.groups.next_place.Goals.{else-end-darts-via-then-end-darts+else-darts-end, else-end-darts-via-else-end-darts}
 

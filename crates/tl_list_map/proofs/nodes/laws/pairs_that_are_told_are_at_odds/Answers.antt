@@ -1,4 +1,4 @@
-use Rattle.tl_list_map.proofs.Nodes.Agreeing.{at_odds}
+use Rattle.tl_list_map.proofs.NodesLemmas.Agreeing.{at_odds}
 use Rattle.tl_list_map.proofs.nodes.laws.pairs_that_are_told_are_at_odds.Goals as goal
 
 pub returns : goal.returns

@@ -1,6 +1,6 @@
 use Rattle.std.proofs.Common.{subst}
 use Rattle.tl_list_map.specs.Nodes.Disagreements.{AreAllDisagreements}
-use Rattle.tl_list_map.proofs.Nodes.Emptiness.{sides_agree, no_disagreement}
+use Rattle.tl_list_map.proofs.NodesLemmas.Emptiness.{sides_agree, no_disagreement}
 use Rattle.tl_list_map.proofs.nodes.laws.sides_agree_where_no_disagreement_is_listed.Goals as goal
 
 pub returns : goal.returns

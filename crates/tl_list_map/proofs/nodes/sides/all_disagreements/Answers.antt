@@ -1,7 +1,7 @@
 use Rattle.std.proofs.Common.{arith}
 use Rattle.std.proofs.lemmas.Result.{err_from_is_err_and}
 use Rattle.tl_check_meets.proofs.Reaching.{none_yet}
-use Rattle.tl_list_map.proofs.Nodes.Rows.{all_of}
+use Rattle.tl_list_map.proofs.NodesLemmas.Rows.{all_of}
 use Rattle.tl_list_map.proofs.nodes.sides.all_disagreements.Goals as goal
 
 pub loop-dart-init : goal.loop-dart-init

@@ -5,7 +5,7 @@ use Rattle.tl_check_meets.proofs.Pushing.{pushed}
 use Rattle.tl_check_meets.proofs.Rows.{row_begun, row_more, row_skipped, row_ended}
 use Rattle.tl_list_map.specs.Nodes.Disagreements.{HaveSidesAtOdds}
 use Rattle.tl_list_map.specs.Nodes.Keeping.Grouped.{numbers_of}
-use Rattle.tl_list_map.proofs.Nodes.Rows.{number_at, in_numbers, all_numbers, reverse_within, at_odds, agree}
+use Rattle.tl_list_map.proofs.NodesLemmas.Rows.{number_at, in_numbers, all_numbers, reverse_within, at_odds, agree}
 use Rattle.tl_list_map.proofs.nodes.sides.push_next.Goals as goal
 
 pub loop-place-init : goal.loop-place-init

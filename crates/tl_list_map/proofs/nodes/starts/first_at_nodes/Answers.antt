@@ -1,7 +1,7 @@
 use Rattle.std.proofs.Common.{◌≡◌, length, length-set, sym, subst, ◌∙◌, arith}
 use Rattle.std.proofs.lemmas.Result.{err_from_is_err_and}
 use Rattle.tl_list_map.specs.Nodes.Keeping.Starts.{no_start, AreFirstsOf}
-use Rattle.tl_list_map.proofs.Nodes.StartLemmas.{first_kept, first_set, is_kept, not_kept}
+use Rattle.tl_list_map.proofs.NodesLemmas.StartLemmas.{first_kept, first_set, is_kept, not_kept}
 use Rattle.tl_list_map.proofs.nodes.starts.first_at_nodes.Goals as goal
 
 pub loop-place-preserved-then-is_some : goal.loop-place-preserved-then-is_some

@@ -2,7 +2,7 @@ use Rattle.std.proofs.Common.{refl, ◌≡◌, subst, arith}
 use Rattle.std.proofs.lemmas.Result.{err_from_is_err_and}
 use Rattle.tl_check_sides.specs.Sides.{dart_count}
 use Rattle.tl_list_map.specs.Nodes.Keeping.Starts.{AreListed}
-use Rattle.tl_list_map.proofs.Nodes.StartLemmas.{none_listed, start_listed}
+use Rattle.tl_list_map.proofs.NodesLemmas.StartLemmas.{none_listed, start_listed}
 use Rattle.tl_list_map.proofs.nodes.starts.list_starts.Goals as goal
 
 pub loop-dart-init : goal.loop-dart-init

@@ -3,7 +3,7 @@ use Rattle.std.specs.Prelude.{slice_index}
 use Rattle.std.proofs.lemmas.List.{get_or_default}
 use Rattle.tl_check_inside.specs.Keeping.Tallies.{AreClear}
 use Rattle.tl_list_map.specs.Points.Keeping.Parts.{IsOfPolygon, HasPart}
-use Rattle.tl_list_map.proofs.Points.Suspected.{none_among, one_more_among, all_among}
+use Rattle.tl_list_map.proofs.PointsLemmas.Suspected.{none_among, one_more_among, all_among}
 use Rattle.tl_list_map.proofs.points.among.all_misplaced_among.Goals as goal
 
 pub loop-place-init : goal.loop-place-init

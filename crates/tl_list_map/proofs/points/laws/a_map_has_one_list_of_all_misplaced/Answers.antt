@@ -1,4 +1,4 @@
-use Rattle.tl_list_map.proofs.Points.Unique.{one_list_of_all}
+use Rattle.tl_list_map.proofs.PointsLemmas.Unique.{one_list_of_all}
 use Rattle.tl_list_map.proofs.points.laws.a_map_has_one_list_of_all_misplaced.Goals as goal
 
 pub returns : goal.returns

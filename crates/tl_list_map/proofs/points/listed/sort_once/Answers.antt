@@ -1,6 +1,6 @@
 use Rattle.std.proofs.Common.{eqb}
 use Rattle.std.proofs.lemmas.List.Filters.{dedup_is}
-use Rattle.tl_list_map.proofs.Points.Listing.{rises, same}
+use Rattle.tl_list_map.proofs.PointsLemmas.Listing.{rises, same}
 use Rattle.tl_list_map.proofs.points.listed.sort_once.Goals as goal
 
 pub returns-clause-rising : goal.returns-clause-rising

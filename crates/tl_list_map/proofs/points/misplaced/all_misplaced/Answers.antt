@@ -1,6 +1,6 @@
 use Rattle.std.proofs.Common.{arith}
-use Rattle.tl_list_map.proofs.Points.Joining.{one_more}
-use Rattle.tl_list_map.proofs.Points.Wholes.{all_of}
+use Rattle.tl_list_map.proofs.PointsLemmas.Joining.{one_more}
+use Rattle.tl_list_map.proofs.PointsLemmas.Wholes.{all_of}
 use Rattle.tl_list_map.proofs.points.misplaced.all_misplaced.Goals as goal
 
 pub loop-p-preserved : goal.loop-p-preserved

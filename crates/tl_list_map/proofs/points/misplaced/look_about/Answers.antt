@@ -1,7 +1,7 @@
 use Rattle.std.proofs.Common.{sym, subst, arith}
 use Rattle.tl_check_inside.specs.Places.{IsHeldBy}
 use Rattle.tl_check_inside.specs.Keeping.Strips.{AreEnough}
-use Rattle.tl_list_map.proofs.Points.Listing.{listed_once}
+use Rattle.tl_list_map.proofs.PointsLemmas.Listing.{listed_once}
 use Rattle.tl_list_map.proofs.points.misplaced.look_about.Goals as goal
 
 pub sift_all-requires : goal.sift_all-requires

@@ -1,5 +1,5 @@
 use Rattle.std.proofs.Common.{◌∙◌}
-use Rattle.tl_list_map.proofs.Points.Odds.{others_listed, outside_told}
+use Rattle.tl_list_map.proofs.PointsLemmas.Odds.{others_listed, outside_told}
 use Rattle.tl_list_map.proofs.points.odd.list_odd.Goals as goal
 
 pub returns-in-Ok-clause-outside : goal.returns-in-Ok-clause-outside

@@ -1,6 +1,6 @@
 use Rattle.tl_check_inside.specs.Keeping.Tallies.{IsOdd}
-use Rattle.tl_list_map.proofs.Points.Listing.{listed_once}
-use Rattle.tl_list_map.proofs.Points.Odds.{odd_more, all_odd}
+use Rattle.tl_list_map.proofs.PointsLemmas.Listing.{listed_once}
+use Rattle.tl_list_map.proofs.PointsLemmas.Odds.{odd_more, all_odd}
 use Rattle.tl_list_map.proofs.points.odd.list_odd_of.Goals as goal
 
 pub loop-place-preserved : goal.loop-place-preserved

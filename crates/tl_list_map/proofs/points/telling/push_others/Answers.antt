@@ -1,6 +1,6 @@
 use Rattle.std.proofs.Common.{sym, ◌∙◌}
-use Rattle.tl_list_map.proofs.Points.Pushing.{pushed}
-use Rattle.tl_list_map.proofs.Points.Rows.{row_begun, row_more, row_ended, in_other}
+use Rattle.tl_list_map.proofs.PointsLemmas.Pushing.{pushed}
+use Rattle.tl_list_map.proofs.PointsLemmas.Rows.{row_begun, row_more, row_ended, in_other}
 use Rattle.tl_list_map.proofs.points.telling.push_others.Goals as goal
 
 pub loop-place-init : goal.loop-place-init

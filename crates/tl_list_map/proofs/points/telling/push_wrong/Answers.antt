@@ -1,6 +1,6 @@
 use Rattle.std.proofs.lemmas.Result.{on_ok_weaker}
 use Rattle.tl_list_map.specs.Points.Keeping.Parts.{HasRow}
-use Rattle.tl_list_map.proofs.Points.Rows.{rows_joined}
+use Rattle.tl_list_map.proofs.PointsLemmas.Rows.{rows_joined}
 use Rattle.tl_list_map.proofs.points.telling.push_wrong.Goals as goal
 
 pub returns : goal.returns

@@ -1,7 +1,7 @@
 use Rattle.std.proofs.Common.{◌∙◌, refl}
 use Rattle.std.proofs.lemmas.Result.{err_from_is_err_and}
 use Rattle.tl_record.specs.Reader.{standing_of, refusals_to_come}
-use Rattle.tl_list_records.proofs.Refusals.ListLemmas.{lists_none, lists_more, lists_all, still_goes_on, failure_told}
+use Rattle.tl_list_records.proofs.RefusalsLemmas.ListLemmas.{lists_none, lists_more, lists_all, still_goes_on, failure_told}
 use Rattle.tl_list_records.proofs.refusals.list.list_refusals.Goals as goal
 
 pub refusals-init : goal.refusals-init

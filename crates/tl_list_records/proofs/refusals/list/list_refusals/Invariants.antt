@@ -1,7 +1,7 @@
 use Rattle.std.proofs.Common.{◌≡◌, ◌-◌, ◌^◌, length}
 use Rattle.tl_record.specs.Reader.{source_of, standing_of, refusals_to_come}
 use Rattle.tl_record.specs.Searching.{goes_on}
-use Rattle.tl_list_records.proofs.Refusals.ListLemmas.{ListsSoFar}
+use Rattle.tl_list_records.proofs.RefusalsLemmas.ListLemmas.{ListsSoFar}
 use Rattle.tl_list_records.proofs.refusals.list.list_refusals.Given as goal
 
 abbrev pub invariant-refusals : goal.invariant-refusals

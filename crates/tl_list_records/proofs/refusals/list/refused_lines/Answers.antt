@@ -1,6 +1,6 @@
 use Rattle.tl_record.specs.Layout.{layout_with}
 use Rattle.tl_record.specs.Refusals.{refusals_of}
-use Rattle.tl_list_records.proofs.Refusals.ListLemmas.{lists_text}
+use Rattle.tl_list_records.proofs.RefusalsLemmas.ListLemmas.{lists_text}
 use Rattle.tl_list_records.proofs.refusals.list.refused_lines.Goals as goal
 
 pub returns-clause-refusals : goal.returns-clause-refusals

@@ -2,7 +2,7 @@ use Rattle.tl_record.specs.Layout.{layout_with}
 use Rattle.tl_cert_output.proofs.StopLemmas.{by_stop}
 use Rattle.tigertopo_files.specs.World.{MayStop}
 use Rattle.tigertopo_outcome.specs.Records.{StopsRecords}
-use Rattle.tigertopo_command.proofs.Decide.AuditLemmas.{is_audited, audit_stops}
+use Rattle.tigertopo_command.proofs.DecideLemmas.AuditLemmas.{is_audited, audit_stops}
 use Rattle.tigertopo_command.proofs.decide.auditing.AuditOfQuestion.ask.Goals as goal
 
 pub returns-in-Sound-clause-answered : goal.returns-in-Sound-clause-answered

@@ -1,4 +1,4 @@
-use Rattle.tigertopo_command.proofs.Decide.CheckLemmas.{checked, check_stops, tells_both}
+use Rattle.tigertopo_command.proofs.DecideLemmas.CheckLemmas.{checked, check_stops, tells_both}
 use Rattle.tigertopo_command.proofs.decide.deciding.CheckOfReading.read.Goals as goal
 
 pub returns-clause-answered : goal.returns-clause-answered

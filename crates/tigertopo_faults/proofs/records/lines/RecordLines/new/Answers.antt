@@ -1,4 +1,4 @@
-use Rattle.tigertopo_faults.proofs.Records.ReadingLemmas.{numbered, holds_none}
+use Rattle.tigertopo_faults.proofs.RecordsLemmas.ReadingLemmas.{numbered, holds_none}
 use Rattle.tigertopo_faults.proofs.records.lines.RecordLines.new.Goals as goal
 
 pub returns-clause-wanted : goal.returns-clause-wanted

@@ -1,5 +1,5 @@
 use Rattle.std.proofs.Common.{◌≡◌, length}
-use Rattle.tigertopo_faults.proofs.Records.ReadingLemmas.{AreEmpty}
+use Rattle.tigertopo_faults.proofs.RecordsLemmas.ReadingLemmas.{AreEmpty}
 use Rattle.tigertopo_faults.proofs.records.lines.RecordLines.new.Given as goal
 
 abbrev pub invariant-loop : goal.invariant-loop

@@ -1,4 +1,4 @@
-use Rattle.tigertopo_faults.proofs.Records.LinesLemmas.{noted_then}
+use Rattle.tigertopo_faults.proofs.RecordsLemmas.LinesLemmas.{noted_then}
 use Rattle.tigertopo_faults.proofs.records.lines.RecordLines.note.Goals as goal
 
 pub returns : goal.returns

@@ -3,7 +3,7 @@ use Rattle.std.proofs.lemmas.Result.{err_from_is_err_and}
 use Rattle.tl_check_sides.specs.declared.headed.HeadedDart.{HeadedDart}
 use Rattle.tl_list_map.specs.Nodes.Keeping.Around.{AreAround}
 use Rattle.tl_list_map.specs.Nodes.Keeping.Grouped.{AreEnds, AreNexts}
-use Rattle.tl_list_map.proofs.Nodes.Sorting.{around_sorted}
+use Rattle.tl_list_map.proofs.NodesLemmas.Sorting.{around_sorted}
 use Rattle.tl_list_map.proofs.nodes.groups.Groups.new.Goals as goal
 
 pub group_ends-requires : goal.group_ends-requires

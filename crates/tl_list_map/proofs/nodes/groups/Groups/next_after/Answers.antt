@@ -1,5 +1,5 @@
 use Rattle.std.proofs.Common.{arith}
-use Rattle.tl_list_map.proofs.Nodes.Parts.{before_of, end_of, next_to}
+use Rattle.tl_list_map.proofs.NodesLemmas.Parts.{before_of, end_of, next_to}
 use Rattle.tl_list_map.proofs.nodes.groups.Groups.next_after.Goals as goal
 
 pub index-requires-2 : goal.index-requires-2
