@@ -52,8 +52,42 @@ fn find_beside(map: &Map, suspects: &[u32], place: usize) -> Option<Meet>
     None
 }
 
+/// How many segments have chains with lower numbers than this one.
+fn begin_of_chain(map: &Map, c: u32) -> u32 {
+    let mut low = 0;
+    let mut high = map.segments();
+    while low < high {
+        let middle = low + (high - low) / 2;
+        if middle < map.segments() && map.segment_chain(middle) < c {
+            low = middle + 1;
+        } else {
+            high = middle;
+        }
+    }
+    low
+}
+
+/// A meet of a segment with the first or the last one of its own chain, if there is one. Where a chain runs through its own end, and
+/// another chain ends there too, its segment may meet that of the other chain, and not its own.
+fn meet_in_chain(map: &Map, s: u32) -> Option<Meet>
+    ensures { IfSome result (IsTrueMeet map.now.chains) }
+{
+    if s >= map.segments() {
+        return None;
+    }
+    let own = map.segment_chain(s);
+    if let Some(meet) = meet_of(map, s, begin_of_chain(map, own)) {
+        return Some(meet);
+    }
+    meet_of(
+        map,
+        s,
+        begin_of_chain(map, own.saturating_add(1)).saturating_sub(1),
+    )
+}
+
 /// A meet of two of these segments, where there is one of the first, of the second or of two that follow one another.
-pub fn find_meet(map: &Map, suspects: &[u32]) -> Option<Meet>
+fn find_between(map: &Map, suspects: &[u32]) -> Option<Meet>
     ensures { IfSome result (IsTrueMeet map.now.chains) }
 {
     for place in 0..suspects.len() {
@@ -64,6 +98,29 @@ pub fn find_meet(map: &Map, suspects: &[u32]) -> Option<Meet>
     None
 }
 
+/// A meet of one of these segments with the first or the last one of its own chain, if there is one.
+fn find_in_chains(map: &Map, suspects: &[u32]) -> Option<Meet>
+    ensures { IfSome result (IsTrueMeet map.now.chains) }
+{
+    for place in 0..suspects.len() {
+        if let Some(meet) = meet_in_chain(map, suspects[place]) {
+            return Some(meet);
+        }
+    }
+    None
+}
+
+/// A meet of two of these segments, where there is one of the first, of the second or of two that follow one another, and else one of
+/// such a segment with an end of its own chain.
+pub fn find_meet(map: &Map, suspects: &[u32]) -> Option<Meet>
+    ensures { IfSome result (IsTrueMeet map.now.chains) }
+{
+    if let Some(meet) = find_between(map, suspects) {
+        return Some(meet);
+    }
+    find_in_chains(map, suspects)
+}
+
 /// A meet of two segments with ends at one point that may not meet there, if there are such.
 pub fn find_meet_at_vertex(map: &Map, events: &Events) -> Option<Meet>
     ensures { IfSome result (IsTrueMeet map.now.chains) }
@@ -72,7 +129,7 @@ pub fn find_meet_at_vertex(map: &Map, events: &Events) -> Option<Meet>
         let (event, next) = events.at(k - 1);
         let (e, f) = (last_of(event, next), events.at(k).0);
         if !are_in_order(map, e, f) {
-            if let Some(meet) = meet_of(map, e.segment, f.segment) {
+            if let Some(meet) = find_meet(map, &[e.segment, f.segment]) {
                 return Some(meet);
             }
         }
