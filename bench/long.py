@@ -1,14 +1,18 @@
 #!/usr/bin/env python3
 """Makes the record files of maps whose segments are long and stand side by side, as no county's do: a stranger's file may.
 
-usage: long.py FOLDER CHAINS --comb|--lines|--star|--squares|--spiral [--mirrored] [--turned] [--crossed] [--exchanged]
+usage: long.py FOLDER CHAINS --comb|--lines|--bends|--star|--squares|--spiral [--mirrored] [--turned] [--crossed] [--exchanged]
+               [--misplaced] [--street]
 
---comb: slanted lines side by side. --lines: lines of three segments, nearly level. --star: spokes about one node, and its
+--comb: slanted lines side by side. --lines: lines of three segments, nearly level. --bends: lines with eight bends each, at
+heights that no other line has bends at. --star: spokes about one node, and its
 rim, with a polygon between each two spokes. --squares: squares in squares, a polygon between each two. --spiral: one line
 round and round, cut into chains of 9,991 segments; CHAINS is the number of its segments. In all of them the rectangles of
 most segments meet, or a point lies within most rings. The map is sound, also as it is seen in a mirror, and turned by a
 quarter; with --crossed one chain more crosses the first segment, so that it isn't. With --exchanged, of a star or of squares,
-the sides of one chain in the middle are told the wrong way round, so that sides which face each other differ there.
+the sides of one chain in the middle are told the wrong way round, so that sides which face each other differ there; with
+--misplaced the point of one polygon in the middle lies in its neighbour; with --street a lone street far off names the first
+polygon on both its sides, at the height of the points, so that the map is sound and only its faces disagree.
 """
 
 import math
@@ -18,7 +22,8 @@ from county import point_line, sides_line
 from make_records import chain_line, shape_lines, words_given, write_files
 
 FAR = 85_000_000
-FAMILIES = ("comb", "lines", "star", "squares", "spiral")
+FAMILIES = ("comb", "lines", "bends", "star", "squares", "spiral")
+CHANGES = ("mirrored", "turned", "crossed", "exchanged", "misplaced", "street")
 
 
 def comb(rng, count):
@@ -35,6 +40,14 @@ def lines(rng, count):
     for _ in range(count):
         yield list(zip((-FAR, -30_000_000, 25_000_000, FAR), heights)), None, None
         heights = [height + rng.randrange(1, step + 1) for height in heights]
+
+
+def bends(rng, count):
+    step = max(4, 2 * FAR // (count + 1))
+    for line in range(count):
+        x = line * step - FAR
+        heights = sorted(rng.sample(range(1 - FAR, FAR), 8))
+        yield [(x, -FAR), *((x + rng.randrange(step // 2), height) for height in heights), (x, FAR)], None, None
 
 
 def star(rng, count):
@@ -82,6 +95,11 @@ def crossing(points):
     return [(x - north, y + east), (x + north, y - east)], None, None
 
 
+def street():
+    """A lone street east of all, that names the first polygon."""
+    return [(FAR + 1_000_000, -10), (FAR + 1_000_000, 10)], 0, 0
+
+
 def exchanged(chain):
     points, left, right = chain
     return points, right, left
@@ -101,7 +119,7 @@ def key(number):
 
 
 def main():
-    words = words_given(*(f"--{it}" for it in (*FAMILIES, "mirrored", "turned", "crossed", "exchanged")))
+    words = words_given(*(f"--{it}" for it in (*FAMILIES, *CHANGES)))
     rng = random.Random(words.chains)
     family = next(it for it in FAMILIES if getattr(words, it))
     chains = list(globals()[family](rng, words.chains))
@@ -112,6 +130,10 @@ def main():
         inside = square_points(words.chains)
     if words.crossed:
         chains.append(crossing(chains[0][0]))
+    if words.street:
+        chains.append(street())
+    if words.misplaced:
+        inside[len(inside) // 2] = tuple(part + 1 for part in inside[len(inside) // 2 + 1])
     if words.exchanged:
         chains[len(chains) // 2] = exchanged(chains[len(chains) // 2])
     nodes, files = {}, {name: [] for name in ("RT1", "RT2", "RTI", "RTP")}
