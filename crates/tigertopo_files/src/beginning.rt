@@ -18,7 +18,7 @@ pub enum FileKind {
 pub const FRONT: usize = 64;
 
 /// How each file of the kind begins.
-pub fn beginning<'a>(kind: FileKind) -> &'a [u8]
+pub fn first_bytes<'a>(kind: FileKind) -> &'a [u8]
     ensures bytes { result.now ≡ beginning_of kind }
     ensures short { length result.now ≤ FRONT }
 {
@@ -34,7 +34,7 @@ pub fn beginning<'a>(kind: FileKind) -> &'a [u8]
 pub fn may_go(kind: FileKind, bytes: &[u8]) -> bool
     ensures { result ≡ may_go_of kind bytes.now }
 {
-    bytes.is_empty() || bytes.starts_with(beginning(kind))
+    bytes.is_empty() || bytes.starts_with(first_bytes(kind))
 }
 
 /// Whether a file of these bytes may be one of the kind that an earlier run left unfinished: they begin as those of the kind do, or
@@ -42,5 +42,5 @@ pub fn may_go(kind: FileKind, bytes: &[u8]) -> bool
 pub fn may_be_left(kind: FileKind, bytes: &[u8]) -> bool
     ensures { result ≡ may_be_left_of kind bytes.now }
 {
-    bytes.starts_with(beginning(kind)) || beginning(kind).starts_with(bytes)
+    bytes.starts_with(first_bytes(kind)) || first_bytes(kind).starts_with(bytes)
 }

@@ -13,7 +13,7 @@ mod making;
 mod names;
 mod opening;
 
-pub use beginning::{FRONT, FileKind, beginning, may_be_left, may_go};
+pub use beginning::{FRONT, FileKind, first_bytes, may_be_left, may_go};
 pub use file_system::{Draft, FileSystem, Room};
 pub use lending::{Reading, read_each, read_each_again};
 pub use making::make_file;

@@ -5,7 +5,7 @@ ghost use Rattle.tigertopo_files.specs.Files.{beginning_of, may_go as may_go_of,
 
 use std::io;
 use std::io::Read;
-use tigertopo_files::{FRONT, FileKind, beginning, may_be_left, may_go};
+use tigertopo_files::{FRONT, FileKind, first_bytes, may_be_left, may_go};
 
 /// Whether a file of this size may be written over by one of the kind: it is empty, or begins as those of the kind do.
 pub fn is_of_kind<T: Read>(file: &mut T, size: u64, kind: FileKind) -> io::Result<bool>
@@ -47,7 +47,7 @@ fn count_of(size: u64, kind: FileKind) -> usize
     ensures count { result ≡ min size (length (beginning_of kind)) }
     ensures short { result ≤ FRONT }
 {
-    let whole = beginning(kind).len();
+    let whole = first_bytes(kind).len();
     if size < whole as u64 {
         size as usize
     } else {

@@ -1,12 +1,12 @@
-mod Sorting
-mod Places
-mod Ends
-mod Nexts
-mod Parts
-mod Rows
-mod Pairs
-mod StartLemmas
-mod OddLemmas
+pub mod Sorting
+pub mod Places
+pub mod Ends
+pub mod Nexts
+pub mod Parts
+pub mod Rows
+pub mod Pairs
+pub mod StartLemmas
+pub mod OddLemmas
 pub mod Agreeing
-mod Telling
+pub mod Telling
 pub mod Emptiness

@@ -1,10 +1,10 @@
-mod Listing
-mod Joining
-mod Rows
-mod Odds
-mod Wholes
-mod Pushing
-mod Unique
-mod Crossing
-mod Placed
-mod Suspected
+pub mod Listing
+pub mod Joining
+pub mod Rows
+pub mod Odds
+pub mod Wholes
+pub mod Pushing
+pub mod Unique
+pub mod Crossing
+pub mod Placed
+pub mod Suspected
