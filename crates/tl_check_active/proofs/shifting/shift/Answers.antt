@@ -28,12 +28,3 @@ returns-in_err-replace-clause-back c = let p = err_from_is_err_and c.from_residu
 
 pub returns-in_err-replace-clause-tested : goal.returns-in_err-replace-clause-tested
 returns-in_err-replace-clause-tested c = let p = err_from_is_err_and c.from_residual.result c.from_residual.ensures.1 in rw p.1 tt
-
-pub returns-in_err-leave-clause-front : goal.returns-in_err-leave-clause-front
-returns-in_err-leave-clause-front c = let p = err_from_is_err_and c.from_residual-in_err-leave.result c.from_residual-in_err-leave.ensures.1 in rw p.1 tt
-
-pub returns-in_err-leave-clause-back : goal.returns-in_err-leave-clause-back
-returns-in_err-leave-clause-back c = let p = err_from_is_err_and c.from_residual-in_err-leave.result c.from_residual-in_err-leave.ensures.1 in rw p.1 tt
-
-pub returns-in_err-leave-clause-tested : goal.returns-in_err-leave-clause-tested
-returns-in_err-leave-clause-tested c = let p = err_from_is_err_and c.from_residual-in_err-leave.result c.from_residual-in_err-leave.ensures.1 in rw p.1 tt
