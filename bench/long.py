@@ -1,10 +1,11 @@
 #!/usr/bin/env python3
 """Makes the record files of maps whose segments are long and stand side by side, as no county's do: a stranger's file may.
 
-usage: long.py FOLDER CHAINS --comb|--lines|--star|--squares|--spiral [--mirrored] [--turned] [--crossed] [--exchanged]
+usage: long.py FOLDER CHAINS --comb|--lines|--bends|--star|--squares|--spiral [--mirrored] [--turned] [--crossed] [--exchanged]
 
---comb: slanted lines side by side. --lines: lines of three segments, nearly level. --star: spokes about one node, and its
-rim, with a polygon between each two spokes. --squares: squares in squares, a polygon between each two. --spiral: one line
+--comb: slanted lines side by side. --lines: lines of three segments, nearly level. --bends: upright lines, each with eight
+bends at heights of its own, so that a sweep goes to and fro in its list. --star: spokes about one node, and its rim, with a
+polygon between each two spokes. --squares: squares in squares, a polygon between each two. --spiral: one line
 round and round, cut into chains of 9,991 segments; CHAINS is the number of its segments. In all of them the rectangles of
 most segments meet, or a point lies within most rings. The map is sound, also as it is seen in a mirror, and turned by a
 quarter; with --crossed one chain more crosses the first segment, so that it isn't. With --exchanged, of a star or of squares,
@@ -18,7 +19,7 @@ from county import point_line, sides_line
 from make_records import chain_line, shape_lines, words_given, write_files
 
 FAR = 85_000_000
-FAMILIES = ("comb", "lines", "star", "squares", "spiral")
+FAMILIES = ("comb", "lines", "bends", "star", "squares", "spiral")
 
 
 def comb(rng, count):
@@ -35,6 +36,13 @@ def lines(rng, count):
     for _ in range(count):
         yield list(zip((-FAR, -30_000_000, 25_000_000, FAR), heights)), None, None
         heights = [height + rng.randrange(1, step + 1) for height in heights]
+
+
+def bends(rng, count):
+    step = max(4, min(1_000, 2 * FAR // count))
+    for line in range(count):
+        heights = sorted(rng.sample(range(1 - FAR, FAR), 8))
+        yield [(line * step - FAR + rng.randrange(step // 2), height) for height in (-FAR, *heights, FAR)], None, None
 
 
 def star(rng, count):

@@ -41,7 +41,7 @@ impl Model for Line {
     } };
 
     ghost invariant = { λ l. (l.place ≤ length l.items.items) × (l.opened ≤ length l.blocks.items) ×
-      AreSome (take l.opened l.blocks.items) × AreSome (drop (l.opened + 1) l.blocks.items) };
+        AreSome (take l.opened l.blocks.items) × AreSome (drop (l.opened + 1) l.blocks.items) };
 }
 
 /// Takes the numbers from a place on off a block.
@@ -144,7 +144,11 @@ impl Line {
         }
         self.place = 0;
         let gone = close(&mut self.blocks, &mut self.items, last);
-        self.opened = if gone && last < block { block - 1 } else { block };
+        self.opened = if gone && last < block {
+            block - 1
+        } else {
+            block
+        };
         lift(&mut self.blocks, &mut self.items, self.opened);
         self.join_next()
     }
