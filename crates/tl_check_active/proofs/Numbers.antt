@@ -1,11 +1,11 @@
 -- Numbers that stand in blocks, and the parts of a list that stands in blocks.
-use Rattle.std.proofs.Common.{◌≡◌, ℕ, zero, suc, ◌+◌, ◌-◌, ◌<◌, ◌≤◌, ◌==◌, Bool, true, false, Option, None, Some, List, [], ◌∷◌, ◌++◌, length, take, drop, set, get_or, append_assoc, append-nil, add-one, refl, sym, ap, ap₂, subst, ◌∙◌, arith, length-take, length-append}
+use Rattle.std.proofs.Common.{◌≡◌, ℕ, zero, suc, ◌+◌, ◌-◌, ◌<◌, ◌≤◌, ◌==◌, Bool, true, false, Some, List, [], ◌∷◌, ◌++◌, length, take, drop, set, get_or, append_assoc, append-nil, add-one, refl, sym, ap, ap₂, subst, ◌∙◌, arith, length-take}
 use Rattle.std.specs.Prelude.{Vec, slice_get, unwrap_or}
 use Rattle.std.specs.Global.{Global}
-use Rattle.std.proofs.Math.Seq.{take-add}
-use Rattle.std.proofs.lemmas.List.{take-append-drop, take_rest, drop-append-le, drop-drop, set_split, take-take}
+use Rattle.std.proofs.Math.Seq.{take-add, drop-cons}
+use Rattle.std.proofs.lemmas.List.{take-append-drop, take_rest, drop-append-le, drop-drop, drop-set-lt, set_split, take-set, take-take}
 use Rattle.std.proofs.lemmas.Bool.{eqb-true}
-use Rattle.std.proofs.lemmas.List.Elements.{All-nil, All-cons, All-head, All-tail, All-append, All-take, All-drop}
+use Rattle.std.proofs.lemmas.List.Elements.{All-nil, All-cons, All-head, All-tail, All-append}
 use Rattle.std.specs.List.{insert, remove}
 use Rattle.tl_check_active.specs.Keeping.Blocks.{numbers_of, AreSome}
 use Rattle.tl_check_active.specs.Lined.{last_of}
@@ -15,7 +15,7 @@ pub some_by_test : (n : ℕ) (empty : Bool) → empty ≡ (n == 0) → empty ≡
 some_by_test zero empty e f = absurd (cc)
 some_by_test (suc n) empty e f = omega arith
 
--- and of one from which no number was to be had
+-- and one that is empty
 pub none_by_test : (xs : List ℕ) (n : ℕ) (empty : Bool) → empty ≡ (n == 0) → empty ≡ true → n ≡ length xs → xs ≡ []
 none_by_test [] n empty e f long = refl
 none_by_test (x ∷ xs) zero empty e f long = absurd (omega (arith, long))
@@ -44,7 +44,7 @@ behind : (first next : Vec ℕ Global) (rest : List (Vec ℕ Global)) (block : V
 behind first next rest block is =
     ap (slice_get (first ∷ (next ∷ rest))) (let one : suc (length (next ∷ rest) - 1) ≡ length (first ∷ (next ∷ rest)) - 1 = omega arith in one) ∙ is
 
--- the last block is the one that the numbers end with, or begin with
+-- the last block is the one that the numbers end with
 pub last_is : (blocks : List (Vec ℕ Global)) (block : Vec ℕ Global) → AreSome blocks → slice_get blocks (length blocks - 1) ≡ Some block → last_of (numbers_of blocks) ≡ last_of block.items
 last_is [] block some is = absurd (cc)
 last_is (first ∷ []) block some is =
@@ -52,12 +52,7 @@ last_is (first ∷ []) block some is =
     ap last_of (append-nil first.items ∙ ap (λ b. b.items) same)
 last_is (first ∷ (next ∷ rest)) block some is = last_kept first.items (numbers_of (next ∷ rest)) (some_front next.items (numbers_of rest) (some 1 next (omega arith))) ∙ last_is (next ∷ rest) block (λ k d lt. some (suc k) d (omega (arith, lt))) (behind first next rest block is)
 
--- what is taken off a list at its begin
-pub off_first : (xs : List ℕ) → 0 < length xs → remove xs 0 ≡ drop 1 xs
-off_first [] some = absurd (omega (arith, some))
-off_first (x ∷ xs) some = refl
-
--- ---- one is taken off a list, put into it, or put in the place of another
+-- ---- one is taken off a list, or put into it
 
 pub front_kept : {X : Type 0} (xs : List X) (n : ℕ) → take n (remove xs n) ≡ take n xs
 front_kept [] zero = refl
@@ -65,51 +60,22 @@ front_kept [] (suc n) = refl
 front_kept (x ∷ xs) zero = refl
 front_kept (x ∷ xs) (suc n) = ap (λ ys. x ∷ ys) (front_kept xs n)
 
-pub back_less : {X : Type 0} (xs : List X) (n : ℕ) → drop n (remove xs n) ≡ drop (suc n) xs
+back_less : {X : Type 0} (xs : List X) (n : ℕ) → drop n (remove xs n) ≡ drop (suc n) xs
 back_less [] zero = refl
 back_less [] (suc n) = refl
 back_less (x ∷ xs) zero = refl
 back_less (x ∷ xs) (suc n) = back_less xs n
 
-front_put : {X : Type 0} (xs : List X) (n : ℕ) (x : X) → n < length xs → take n (insert xs (suc n) x) ≡ take n xs
-front_put [] n x lt = absurd (omega (arith, lt))
-front_put (y ∷ xs) zero x lt = refl
-front_put (y ∷ xs) (suc n) x lt = ap (λ ys. y ∷ ys) (front_put xs n x (omega (arith, lt)))
-
-pub put_after : {X : Type 0} (xs : List X) (n : ℕ) (x : X) → n < length xs → take n (insert xs (n + 1) x) ≡ take n xs
-put_after xs n x lt = rw add-one (front_put xs n x lt)
-
-pub back_put : {X : Type 0} (xs : List X) (n : ℕ) (x : X) → n ≤ length xs → drop n (insert xs n x) ≡ x ∷ drop n xs
+back_put : {X : Type 0} (xs : List X) (n : ℕ) (x : X) → n ≤ length xs → drop n (insert xs n x) ≡ x ∷ drop n xs
 back_put [] zero x le = refl
 back_put [] (suc n) x le = absurd (omega (arith, le))
 back_put (y ∷ xs) zero x le = refl
 back_put (y ∷ xs) (suc n) x le = back_put xs n x (omega (arith, le))
 
-pub front_set : {X : Type 0} (xs : List X) (n : ℕ) (x : X) → take n (set xs n x) ≡ take n xs
-front_set [] zero x = refl
-front_set [] (suc n) x = refl
-front_set (y ∷ xs) zero x = refl
-front_set (y ∷ xs) (suc n) x = ap (λ ys. y ∷ ys) (front_set xs n x)
+from_get : {X : Type 0} (xs : List X) (n : ℕ) (x : X) → n < length xs → x ≡ get_or xs n x → drop n xs ≡ x ∷ drop (suc n) xs
+from_get xs n x lt e = drop-cons xs n x lt ∙ ap (λ y. y ∷ drop (suc n) xs) (sym e)
 
-past_set : {X : Type 0} (xs : List X) (n : ℕ) (x : X) → drop (suc n) (set xs n x) ≡ drop (suc n) xs
-past_set [] zero x = refl
-past_set [] (suc n) x = refl
-past_set (y ∷ xs) zero x = refl
-past_set (y ∷ xs) (suc n) x = past_set xs n x
-
-pub back_set : {X : Type 0} (xs : List X) (n : ℕ) (x : X) → drop (n + 1) (set xs n x) ≡ drop (n + 1) xs
-back_set xs n x = rw add-one (past_set xs n x)
-
-pub from_set : {X : Type 0} (xs : List X) (n : ℕ) (x : X) → n < length xs → drop n (set xs n x) ≡ x ∷ drop (suc n) xs
-from_set [] n x lt = absurd (omega (arith, lt))
-from_set (y ∷ xs) zero x lt = refl
-from_set (y ∷ xs) (suc n) x lt = from_set xs n x (omega (arith, lt))
-
-pub from_get : {X : Type 0} (xs : List X) (n : ℕ) (x : X) → n < length xs → x ≡ get_or xs n x → drop n xs ≡ x ∷ drop (suc n) xs
-from_get [] n x lt e = absurd (omega (arith, lt))
-from_get (y ∷ xs) zero x lt e = ap (λ z. z ∷ xs) (sym e)
-from_get (y ∷ xs) (suc n) x lt e = from_get xs n x (omega (arith, lt)) e
-
+-- what is taken off behind the place
 pub back_taken : (xs ys : List ℕ) (n : ℕ) → n < length xs → drop n (remove xs n) ++ ys ≡ drop 1 (drop n xs ++ ys)
 back_taken [] ys n lt = absurd (omega (arith, lt))
 back_taken (x ∷ xs) ys zero lt = refl
@@ -146,7 +112,7 @@ back_past [] (suc n) x le = absurd (omega (arith, le))
 back_past (y ∷ xs) zero x le = refl
 back_past (y ∷ xs) (suc n) x le = back_past xs n x (omega (arith, le))
 
-pub put_behind : {X : Type 0} (xs : List X) (n : ℕ) (x : X) → n ≤ length xs → drop (n + 1 + 1) (insert xs n x) ≡ drop (n + 1) xs
+put_behind : {X : Type 0} (xs : List X) (n : ℕ) (x : X) → n ≤ length xs → drop (n + 1 + 1) (insert xs n x) ≡ drop (n + 1) xs
 put_behind xs n x le = rw (add-one, add-one) (back_past xs n x le)
 
 -- ---- blocks that are closed and opened
@@ -156,26 +122,20 @@ numbers-append [] ys = refl
 numbers-append (x ∷ xs) ys = ap (λ ns. x.items ++ ns) (numbers-append xs ys) ∙ sym (append_assoc x.items (numbers_of xs) (numbers_of ys))
 
 -- the last of some blocks
-pub numbers-push : (xs : List (Vec ℕ Global)) (x : Vec ℕ Global) → numbers_of (xs ++ x ∷ []) ≡ numbers_of xs ++ x.items
+numbers-push : (xs : List (Vec ℕ Global)) (x : Vec ℕ Global) → numbers_of (xs ++ x ∷ []) ≡ numbers_of xs ++ x.items
 numbers-push xs x = numbers-append xs (x ∷ []) ∙ ap (λ ns. numbers_of xs ++ ns) (append-nil x.items)
 
-pub some_cons : (block : Vec ℕ Global) (rest : List (Vec ℕ Global)) → 0 < length block.items → AreSome rest → AreSome (block ∷ rest)
+some_cons : (block : Vec ℕ Global) (rest : List (Vec ℕ Global)) → 0 < length block.items → AreSome rest → AreSome (block ∷ rest)
 some_cons block rest one all = All-cons (λ (b : Vec ℕ Global). 0 < length b.items) block rest one all
 
-pub some_head : (block : Vec ℕ Global) (rest : List (Vec ℕ Global)) → AreSome (block ∷ rest) → 0 < length block.items
+some_head : (block : Vec ℕ Global) (rest : List (Vec ℕ Global)) → AreSome (block ∷ rest) → 0 < length block.items
 some_head block rest all = All-head (λ (b : Vec ℕ Global). 0 < length b.items) block rest all
 
-pub some_tail : (block : Vec ℕ Global) (rest : List (Vec ℕ Global)) → AreSome (block ∷ rest) → AreSome rest
+some_tail : (block : Vec ℕ Global) (rest : List (Vec ℕ Global)) → AreSome (block ∷ rest) → AreSome rest
 some_tail block rest all = All-tail (λ (b : Vec ℕ Global). 0 < length b.items) block rest all
 
-pub some_append : (xs ys : List (Vec ℕ Global)) → AreSome xs → AreSome ys → AreSome (xs ++ ys)
+some_append : (xs ys : List (Vec ℕ Global)) → AreSome xs → AreSome ys → AreSome (xs ++ ys)
 some_append xs ys one other = All-append (λ (b : Vec ℕ Global). 0 < length b.items) xs ys one other
-
-pub some_take : (xs : List (Vec ℕ Global)) (n : ℕ) → AreSome xs → AreSome (take n xs)
-some_take xs n all = All-take (λ (b : Vec ℕ Global). 0 < length b.items) n xs all
-
-pub some_drop : (xs : List (Vec ℕ Global)) (n : ℕ) → AreSome xs → AreSome (drop n xs)
-some_drop xs n all = All-drop (λ (b : Vec ℕ Global). 0 < length b.items) n xs all
 
 -- a block gets its place
 pub closed_numbers : (old new : List (Vec ℕ Global)) (n : ℕ) (block : Vec ℕ Global) → n < length old → new ≡ set old n block → numbers_of new ≡ numbers_of (take n old) ++ (block.items ++ numbers_of (drop (n + 1) old))
@@ -189,19 +149,10 @@ closed_some old new n block lt e one before behind =
 pub gone_numbers : (old : List (Vec ℕ Global)) (n : ℕ) (items : List ℕ) → items ≡ [] → numbers_of (remove old n) ≡ numbers_of (take n old) ++ (items ++ numbers_of (drop (n + 1) old))
 gone_numbers old n items e = rw (e, add-one) (numbers-append (take n old) (drop (suc n) old))
 
-pub gone_some : (old : List (Vec ℕ Global)) (n : ℕ) → AreSome (take n old) → AreSome (drop (n + 1) old) → AreSome (remove old n)
-gone_some old n before behind = some_append (take n old) (drop (suc n) old) before (rw add-one at behind)
-
 -- a block is taken from its place
 pub lifted_numbers : (old new : List (Vec ℕ Global)) (n : ℕ) (block other : Vec ℕ Global) → n < length old → block ≡ get_or old n block → new ≡ set old n other → numbers_of (take n new) ++ (block.items ++ numbers_of (drop (n + 1) new)) ≡ numbers_of old
 lifted_numbers old new n block other lt is e =
-    rw (e, front_set, back_set, add-one) (sym (ap numbers_of (sym (take-append-drop n old) ∙ ap (λ bs. take n old ++ bs) (from_get old n block lt is)) ∙ numbers-append (take n old) (block ∷ drop (suc n) old)))
-
-pub lifted_before : (old new : List (Vec ℕ Global)) (n : ℕ) (other : Vec ℕ Global) → new ≡ set old n other → AreSome old → AreSome (take n new)
-lifted_before old new n other e all = rw (e, front_set) (some_take old n all)
-
-pub lifted_behind : (old new : List (Vec ℕ Global)) (n : ℕ) (other : Vec ℕ Global) → new ≡ set old n other → AreSome old → AreSome (drop (n + 1) new)
-lifted_behind old new n other e all = rw (e, back_set) (some_drop old (n + 1) all)
+    rw (e, take-set, drop-set-lt (n + 1) old n other (omega arith), add-one) (sym (ap numbers_of (sym (take-append-drop n old) ∙ ap (λ bs. take n old ++ bs) (from_get old n block lt is)) ∙ numbers-append (take n old) (block ∷ drop (suc n) old)))
 
 -- ---- the first number of a block that isn't open
 
@@ -212,35 +163,13 @@ first_is blocks n block all lt is =
     let one = some_head block (drop (suc n) blocks) (subst AreSome split all) in
     ap (λ bs. slice_get (numbers_of bs) 0) split ∙ first_kept block.items (numbers_of (drop (suc n) blocks)) one
 
--- it is taken off
-off_front : (xs ys : List ℕ) → 0 < length xs → drop 1 xs ++ ys ≡ drop 1 (xs ++ ys)
-off_front [] ys one = absurd (omega (arith, one))
-off_front (x ∷ xs) ys one = refl
-
+-- it is taken off, and is the only one
 off_one : (xs ys : List ℕ) → length xs ≡ 1 → ys ≡ drop 1 (xs ++ ys)
 off_one [] ys one = absurd (omega (arith, one))
 off_one (x ∷ []) ys one = refl
 off_one (x ∷ (y ∷ xs)) ys one = absurd (omega (arith, one))
 
-pub less_numbers : (old new : List (Vec ℕ Global)) (n : ℕ) (block less : Vec ℕ Global) → n < length old → block ≡ get_or old n block → new ≡ set old n less → less.items ≡ remove block.items 0 → 1 < length block.items → numbers_of (drop n new) ≡ drop 1 (numbers_of (drop n old))
-less_numbers old new n block less lt is e f two =
-    ap numbers_of (ap (drop n) e ∙ from_set old n less lt) ∙
-    ap (λ xs. xs ++ numbers_of (drop (suc n) old)) (f ∙ off_first block.items (omega (arith, two))) ∙
-    off_front block.items (numbers_of (drop (suc n) old)) (omega (arith, two)) ∙
-    ap (λ bs. drop 1 (numbers_of bs)) (sym (from_get old n block lt is))
-
-some_off : (xs : List ℕ) → 1 < length xs → 0 < length (drop 1 xs)
-some_off [] two = absurd (omega (arith, two))
-some_off (x ∷ []) two = absurd (omega (arith, two))
-some_off (x ∷ (y ∷ xs)) two = omega arith
-
-pub less_some : (old new : List (Vec ℕ Global)) (n : ℕ) (block less : Vec ℕ Global) → n < length old → block ≡ get_or old n block → new ≡ set old n less → less.items ≡ remove block.items 0 → 1 < length block.items → AreSome (drop n old) → AreSome (drop n new)
-less_some old new n block less lt is e f two all =
-    subst AreSome (sym (ap (drop n) e ∙ from_set old n less lt))
-    (some_cons less (drop (suc n) old) (subst (λ (xs : List ℕ). 0 < length xs) (sym (f ∙ off_first block.items (omega (arith, two)))) (some_off block.items two))
-    (some_tail block (drop (suc n) old) (subst AreSome (from_get old n block lt is) all)))
-
--- or with it the block, where it holds no other
+-- with it goes the block, where it holds no other
 pub one_less_numbers : (old : List (Vec ℕ Global)) (n : ℕ) (block : Vec ℕ Global) → n < length old → block ≡ get_or old n block → length block.items ≤ 1 → AreSome (drop n old) → numbers_of (drop n (remove old n)) ≡ drop 1 (numbers_of (drop n old))
 one_less_numbers old n block lt is le all =
     let split = from_get old n block lt is in
@@ -248,21 +177,12 @@ one_less_numbers old n block lt is le all =
     ap numbers_of (back_less old n) ∙ off_one block.items (numbers_of (drop (suc n) old)) (omega (arith, le, one)) ∙
     ap (λ bs. drop 1 (numbers_of bs)) (sym split)
 
+-- none of those behind a block that is taken off is empty
 pub rest_some : (old : List (Vec ℕ Global)) (n : ℕ) → AreSome (drop n old) → AreSome (drop n (remove old n))
-rest_some old n all = go old n all
-  where
-    go : (xs : List (Vec ℕ Global)) (k : ℕ) → AreSome (drop k xs) → AreSome (drop k (remove xs k))
-    go [] zero is = is
-    go [] (suc k) is = is
-    go (x ∷ xs) zero is = some_tail x xs is
-    go (x ∷ xs) (suc k) is = go xs k is
-
--- ---- a block is joined to the open one before it
-pub joined_numbers : (old : List (Vec ℕ Global)) (n : ℕ) (block : Vec ℕ Global) (items : List ℕ) → n < length old → block ≡ get_or old n block → (items ++ block.items) ++ numbers_of (drop n (remove old n)) ≡ items ++ numbers_of (drop n old)
-joined_numbers old n block items lt is =
-    append_assoc items block.items (numbers_of (drop n (remove old n))) ∙
-    ap (λ bs. items ++ (block.items ++ numbers_of bs)) (back_less old n) ∙
-    ap (λ bs. items ++ numbers_of bs) (sym (from_get old n block lt is))
+rest_some [] zero all = all
+rest_some [] (suc n) all = all
+rest_some (block ∷ rest) zero all = some_tail block rest all
+rest_some (block ∷ rest) (suc n) all = rest_some rest n all
 
 -- ---- the open block
 
@@ -297,16 +217,16 @@ pub behind_is : (behind none read items : List ℕ) (half : ℕ) → behind ≡ 
 behind_is behind none read items half e f g = e ∙ ap (λ xs. xs ++ take (length read - half) (drop half read)) f ∙ take_rest read half ∙ ap (drop half) g
 
 -- the block is parted behind the place
-pub parted_behind : (items : List ℕ) (place half : ℕ) → place ≤ half → half ≤ length items → drop place (take half items) ++ drop half items ≡ drop place items
+parted_behind : (items : List ℕ) (place half : ℕ) → place ≤ half → half ≤ length items → drop place (take half items) ++ drop half items ≡ drop place items
 parted_behind items place half le within =
     sym (drop-append-le place (take half items) (drop half items) (omega (arith, le, within, length-take half items))) ∙ ap (drop place) (take-append-drop half items)
 
 -- or before it
-pub parted_before : (items : List ℕ) (place half : ℕ) → half ≤ place → take half items ++ take (place - half) (drop half items) ≡ take place items
+parted_before : (items : List ℕ) (place half : ℕ) → half ≤ place → take half items ++ take (place - half) (drop half items) ≡ take place items
 parted_before items place half le =
     sym (take-add half (place - half) items) ∙ ap (λ n. take n items) (let one : half + (place - half) ≡ place = omega (arith, le) in one)
 
-pub parted_later : (items : List ℕ) (place half : ℕ) → half ≤ place → drop (place - half) (drop half items) ≡ drop place items
+parted_later : (items : List ℕ) (place half : ℕ) → half ≤ place → drop (place - half) (drop half items) ≡ drop place items
 parted_later items place half le = drop-drop (place - half) half items ∙ ap (λ n. drop n items) (let one : half + (place - half) ≡ place = omega (arith, le) in one)
 
 -- the place stays in the block, and what was parted off stands behind it

@@ -1,4 +1,4 @@
-use Rattle.std.proofs.Common.{◌≡◌, ◌≤◌, ◌<◌, ◌/◌, length, take, drop, length-take, length-drop, sym, ap, ◌∙◌, arith}
+use Rattle.std.proofs.Common.{◌≤◌, ◌<◌, ◌/◌, length, length-take, length-drop, ap, ◌∙◌, arith}
 use Rattle.tl_check_active.proofs.Numbers.{parted_back, before_front, before_back, before_some, behind_some}
 use Rattle.tl_check_active.proofs.line.Line.part.Goals as goal
 
@@ -31,11 +31,12 @@ invariant_of-self-2 c =
     let new_count = c.insert-2.new.self.ok in
     let inner = c.self.invariant.0 in
     let within = c.keep_place.ensures.most in
-    let some : 0 < length before.items = omega (arith, left, taken, full, len) in
-    ( omega (arith, long, dropped, inner),
+    let some : 0 < length before.items = omega (arith, left, taken, full, len) in (
+      omega (arith, long, dropped, inner),
       omega (arith, within, more, count, new_count),
       before_some old kept _ opened before within c.keep_place.ensures.before c.in_ok-insert-2.ensures.items some c.self.invariant.2,
-      behind_some old kept _ opened before within c.keep_place.ensures.behind c.in_ok-insert-2.ensures.items c.self.invariant.3 )
+      behind_some old kept _ opened before within c.keep_place.ensures.behind c.in_ok-insert-2.ensures.items c.self.invariant.3,
+    )
 
 pub returns-clause-front : goal.returns-clause-front
 returns-clause-front c =
