@@ -1,6 +1,6 @@
-//! Blocks of numbers from west to east, of which one is open. Its numbers are kept apart from the others, and what stands in its
-//! place among the blocks doesn't count. None of the others is empty, and small ones are joined.
-ghost use Rattle.std.specs.Prelude.{◌≡◌, ◌≢◌, ◌++◌, ◌+◌, ◌<◌, ◌≤◌, length, slice_get, take, drop, IfOk, IsTrue, IsFalse};
+//! Blocks of numbers from west to east, of which one is open. Its numbers are kept apart from the others, and what stands
+//! in its place among the blocks doesn't count. None of the others is empty, and small ones are joined.
+ghost use Rattle.std.specs.Prelude.{◌≡◌, ◌++◌, ◌+◌, ◌<◌, ◌≤◌, length, slice_get, take, drop, IfOk, IsTrue, IsFalse};
 ghost use Rattle.tl_check_active.specs.Keeping.Blocks.{numbers_of, AreSome};
 ghost use Rattle.tl_check_active.specs.Lined.{last_of};
 
@@ -63,15 +63,15 @@ pub fn keep_place(alloc: Global, blocks: &mut Vec<Vec<u32>>, place: usize) -> Re
     Ok(())
 }
 
-/// Closes the open block: its numbers get their place among the others or, where there are none, this place goes. Tells whether it
-/// is gone.
+/// Closes the open block: its numbers get their place among the others or, where there are none, this place goes. Tells
+/// whether it is gone.
 pub fn close(blocks: &mut Vec<Vec<u32>>, items: &mut Vec<u32>, place: usize) -> bool
     requires within { place < length blocks.old.items }
     requires before { AreSome (take place blocks.old.items) }
     requires behind { AreSome (drop (place + 1) blocks.old.items) }
     ensures some { AreSome blocks.new.items }
-    ensures numbers { numbers_of blocks.new.items ≡
-        numbers_of (take place blocks.old.items) ++ (items.old.items ++ numbers_of (drop (place + 1) blocks.old.items)) }
+    ensures numbers { numbers_of blocks.new.items ≡ numbers_of (take place blocks.old.items) ++
+        (items.old.items ++ numbers_of (drop (place + 1) blocks.old.items)) }
     ensures gone { IsTrue result → length blocks.new.items + 1 ≡ length blocks.old.items }
     ensures stays { IsFalse result → length blocks.new.items ≡ length blocks.old.items }
 {
@@ -90,8 +90,8 @@ pub fn lift(blocks: &mut Vec<Vec<u32>>, items: &mut Vec<u32>, place: usize)
     ensures within { place < length blocks.new.items }
     ensures before { AreSome (take place blocks.new.items) }
     ensures behind { AreSome (drop (place + 1) blocks.new.items) }
-    ensures numbers { numbers_of (take place blocks.new.items) ++ (items.new.items ++ numbers_of (drop (place + 1) blocks.new.items)) ≡
-        numbers_of blocks.old.items }
+    ensures numbers { numbers_of (take place blocks.new.items) ++
+        (items.new.items ++ numbers_of (drop (place + 1) blocks.new.items)) ≡ numbers_of blocks.old.items }
 {
     mem::swap(items, &mut blocks[place]);
 }

@@ -10,7 +10,7 @@ use tl_geom::{Point, Segment};
 use tl_map_county::Map;
 
 /// How many steps are taken at most from the open block on, each eight times as long as the one before.
-const LONGEST: u32 = 10;
+const STEPS: u32 = 10;
 
 /// Whether a point lies strictly east of a segment.
 fn is_east(map: &Map, s: Option<u32>, p: Point) -> bool {
@@ -46,7 +46,8 @@ fn offset(from: i32, to: i32) -> i64 {
     i64::from(to) - i64::from(from)
 }
 
-/// The first of these blocks that doesn't begin west of a point, or the number behind them all. The open one isn't among them.
+/// The first of these blocks that doesn't begin west of a point, or the number behind them all. The open one isn't among
+/// them.
 fn search(map: &Map, line: &Line, from: usize, to: usize, p: Point) -> usize {
     let mut low = from;
     let mut high = to;
@@ -61,12 +62,12 @@ fn search(map: &Map, line: &Line, from: usize, to: usize, p: Point) -> usize {
     low
 }
 
-/// The first block east of the open one that doesn't begin west of a point. The next block is asked, the eighth, and so on by steps
-/// that grow, so that a place nearby is found by few looks.
+/// The first block east of the open one that doesn't begin west of a point. The next block is asked, the eighth, and so on
+/// by steps that grow, so that a place nearby is found by few looks.
 fn begin_east(map: &Map, line: &Line, p: Point) -> usize {
     let open = line.opened();
     let mut low = open.saturating_add(1);
-    for power in 0..LONGEST {
+    for power in 0..STEPS {
         let there = open.saturating_add(1 << (3 * power));
         if !is_east(map, line.first(there), p) {
             return search(map, line, low, there.min(line.blocks()), p);
@@ -76,11 +77,12 @@ fn begin_east(map: &Map, line: &Line, p: Point) -> usize {
     low
 }
 
-/// The first block west of the open one that doesn't begin west of a point, or else the open one.
+/// The first block west of the open one that doesn't begin west of a point, or else the open one. Blocks are asked by the
+/// same steps.
 fn begin_west(map: &Map, line: &Line, p: Point) -> usize {
     let open = line.opened();
     let mut high = open;
-    for power in 0..LONGEST {
+    for power in 0..STEPS {
         let Some(there) = open.checked_sub(1 << (3 * power)) else {
             break;
         };

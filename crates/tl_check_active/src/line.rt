@@ -13,12 +13,13 @@ const MOST: usize = 512;
 /// How far before the place where a number is expected it is looked for first.
 const REACH: usize = 32;
 
-/// The numbers of segments from west to east, and a place among them. They stand in blocks, so that what is put in and what is
-/// taken off moves few of them, and the block of a place is found by the first numbers of blocks. To open a block moves none.
+/// The numbers of segments from west to east, and a place among them. They stand in blocks, so that what is put in and what
+/// is taken off moves few of them. The block of a place is found by the blocks' first numbers, and to open it moves none.
 #[derive(Drop)]
 pub struct Line {
     alloc: Global,
-    /// The blocks from west to east. What stands in the place of the open one doesn't count.
+    /// The blocks from west to east. What stands in the place of the open one doesn't count, nor has it a place where there
+    /// has been no other.
     blocks: Vec<Vec<u32>>,
     /// The number of the open block, the one that the place is in.
     opened: usize,
@@ -74,7 +75,7 @@ impl Line {
         }
     }
 
-    /// How many blocks there are, or none where the open one is the only one that there was.
+    /// How many blocks there are. The open one isn't counted where there has been no other.
     pub(crate) fn blocks(&self) -> usize {
         self.blocks.len()
     }

@@ -1,4 +1,4 @@
--- The blocks that the list of active segments stands in. One of them is open: what stands in its place among them doesn't count.
+-- The blocks that the list of active segments stands in. One is open, and what stands in its place among them doesn't count.
 use Rattle.std.specs.Prelude.{ℕ, ◌<◌, List, [], ◌∷◌, ◌++◌, length, All, Vec}
 use Rattle.std.specs.Global.{Global}
 
