@@ -4,9 +4,9 @@
 usage: long.py FOLDER CHAINS --comb|--lines|--bends|--star|--squares|--spiral [--mirrored] [--turned] [--crossed] [--exchanged]
                [--misplaced] [--street]
 
---comb: slanted lines side by side. --lines: lines of three segments, nearly level. --bends: lines with eight bends each, at
-heights that no other line has bends at. --star: spokes about one node, and its
-rim, with a polygon between each two spokes. --squares: squares in squares, a polygon between each two. --spiral: one line
+--comb: slanted lines side by side. --lines: lines of three segments, nearly level. --bends: upright lines, each with eight
+bends at heights of its own, so that a sweep goes to and fro in its list. --star: spokes about one node, and its rim, with a
+polygon between each two spokes. --squares: squares in squares, a polygon between each two. --spiral: one line
 round and round, cut into chains of 9,991 segments; CHAINS is the number of its segments. In all of them the rectangles of
 most segments meet, or a point lies within most rings. The map is sound, also as it is seen in a mirror, and turned by a
 quarter; with --crossed one chain more crosses the first segment, so that it isn't. With --exchanged, of a star or of squares,
@@ -43,11 +43,10 @@ def lines(rng, count):
 
 
 def bends(rng, count):
-    step = max(4, 2 * FAR // (count + 1))
+    step = max(4, min(1_000, 2 * FAR // count))
     for line in range(count):
-        x = line * step - FAR
         heights = sorted(rng.sample(range(1 - FAR, FAR), 8))
-        yield [(x, -FAR), *((x + rng.randrange(step // 2), height) for height in heights), (x, FAR)], None, None
+        yield [(line * step - FAR + rng.randrange(step // 2), height) for height in (-FAR, *heights, FAR)], None, None
 
 
 def star(rng, count):

@@ -5,7 +5,7 @@ pub mod Tests
 pub mod West
 pub mod Beside
 pub mod Lining
-pub mod Stacked
+pub mod Numbers
 pub mod Listing
 pub mod Joining
 pub mod Meeting

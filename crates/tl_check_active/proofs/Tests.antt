@@ -10,7 +10,7 @@ use Rattle.tl_geom.specs.declared.segment.Segment.{Segment}
 use Rattle.tl_geom.specs.Plane.{turn_of, IsSame, whole}
 use Rattle.tl_map_county.specs.TheMap.{MapChain}
 use Rattle.tl_check_planar.proofs.Numbering.{HaveSameEnds}
-use Rattle.tl_check_planar.specs.ByHeight.Heights.{height, widest, low_end, high_end}
+use Rattle.tl_check_planar.specs.ByHeight.Heights.{height, low_end, high_end}
 use Rattle.tl_check_planar.specs.ByHeight.Neighbours.{IsNumbered, IsWestOf, AreApartOrAtEnds, AreTested}
 use Rattle.tl_check_planar.proofs.ByHeight.Numbered.{one_segment, on_same}
 

@@ -1,93 +1,19 @@
-//! Stacks of blocks of numbers. None of their blocks is empty, and small ones are joined.
-ghost use Rattle.std.specs.Prelude.{◌≡◌, ◌++◌, ◌<◌, length, slice_get, IfOk, drop};
-ghost use Rattle.tl_check_active.specs.Keeping.Blocks.{from_west, from_east, AreSome};
+//! Blocks of numbers from west to east, of which one is open. Its numbers are kept apart from the others, and what stands
+//! in its place among the blocks doesn't count. None of the others is empty, and small ones are joined.
+ghost use Rattle.std.specs.Prelude.{◌≡◌, ◌++◌, ◌+◌, ◌<◌, ◌≤◌, length, slice_get, take, drop, IfOk, IsTrue, IsFalse};
+ghost use Rattle.tl_check_active.specs.Keeping.Blocks.{numbers_of, AreSome};
 ghost use Rattle.tl_check_active.specs.Lined.{last_of};
 
-use std::alloc::AllocError;
+use std::alloc::{AllocError, Global};
+use std::mem;
 
 /// How many numbers two blocks have at most that are joined to one.
 const JOINED: usize = 256;
 
-/// Whether a block is to be joined to the last one of a stack.
-fn are_small(blocks: &[Vec<u32>], block: &[u32]) -> bool {
-    match blocks.last() {
-        Some(last) => last.len() < JOINED && block.len() < JOINED - last.len(),
-        None => false,
-    }
-}
-
-/// Joins a block to the last one of a stack that begins in the west, which is taken off, or leaves both where they are too long
-/// to be joined. Gives what is to be put on the stack.
-fn join_west(blocks: &mut Vec<Vec<u32>>, block: Vec<u32>) -> Result<Vec<u32>, AllocError>
-    requires { AreSome blocks.old.items }
-    ensures some { AreSome blocks.new.items }
-    ensures numbers { IfOk result (λ top. from_west blocks.new.items ++ top.items ≡ from_west blocks.old.items ++ block.items) }
-    ensures filled { IfOk result (λ top. 0 < length block.items → 0 < length top.items) }
-{
-    if !are_small(blocks, &block) {
-        return Ok(block);
-    }
-    match blocks.pop() {
-        Some(mut last) => {
-            last.extend_from_slice(&block)?;
-            Ok(last)
-        }
-        None => Ok(block),
-    }
-}
-
-/// Puts a block on a stack that begins in the west.
-pub fn stack_west(blocks: &mut Vec<Vec<u32>>, block: Vec<u32>) -> Result<(), AllocError>
-    requires { AreSome blocks.old.items }
-    ensures some { AreSome blocks.new.items }
-    ensures numbers { IfOk result (λ done. from_west blocks.new.items ≡ from_west blocks.old.items ++ block.items) }
-{
-    if block.is_empty() {
-        return Ok(());
-    }
-    let top = join_west(blocks, block)?;
-    blocks.push(top)?;
-    Ok(())
-}
-
-/// Joins a block to the last one of a stack that begins in the east, as in the west.
-fn join_east(blocks: &mut Vec<Vec<u32>>, block: Vec<u32>) -> Result<Vec<u32>, AllocError>
-    requires { AreSome blocks.old.items }
-    ensures some { AreSome blocks.new.items }
-    ensures numbers { IfOk result (λ top. top.items ++ from_east blocks.new.items ≡ block.items ++ from_east blocks.old.items) }
-    ensures filled { IfOk result (λ top. 0 < length block.items → 0 < length top.items) }
-{
-    if !are_small(blocks, &block) {
-        return Ok(block);
-    }
-    match blocks.pop() {
-        Some(last) => {
-            let mut joined = block;
-            joined.extend_from_slice(&last)?;
-            Ok(joined)
-        }
-        None => Ok(block),
-    }
-}
-
-/// Puts a block on a stack that begins in the east.
-pub fn stack_east(blocks: &mut Vec<Vec<u32>>, block: Vec<u32>) -> Result<(), AllocError>
-    requires { AreSome blocks.old.items }
-    ensures some { AreSome blocks.new.items }
-    ensures numbers { IfOk result (λ done. from_east blocks.new.items ≡ block.items ++ from_east blocks.old.items) }
-{
-    if block.is_empty() {
-        return Ok(());
-    }
-    let top = join_east(blocks, block)?;
-    blocks.push(top)?;
-    Ok(())
-}
-
-/// The last number of a stack that begins in the west.
-pub fn last_west(blocks: &[Vec<u32>]) -> Option<u32>
+/// The last number of blocks.
+pub fn last_number(blocks: &[Vec<u32>]) -> Option<u32>
     requires { AreSome blocks.now }
-    ensures { result ≡ last_of (from_west blocks.now) }
+    ensures { result ≡ last_of (numbers_of blocks.now) }
 {
     match blocks.last() {
         Some(block) => block.last().copied(),
@@ -95,28 +21,103 @@ pub fn last_west(blocks: &[Vec<u32>]) -> Option<u32>
     }
 }
 
-/// The first number of a stack that begins in the east.
-pub fn first_east(blocks: &[Vec<u32>]) -> Option<u32>
-    requires { AreSome blocks.now }
-    ensures { result ≡ slice_get (from_east blocks.now) 0 }
+/// The first number of the blocks from one on.
+pub fn first_number(blocks: &[Vec<u32>], next: usize) -> Option<u32>
+    requires { AreSome (drop next blocks.now) }
+    ensures { result ≡ slice_get (numbers_of (drop next blocks.now)) 0 }
 {
-    match blocks.last() {
+    match blocks.get(next) {
         Some(block) => block.first().copied(),
         None => None,
     }
 }
 
-/// Takes the first number off a stack that begins in the east.
-pub fn take_east(blocks: &mut Vec<Vec<u32>>) -> Result<(), AllocError>
-    requires some { AreSome blocks.old.items }
-    ensures some { AreSome blocks.new.items }
-    ensures numbers { IfOk result (λ done. from_east blocks.new.items ≡ drop 1 (from_east blocks.old.items)) }
+/// Takes off the first number of the blocks from one on, if there is one.
+pub fn take_first(blocks: &mut Vec<Vec<u32>>, next: usize)
+    requires some { AreSome (drop next blocks.old.items) }
+    ensures some { AreSome (drop next blocks.new.items) }
+    ensures before { take next blocks.new.items ≡ take next blocks.old.items }
+    ensures numbers { numbers_of (drop next blocks.new.items) ≡ drop 1 (numbers_of (drop next blocks.old.items)) }
 {
-    if let Some(mut block) = blocks.pop() {
-        if block.len() > 1 {
-            block.remove(0);
-            blocks.push(block)?;
-        }
+    if next >= blocks.len() {
+        return;
+    }
+    if blocks[next].len() > 1 {
+        blocks[next].remove(0);
+    } else {
+        blocks.remove(next);
+    }
+}
+
+/// Keeps a place for the open block among the others, where it has none. That is so while it is the only one.
+pub fn keep_place(alloc: Global, blocks: &mut Vec<Vec<u32>>, place: usize) -> Result<(), AllocError>
+    requires { place ≤ length blocks.old.items }
+    ensures within { IfOk result (λ done. place < length blocks.new.items) }
+    ensures most { place ≤ length blocks.new.items }
+    ensures before { take place blocks.new.items ≡ take place blocks.old.items }
+    ensures behind { drop (place + 1) blocks.new.items ≡ drop (place + 1) blocks.old.items }
+{
+    if blocks.len() <= place {
+        blocks.push(Vec::new(alloc))?;
+    }
+    Ok(())
+}
+
+/// Closes the open block: its numbers get their place among the others or, where there are none, this place goes. Tells
+/// whether it is gone.
+pub fn close(blocks: &mut Vec<Vec<u32>>, items: &mut Vec<u32>, place: usize) -> bool
+    requires within { place < length blocks.old.items }
+    requires before { AreSome (take place blocks.old.items) }
+    requires behind { AreSome (drop (place + 1) blocks.old.items) }
+    ensures some { AreSome blocks.new.items }
+    ensures numbers { numbers_of blocks.new.items ≡ numbers_of (take place blocks.old.items) ++
+        (items.old.items ++ numbers_of (drop (place + 1) blocks.old.items)) }
+    ensures gone { IsTrue result → length blocks.new.items + 1 ≡ length blocks.old.items }
+    ensures stays { IsFalse result → length blocks.new.items ≡ length blocks.old.items }
+{
+    if items.is_empty() {
+        blocks.remove(place);
+        return true;
+    }
+    mem::swap(items, &mut blocks[place]);
+    false
+}
+
+/// Opens the block in this place, where all are closed.
+pub fn lift(blocks: &mut Vec<Vec<u32>>, items: &mut Vec<u32>, place: usize)
+    requires within { place < length blocks.old.items }
+    requires some { AreSome blocks.old.items }
+    ensures within { place < length blocks.new.items }
+    ensures before { AreSome (take place blocks.new.items) }
+    ensures behind { AreSome (drop (place + 1) blocks.new.items) }
+    ensures numbers { numbers_of (take place blocks.new.items) ++
+        (items.new.items ++ numbers_of (drop (place + 1) blocks.new.items)) ≡ numbers_of blocks.old.items }
+{
+    mem::swap(items, &mut blocks[place]);
+}
+
+/// Whether a block is to be joined to the open one.
+fn are_small(blocks: &[Vec<u32>], items: &[u32], next: usize) -> bool
+    ensures { IsTrue result → next < length blocks.now }
+{
+    match blocks.get(next) {
+        Some(block) => block.len() < JOINED && items.len() < JOINED - block.len(),
+        None => false,
+    }
+}
+
+/// Joins the block behind the open one to it, if both are small.
+pub fn join(blocks: &mut Vec<Vec<u32>>, items: &mut Vec<u32>, next: usize) -> Result<(), AllocError>
+    requires some { AreSome (drop next blocks.old.items) }
+    ensures some { AreSome (drop next blocks.new.items) }
+    ensures before { take next blocks.new.items ≡ take next blocks.old.items }
+    ensures longer { length items.old.items ≤ length items.new.items }
+    ensures numbers { IfOk result (λ done. items.new.items ++ numbers_of (drop next blocks.new.items) ≡
+        items.old.items ++ numbers_of (drop next blocks.old.items)) }
+{
+    if are_small(blocks, items, next) {
+        let block = blocks.remove(next);
+        items.extend_from_slice(&block)?;
     }
     Ok(())
 }

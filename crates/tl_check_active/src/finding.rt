@@ -9,6 +9,9 @@ use std::alloc::AllocError;
 use tl_geom::{Point, Segment};
 use tl_map_county::Map;
 
+/// How many steps are taken at most from the open block on, each eight times as long as the one before.
+const STEPS: u32 = 10;
+
 /// Whether a point lies strictly east of a segment.
 fn is_east(map: &Map, s: Option<u32>, p: Point) -> bool {
     let Some(s) = s else {
@@ -43,13 +46,14 @@ fn offset(from: i32, to: i32) -> i64 {
     i64::from(to) - i64::from(from)
 }
 
-/// How many of the blocks west of the open one begin west of a point.
-fn begin_west(map: &Map, line: &Line, blocks: usize, p: Point) -> usize {
-    let mut low = 0;
-    let mut high = blocks;
+/// The first of these blocks that doesn't begin west of a point, or the number behind them all. The open one isn't among
+/// them.
+fn search(map: &Map, line: &Line, from: usize, to: usize, p: Point) -> usize {
+    let mut low = from;
+    let mut high = to;
     while low < high {
         let middle = low + (high - low) / 2;
-        if is_east(map, line.first_west(middle), p) {
+        if is_east(map, line.first(middle), p) {
             low = middle + 1;
         } else {
             high = middle;
@@ -58,62 +62,57 @@ fn begin_west(map: &Map, line: &Line, blocks: usize, p: Point) -> usize {
     low
 }
 
-/// How many of the blocks east of the open one don't begin west of a point.
-fn begin_east(map: &Map, line: &Line, blocks: usize, p: Point) -> usize {
-    let mut low = 0;
-    let mut high = blocks;
-    while low < high {
-        let middle = low + (high - low) / 2;
-        if is_east(map, line.first_east(middle), p) {
-            high = middle;
-        } else {
-            low = middle + 1;
+/// The first block east of the open one that doesn't begin west of a point. The next block is asked, the eighth, and so on
+/// by steps that grow, so that a place nearby is found by few looks.
+fn begin_east(map: &Map, line: &Line, p: Point) -> usize {
+    let open = line.opened();
+    let mut low = open.saturating_add(1);
+    for power in 0..STEPS {
+        let there = open.saturating_add(1 << (3 * power));
+        if !is_east(map, line.first(there), p) {
+            return search(map, line, low, there.min(line.blocks()), p);
         }
+        low = there.saturating_add(1);
     }
     low
 }
 
-/// Goes so many blocks to the west.
-fn go_west(line: &mut Line, blocks: usize) -> Result<(), AllocError>
-    ensures { IfOk result (λ done. list_of line.new ≡ list_of line.old) }
-{
-    for _block in 0..blocks {
-        line.step_west()?;
+/// The first block west of the open one that doesn't begin west of a point, or else the open one. Blocks are asked by the
+/// same steps.
+fn begin_west(map: &Map, line: &Line, p: Point) -> usize {
+    let open = line.opened();
+    let mut high = open;
+    for power in 0..STEPS {
+        let Some(there) = open.checked_sub(1 << (3 * power)) else {
+            break;
+        };
+        if is_east(map, line.first(there), p) {
+            return search(map, line, there + 1, high, p);
+        }
+        high = there;
     }
-    Ok(())
-}
-
-/// Goes so many blocks to the east.
-fn go_east(line: &mut Line, blocks: usize) -> Result<(), AllocError>
-    ensures { IfOk result (λ done. list_of line.new ≡ list_of line.old) }
-{
-    for _block in 0..blocks {
-        line.step_east()?;
-    }
-    Ok(())
+    search(map, line, 0, high, p)
 }
 
 /// Opens the last block that begins west of a point, or the first one.
 fn open(map: &Map, line: &mut Line, p: Point) -> Result<(), AllocError>
     ensures { IfOk result (λ done. list_of line.new ≡ list_of line.old) }
 {
-    let (west, east) = line.blocks();
-    if west == 0 && east == 0 {
+    if line.blocks() < 2 {
         return Ok(());
     }
-    // Where all that was in the open block has left it, what comes next is in the first block to the east.
+    // Where all that was in the open block has left it, what comes next is in the next block to the east.
     let first = if line.len() > 0 {
         line.at(0)
     } else {
         line.next()
     };
-    if is_east(map, first, p) {
-        let behind = begin_east(map, line, east, p);
-        go_east(line, east.saturating_sub(behind))
+    let behind = if is_east(map, first, p) {
+        begin_east(map, line, p)
     } else {
-        let before = begin_west(map, line, west, p);
-        go_west(line, west.saturating_sub(before.saturating_sub(1)))
-    }
+        begin_west(map, line, p)
+    };
+    line.open_block(behind.saturating_sub(1))
 }
 
 /// The place in the open block of the first segment that a point isn't east of.

@@ -1,9 +1,10 @@
 //! What a sweep from south to north goes by: the events at which it stops, and the list of the segments that are active there.
 //!
-//! [`Events`] are the ends of all segments by their heights, and [`gather`] tells which segments end and which begin at a point.
-//! [`Line`] is the list of active segments from west to east; [`shift`] takes what ends off it and puts in what begins, and tests
-//! each two that are neighbours for the first time. Neither the order of events nor the place in the list that is gone to is
-//! claimed to be right: `tl_check_sweep` tests the one, and the tests of neighbours tell whether the other was.
+//! [`Events`] are the ends of all segments by their heights, and [`gather`] tells which segments end and which begin at a
+//! point. [`Line`] is the list of active segments from west to east; [`shift`] takes what ends off it and puts in what
+//! begins, and tests each two that are neighbours for the first time. The list stands in blocks, by whose first segments the
+//! block of a place is found, so that few steps lead to any place. Neither the order of events nor the place in the list that
+//! is gone to is claimed to be right: `tl_check_sweep` tests the one, and the tests of neighbours tell whether the other was.
 #![tactic(auto)]
 
 mod blocks;

@@ -1,7 +1,7 @@
 //! The list of active segments, in blocks and parted at the place where the sweep is.
 ghost use Rattle.std.specs.Prelude.{◌≡◌, ◌≤◌, IfOk, IfErr, length, take, drop};
 
-use crate::blocks::{first_east, last_west, stack_east, stack_west, take_east};
+use crate::blocks::{close, first_number, join, keep_place, last_number, lift, take_first};
 use crate::search::find_first;
 use std::alloc::{AllocError, Global};
 use std::marker::Model;
@@ -13,34 +13,36 @@ const MOST: usize = 512;
 /// How far before the place where a number is expected it is looked for first.
 const REACH: usize = 32;
 
-/// The numbers of segments from west to east, and a place among them. They stand in blocks, so that what is put in, what is
-/// taken off and each way from place to place moves few of them.
+/// The numbers of segments from west to east, and a place among them. They stand in blocks, so that what is put in and what
+/// is taken off moves few of them. The block of a place is found by the blocks' first numbers, and to open it moves none.
 #[derive(Drop)]
 pub struct Line {
     alloc: Global,
-    /// The blocks west of the open one, from west to east.
-    west: Vec<Vec<u32>>,
-    /// The block that the place is in.
+    /// The blocks from west to east. What stands in the place of the open one doesn't count, nor has it a place where there
+    /// has been no other.
+    blocks: Vec<Vec<u32>>,
+    /// The number of the open block, the one that the place is in.
+    opened: usize,
+    /// The numbers of the open block.
     items: Vec<u32>,
     /// The place in the open block.
     place: usize,
-    /// The blocks east of the open one, from east to west.
-    east: Vec<Vec<u32>>,
 }
 
 impl Model for Line {
-    ghost use Rattle.std.specs.Prelude.{◌≤◌, ◌++◌, length, take, drop};
+    ghost use Rattle.std.specs.Prelude.{◌≤◌, ◌+◌, ◌++◌, length, take, drop};
     ghost use Rattle.tl_check_active.specs.Lined.{TheLine};
-    ghost use Rattle.tl_check_active.specs.Keeping.Blocks.{from_west, from_east, AreSome};
+    ghost use Rattle.tl_check_active.specs.Keeping.Blocks.{numbers_of, AreSome};
 
     ghost Value = { TheLine };
 
     ghost view = { λ l. record {
-      front = from_west l.west.items ++ take l.place l.items.items;
-      back = drop l.place l.items.items ++ from_east l.east.items;
+      front = numbers_of (take l.opened l.blocks.items) ++ take l.place l.items.items;
+      back = drop l.place l.items.items ++ numbers_of (drop (l.opened + 1) l.blocks.items);
     } };
 
-    ghost invariant = { λ l. (l.place ≤ length l.items.items) × AreSome l.west.items × AreSome l.east.items };
+    ghost invariant = { λ l. (l.place ≤ length l.items.items) × (l.opened ≤ length l.blocks.items) ×
+        AreSome (take l.opened l.blocks.items) × AreSome (drop (l.opened + 1) l.blocks.items) };
 }
 
 /// Takes the numbers from a place on off a block.
@@ -66,26 +68,26 @@ impl Line {
     {
         Line {
             alloc,
-            west: Vec::new(alloc),
+            blocks: Vec::new(alloc),
+            opened: 0,
             items: Vec::new(alloc),
             place: 0,
-            east: Vec::new(alloc),
         }
     }
 
-    /// How many blocks stand west of the open one, and how many east of it.
-    pub(crate) fn blocks(&self) -> (usize, usize) {
-        (self.west.len(), self.east.len())
+    /// How many blocks there are. The open one isn't counted where there has been no other.
+    pub(crate) fn blocks(&self) -> usize {
+        self.blocks.len()
     }
 
-    /// The first number of a block west of the open one, counted from the west.
-    pub(crate) fn first_west(&self, block: usize) -> Option<u32> {
-        self.west.get(block)?.first().copied()
+    /// The number of the open block.
+    pub(crate) fn opened(&self) -> usize {
+        self.opened
     }
 
-    /// The first number of a block east of the open one, counted from the east.
-    pub(crate) fn first_east(&self, block: usize) -> Option<u32> {
-        self.east.get(block)?.first().copied()
+    /// The first number of a block that isn't open.
+    pub(crate) fn first(&self, block: usize) -> Option<u32> {
+        self.blocks.get(block)?.first().copied()
     }
 
     /// How many numbers the open block holds.
@@ -125,28 +127,31 @@ impl Line {
         }
     }
 
-    /// Opens the next block to the west, if there is one.
-    pub(crate) fn step_west(&mut self) -> Result<(), AllocError>
+    /// Joins the next block to the open one, if both are small.
+    fn join_next(&mut self) -> Result<(), AllocError>
         ensures { IfOk result (λ done. list_of self.new ≡ list_of self.old) }
     {
-        if let Some(block) = self.west.pop() {
-            let block_before = mem::replace(&mut self.items, block);
-            self.place = 0;
-            stack_east(&mut self.east, block_before)?;
-        }
-        Ok(())
+        join(&mut self.blocks, &mut self.items, self.opened + 1)
     }
 
-    /// Opens the next block to the east, if there is one.
-    pub(crate) fn step_east(&mut self) -> Result<(), AllocError>
+    /// Opens a block, if there is one by this number.
+    pub(crate) fn open_block(&mut self, block: usize) -> Result<(), AllocError>
         ensures { IfOk result (λ done. list_of self.new ≡ list_of self.old) }
     {
-        if let Some(block) = self.east.pop() {
-            let block_before = mem::replace(&mut self.items, block);
-            self.place = 0;
-            stack_west(&mut self.west, block_before)?;
+        let last = self.opened;
+        keep_place(self.alloc, &mut self.blocks, last)?;
+        if block == last || block >= self.blocks.len() {
+            return Ok(());
         }
-        Ok(())
+        self.place = 0;
+        let gone = close(&mut self.blocks, &mut self.items, last);
+        self.opened = if gone && last < block {
+            block - 1
+        } else {
+            block
+        };
+        lift(&mut self.blocks, &mut self.items, self.opened);
+        self.join_next()
     }
 
     /// The first number behind the place.
@@ -156,7 +161,7 @@ impl Line {
         if self.place < self.items.len() {
             Some(self.items[self.place])
         } else {
-            first_east(&self.east)
+            first_number(&self.blocks, self.opened + 1)
         }
     }
 
@@ -167,36 +172,42 @@ impl Line {
         if self.place > 0 {
             Some(self.items[self.place - 1])
         } else {
-            last_west(&self.west)
+            last_number(&self.blocks[..self.opened])
         }
     }
 
     /// Takes off the first number behind the place, if there is one.
-    pub(crate) fn take(&mut self) -> Result<(), AllocError>
-        ensures front { IfOk result (λ done. self.new.front ≡ self.old.front) }
-        ensures back { IfOk result (λ done. self.new.back ≡ drop 1 self.old.back) }
+    pub(crate) fn take(&mut self)
+        ensures front { self.new.front ≡ self.old.front }
+        ensures back { self.new.back ≡ drop 1 self.old.back }
     {
         if self.place < self.items.len() {
             self.items.remove(self.place);
         } else {
-            take_east(&mut self.east)?;
+            take_first(&mut self.blocks, self.opened + 1);
         }
-        Ok(())
     }
 
-    /// Parts the open block in two.
+    /// Parts the open block in two, if it is full.
     fn part(&mut self) -> Result<(), AllocError>
         ensures front { IfOk result (λ done. self.new.front ≡ self.old.front) }
         ensures back { IfOk result (λ done. self.new.back ≡ self.old.back) }
     {
+        if self.items.len() < MOST {
+            return Ok(());
+        }
+        keep_place(self.alloc, &mut self.blocks, self.opened)?;
         let half = self.items.len() / 2;
         let behind = take_behind(self.alloc, &mut self.items, half)?;
         if self.place <= half {
-            return stack_east(&mut self.east, behind);
+            self.blocks.insert(self.opened + 1, behind)?;
+            return Ok(());
         }
         self.place -= half;
         let before = mem::replace(&mut self.items, behind);
-        stack_west(&mut self.west, before)
+        self.blocks.insert(self.opened, before)?;
+        self.opened += 1;
+        Ok(())
     }
 
     /// Puts a number in at the place in the open block, and goes behind it.
@@ -214,9 +225,7 @@ impl Line {
         ensures front { IfOk result (λ done. self.new.front ≡ self.old.front ++ s ∷ []) }
         ensures back { IfOk result (λ done. self.new.back ≡ self.old.back) }
     {
-        if self.items.len() >= MOST {
-            self.part()?;
-        }
+        self.part()?;
         self.put_open(s)
     }
 
@@ -230,7 +239,7 @@ impl Line {
             self.place += 1;
             return Ok(());
         }
-        self.take()?;
+        self.take();
         self.put(s)
     }
 }

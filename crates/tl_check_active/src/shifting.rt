@@ -11,17 +11,17 @@ use std::alloc::AllocError;
 use tl_map_county::Map;
 
 /// Takes these segments off the list behind the place, if they stand there in this order.
-fn leave(line: &mut Line, outs: &[u32]) -> Result<bool, AllocError>
-    ensures front { IfOk result (λ done. line.new.front ≡ line.old.front) }
-    ensures back { IfOk result (λ done. IsTrue done → line.old.back ≡ outs.now ++ line.new.back) }
+fn leave(line: &mut Line, outs: &[u32]) -> bool
+    ensures front { line.new.front ≡ line.old.front }
+    ensures back { IsTrue result → line.old.back ≡ outs.now ++ line.new.back }
 {
     for s in outs {
         if line.next() != Some(*s) {
-            return Ok(false);
+            return false;
         }
-        line.take()?;
+        line.take();
     }
-    Ok(true)
+    true
 }
 
 /// Whether two that are there may be neighbours.
@@ -117,7 +117,7 @@ pub fn shift(map: &Map, line: &mut Line, outs: &[u32], ins: &[u32]) -> Result<bo
     if !replace(map, line, replaced, replacing)? {
         return Ok(false);
     }
-    if !leave(line, gone)? {
+    if !leave(line, gone) {
         return Ok(false);
     }
     enter(map, line, more)

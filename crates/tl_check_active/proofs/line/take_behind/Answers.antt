@@ -1,5 +1,5 @@
 use Rattle.std.proofs.lemmas.Result.{err_from_is_err_and}
-use Rattle.tl_check_active.proofs.Stacked.{behind_is}
+use Rattle.tl_check_active.proofs.Numbers.{behind_is}
 use Rattle.tl_check_active.proofs.line.take_behind.Goals as goal
 
 pub returns-clause-behind : goal.returns-clause-behind

@@ -11,15 +11,6 @@ returns-then-not-branch-clause-back c = λ h. never h
 pub returns-then-not-branch-clause-tested : goal.returns-then-not-branch-clause-tested
 returns-then-not-branch-clause-tested c = λ h. never h
 
-pub returns-then-not-branch-2-clause-front : goal.returns-then-not-branch-2-clause-front
-returns-then-not-branch-2-clause-front c = λ h. never h
-
-pub returns-then-not-branch-2-clause-back : goal.returns-then-not-branch-2-clause-back
-returns-then-not-branch-2-clause-back c = λ h. never h
-
-pub returns-then-not-branch-2-clause-tested : goal.returns-then-not-branch-2-clause-tested
-returns-then-not-branch-2-clause-tested c = λ h. never h
-
 pub returns-in_err-replace-clause-front : goal.returns-in_err-replace-clause-front
 returns-in_err-replace-clause-front c = let p = err_from_is_err_and c.from_residual.result c.from_residual.ensures.1 in rw p.1 tt
 
@@ -28,12 +19,3 @@ returns-in_err-replace-clause-back c = let p = err_from_is_err_and c.from_residu
 
 pub returns-in_err-replace-clause-tested : goal.returns-in_err-replace-clause-tested
 returns-in_err-replace-clause-tested c = let p = err_from_is_err_and c.from_residual.result c.from_residual.ensures.1 in rw p.1 tt
-
-pub returns-in_err-leave-clause-front : goal.returns-in_err-leave-clause-front
-returns-in_err-leave-clause-front c = let p = err_from_is_err_and c.from_residual-in_err-leave.result c.from_residual-in_err-leave.ensures.1 in rw p.1 tt
-
-pub returns-in_err-leave-clause-back : goal.returns-in_err-leave-clause-back
-returns-in_err-leave-clause-back c = let p = err_from_is_err_and c.from_residual-in_err-leave.result c.from_residual-in_err-leave.ensures.1 in rw p.1 tt
-
-pub returns-in_err-leave-clause-tested : goal.returns-in_err-leave-clause-tested
-returns-in_err-leave-clause-tested c = let p = err_from_is_err_and c.from_residual-in_err-leave.result c.from_residual-in_err-leave.ensures.1 in rw p.1 tt

@@ -1,5 +1,5 @@
 use Rattle.std.proofs.Common.{◌-◌}
-use Rattle.tl_check_active.proofs.finding.begin_east.Given as goal
+use Rattle.tl_check_active.proofs.finding.search.Given as goal
 
 abbrev pub decreases-loop-low : goal.decreases-loop-low
 decreases-loop-low l = l.high - l.low
