@@ -13,3 +13,4 @@ pub mod Rounding
 pub mod Deciding
 pub mod Reading
 pub mod Facing
+pub mod Enough

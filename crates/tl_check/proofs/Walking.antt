@@ -1,5 +1,5 @@
--- Walks that are kept as rings.
-use Rattle.std.proofs.Common.{◌≡◌, ℕ, Vec, Global, Result, Ok, Err, ◌*◌, ◌<◌, List, [], ◌∷◌, length, All, refl, sym, subst, ap, ◌∙◌, append_assoc, arith}
+-- Walks, and what is known behind them.
+use Rattle.std.proofs.Common.{◌≡◌, ℕ, Vec, Global, Result, Ok, Err, ◌*◌, ◌<◌, ◌^◌, List, [], ◌∷◌, length, All, refl, sym, subst, ap, ◌∙◌, append_assoc, arith}
 use Rattle.std.specs.Prelude.{slice_index}
 use Rattle.std.proofs.lemmas.List.{get_or_default}
 use Rattle.tl_map_county.specs.TheMap.{TheMap, MapChain}
@@ -16,6 +16,9 @@ use Rattle.tl_cert.specs.declared.place.CertPart.TheVariants as part
 use Rattle.tl_check.specs.declared.state.State.{State}
 use Rattle.tl_check.specs.declared.state.State.TheVariants as state
 use Rattle.tl_check.specs.declared.state.Halt.{Halt}
+use Rattle.tl_check.specs.declared.known.Known.{Known}
+use Rattle.tl_check.specs.declared.known.Known.TheVariants.{Rings}
+use Rattle.tl_check.specs.Keeping.Known.{IsKnown, IsKnownOf}
 use Rattle.tl_check.specs.Keeping.Parts.{Continues, TakesWalks, AreWalksSoFar, IsLed, Leads, IsWalked, IsShown, with_walk}
 use Rattle.tl_check.specs.Keeping.Streams.{LeadsBy}
 
@@ -28,24 +31,33 @@ darts_known chains walks walk w have k d lt =
     subst (λ x. x < dart_count chains) (get_or_default walk k 0 d lt) (dart_within chains (slice_index walk k) f.next.node f.next.a_starts)
 
 -- one walk more
-pub walk_laid : (m : TheMap) (c : TheCertificate) (walk : List ℕ) (old new : Walks) (laid now : TheRings) → AreReady m.chains new → HaveWalked m.chains (and_list c.walks walk) new → now.rings ≡ and_list laid.rings walk → (AreBoxed m.chains laid → AreBoxed m.chains now) → AreWalksSoFar m c old laid → AreWalksSoFar m (with_walk c walk) new now
-walk_laid m c walk old new laid now ready have is boxed so = record {
+pub walk_laid : (m : TheMap) (c : TheCertificate) (walk : List ℕ) (old new : Walks) (known now : Known) → AreReady m.chains new → HaveWalked m.chains (and_list c.walks walk) new
+    → (IsKnown m c.walks known → IsKnown m (and_list c.walks walk) now) → AreWalksSoFar m c old known → AreWalksSoFar m (with_walk c walk) new now
+walk_laid m c walk old new known now ready have next so = record {
   founded = record { counts = so.founded.counts; tree = so.founded.tree; planar = so.founded.planar; cells = so.founded.cells };
   rounds = so.rounds;
   sides = so.sides;
   ready = ready;
   walked = have;
-  laid = is ∙ ap (λ ls. and_list ls walk) so.laid;
-  boxed = boxed so.boxed;
+  behind = next so.behind;
 }
 
 -- no walk yet
 pub none_boxed : (chains : List MapChain) (r : TheRings) → r ≡ record { rings = []; boxes = [] } → AreBoxed chains r
 none_boxed chains r is = subst (AreBoxed chains) (sym is) (record { long = refl; each = λ k lt. absurd (let no : k < 0 = lt in omega (arith, no)) })
 
+-- where no ring was laid yet
+pub none_known : (m : TheMap) (r : TheRings) → r ≡ record { rings = []; boxes = [] } → IsKnown m [] (Rings r)
+none_known m r is = (ap (λ (r : TheRings). r.rings) is, none_boxed m.chains r is)
+
+-- one ring more
+pub ring_known : (m : TheMap) (walks : List (List ℕ)) (walk : List ℕ) (old new : TheRings) → new.rings ≡ and_list old.rings walk → (AreBoxed m.chains old → AreBoxed m.chains new)
+    → IsKnown m walks (Rings old) → IsKnown m (and_list walks walk) (Rings new)
+ring_known m walks walk old new is boxed so = (is ∙ ap (λ ls. and_list ls walk) so.0, boxed so.1)
+
 -- what was walked is shown, with points that are placed
-pub shown_by : (m : TheMap) (c : TheCertificate) (count : ℕ) (rings : TheRings) → IsWalked m c count rings → ArePlaced m → IsShown m c count
-shown_by m c count rings w placed = record {
+pub shown_by : (m : TheMap) (c : TheCertificate) (count : ℕ) (known : Known) → IsWalked m c count known → ArePlaced m → IsShown m c count
+shown_by m c count known w placed = record {
   valid = w.valid;
   planar = w.planar;
   sides = w.sides;
@@ -53,6 +65,10 @@ shown_by m c count rings w placed = record {
   cells = w.cells;
   counted = w.counted;
 }
+
+-- what is known behind all walks
+pub known_of : (m : TheMap) (c : TheCertificate) (count : ℕ) (known : Known) → IsWalked m c count known → count < 2 ^ 32 → IsKnownOf m known
+known_of m c count known w few = record { walks = c.walks; are_walks = w.valid.walks; few = subst (λ n. n < 2 ^ 32) w.counted few; known = w.behind }
 
 -- a walk that is taken where the rounds have ended
 pub leads_on : (m : TheMap) (walk : List ℕ) (old ended : State) (r : Result State Halt) → IsLed m (λ c. c) TakesWalks old ended → Leads m (λ c. with_walk c walk) ended r → Leads m (λ c. with_walk c walk) old r
@@ -84,9 +100,9 @@ goes_on_before c d walk on = record {
 }
 
 -- a walk that is passed over, since the parts before it are wrong
-pub walk_passed : (m : TheMap) (walk : List ℕ) (s : State) → TakesWalks s → ((walks : Walks) (rings : TheRings) → s ≡ state.Walking walks rings → ⊥) → IsLed m (λ c. with_walk c walk) TakesWalks s s
-walk_passed m walk (state.Rounding rounds) takes ne = absurd takes
-walk_passed m walk (state.Walking walks rings) takes ne = absurd (ne walks rings refl)
+pub walk_passed : (m : TheMap) (walk : List ℕ) (s : State) → TakesWalks s → ((walks : Walks) (known : Known) → s ≡ state.Walking walks known → ⊥) → IsLed m (λ c. with_walk c walk) TakesWalks s s
+walk_passed m walk (state.Rounding rounds suspects) takes ne = absurd takes
+walk_passed m walk (state.Walking walks known) takes ne = absurd (ne walks known refl)
 walk_passed m walk (state.Unrounded fault) takes ne = record {
   holds = λ c held. held;
   takes = takes;
