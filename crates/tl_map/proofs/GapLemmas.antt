@@ -14,7 +14,7 @@ use Rattle.tl_map.specs.Keeping.Entries.{fill_of, by_shape, entry_points, IsInsi
 use Rattle.tl_map_rules.proofs.CountLemmas.{sum_by-same, one_counted}
 use Rattle.tl_map.proofs.SequenceLemmas.{numbered_from_placed, count_more, none_before}
 use Rattle.tl_map_rules.specs.Keeping.Pairs.{some_unused}
-use Rattle.tl_map_rules.proofs.PairLemmas.{has_gap-append, pairs_at_is, some_unused-append}
+use Rattle.tl_map_rules.proofs.PairLemmas.{has_gap-append, pairs_at_is, some_unused-append, unused_from_gap}
 
 -- the counts of the entries are those of the records
 pub shapes_with_is : (rs : List Record) (pool : List Point) (entries : List ShapeEntry) → AreShapeEntries rs pool entries → (t : ℕ) → shapes_with t entries ≡ shape_count rs t

@@ -32,7 +32,7 @@ used_from_gap (None ∷ xs) h = h
 used_from_gap (Some p ∷ xs) h = refl
 
 -- and an unused one
-unused_from_gap : (xs : List (Option Point)) → has_gap xs ≡ true → some_unused xs ≡ true
+pub unused_from_gap : (xs : List (Option Point)) → has_gap xs ≡ true → some_unused xs ≡ true
 unused_from_gap [] h = h
 unused_from_gap (None ∷ xs) h = refl
 unused_from_gap (Some p ∷ xs) h = unused_from_gap xs h
