@@ -8,7 +8,7 @@ pub find_among_suspects-requires-clause-suspects : goal.find_among_suspects-requ
 find_among_suspects-requires-clause-suspects g c =
     subst (AreSuspects c.args.map.now) (sym c.deref.ensures.value)
     (record {
-      known = c.look_at_points.ensures.known;
+      known = c.in-Ok-None.ensures.known;
       others = listed_or_placed c.args.map.now c.look_at_points.new.suspects.items
           (told_none _ _ c.in-Ok-None.field-0 c.in-Ok-None.field-0-is c.in-Ok-None.ensures.found);
     })
