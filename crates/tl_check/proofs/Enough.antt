@@ -1,5 +1,5 @@
 -- A budget that is enough for all pairs of segments.
-use Rattle.std.proofs.Common.{◌≡◌, ℕ, zero, suc, ◌+◌, ◌*◌, ◌-◌, ◌/◌, ◌≤◌, ◌==◌, Bool, true, false, if◌then◌else◌, List, [], ◌∷◌, length, refl, arith}
+use Rattle.std.proofs.Common.{◌≡◌, ℕ, zero, suc, ◌+◌, ◌*◌, ◌-◌, ◌/◌, ◌≤◌, ◌==◌, Bool, true, false, if◌then◌else◌, List, [], ◌∷◌, length, refl, ap, arith}
 use Rattle.tl_geom.specs.declared.rect.Rect.{Rect}
 use Rattle.tl_map_county.specs.TheMap.{MapChain}
 use Rattle.tl_map_county.specs.Segments.{segments_before}
@@ -35,9 +35,14 @@ unfolding indices
 long zero = refl
 long (suc n) = omega (arith, long n)
 
+one_less : (n : ℕ) → suc n - 1 ≡ n
+one_less n = omega arith
+
 less_one : (n : ℕ) → n * (n - 1) + n ≡ n * n
 less_one zero = refl
-less_one (suc n) = omega arith
+less_one (suc n) =
+    let product : suc n * (suc n - 1) ≡ suc n * n = ap (λ k. suc n * k) (one_less n) in
+    omega (arith, product)
 
 half : (a b : ℕ) → 2 * a ≤ b → a ≤ b / 2
 half a b h = omega (arith, h)

@@ -14,3 +14,4 @@ pub mod Deciding
 pub mod Reading
 pub mod Facing
 pub mod Enough
+pub mod Swept

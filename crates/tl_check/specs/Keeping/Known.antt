@@ -1,5 +1,6 @@
 -- What the checker knows of a map behind the search for a meet, beside that its chains are planar.
-use Rattle.std.specs.Prelude.{◌≡◌, ℕ, ◌<◌, ◌≤◌, ◌^◌, ◌*◌, ◌-◌, ◌/◌, List, [], length, Vec, Global, Option, All}
+use Rattle.std.specs.Prelude.{◌≡◌, ℕ, ◌<◌, ◌≤◌, ◌^◌, ◌*◌, ◌-◌, ◌/◌, List, [], length, Vec, Option, All}
+use Rattle.std.specs.Global.{Global}
 use Rattle.std.specs.Option.{IfSome}
 use Rattle.tl_map_county.specs.TheMap.{TheMap}
 use Rattle.tl_check_planar.specs.Planar.{IsPlanar}
@@ -30,11 +31,11 @@ abbrev pub AreToldGaps : TheMap → Option (Vec OddGap Global) → Type 0
 AreToldGaps m gaps = IfSome gaps (λ told. All (IsLowestOddGap widest m.chains) told.items × (told.items ≡ [] → FacesAgree m.chains))
 
 -- the chains are planar, at most budget pairs of segments have rectangles that meet, and what was told is so
-pub record IsFoundPlanar (m : TheMap) (budget : ℕ) (suspects : Option (Vec ℕ Global)) (gaps : Option (Vec OddGap Global)) : Type 0 where
+pub record IsFoundPlanar (m : TheMap) (budget : ℕ) (listed : Option (Vec ℕ Global)) (told : Option (Vec OddGap Global)) : Type 0 where
   pub planar : IsPlanar m.chains
   pub within : meeting_segments m.chains ≤ budget
-  pub suspects : AreToldSuspects m suspects
-  pub gaps : AreToldGaps m gaps
+  pub suspects : AreToldSuspects m listed
+  pub gaps : AreToldGaps m told
 
 -- what a search with this budget may find
 abbrev pub MayFind : TheMap → ℕ → Found → Type 0

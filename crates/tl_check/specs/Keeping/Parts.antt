@@ -1,5 +1,6 @@
 -- What was found of a certificate's rounds and walks so far, behind counts that are the map's and a tree that was taken.
-use Rattle.std.specs.Prelude.{◌≡◌, ℕ, ◌≤◌, List, [], ◌++◌, length, Vec, Global, Option, Result, Ok, Err, ⊤, false}
+use Rattle.std.specs.Prelude.{◌≡◌, ℕ, ◌≤◌, List, [], ◌++◌, length, Vec, Option, Result, Ok, Err, ⊤, false}
+use Rattle.std.specs.Global.{Global}
 use Rattle.tl_map_county.specs.TheMap.{TheMap}
 use Rattle.tl_tree_index.specs.declared.node.TreeNode.{TreeNode}
 use Rattle.tl_check_planar.specs.Planar.{IsPlanar}
