@@ -32,7 +32,7 @@ goes_on_before c d round on = record {
 }
 
 -- a round that is passed over, since the parts before it are wrong
-pub round_passed : (m : TheMap) (round : List ℕ) (s : State) → TakesRounds s → ((rounds : Rounds) → s ≡ state.Rounding rounds → ⊥) → IsLed m (λ c. with_round c round) TakesRounds s s
+pub round_passed : (m : TheMap) (round : List ℕ) (s : State) → TakesRounds s → ((rounds : Rounds) (suspects : Option (Vec ℕ Global)) → s ≡ state.Rounding rounds suspects → ⊥) → IsLed m (λ c. with_round c round) TakesRounds s s
 round_passed m round (state.Rounding rounds suspects) takes ne = absurd (ne rounds suspects refl)
 round_passed m round (state.Walking walks known) takes ne = absurd takes
 round_passed m round (state.Unrounded fault) takes ne = absurd takes
@@ -47,7 +47,7 @@ round_passed m round (state.Wrong fault) takes ne = record {
 kept : (m : TheMap) (s : State) → TakesWalks s → IsLed m (λ c. c) TakesWalks s s
 kept m s takes = record { holds = λ c held. held; takes = takes; searched = λ n searched. searched; behind = λ behind. behind }
 
-pub ended_before : (m : TheMap) (s : State) → ((rounds : Rounds) → s ≡ state.Rounding rounds → ⊥) → IsLed m (λ c. c) TakesWalks s s
+pub ended_before : (m : TheMap) (s : State) → ((rounds : Rounds) (suspects : Option (Vec ℕ Global)) → s ≡ state.Rounding rounds suspects → ⊥) → IsLed m (λ c. c) TakesWalks s s
 ended_before m (state.Rounding rounds suspects) ne = absurd (ne rounds suspects refl)
 ended_before m (state.Walking walks known) ne = kept m (state.Walking walks known) tt
 ended_before m (state.Unrounded fault) ne = kept m (state.Unrounded fault) tt

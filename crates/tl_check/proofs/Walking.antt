@@ -1,5 +1,5 @@
 -- Walks, and what is known behind them.
-use Rattle.std.proofs.Common.{◌≡◌, ℕ, Vec, Global, Result, Ok, Err, ◌*◌, ◌<◌, ◌^◌, List, [], ◌∷◌, length, All, refl, sym, subst, ap, ◌∙◌, append_assoc, arith}
+use Rattle.std.proofs.Common.{◌≡◌, ℕ, Vec, Global, Result, Ok, Err, ◌*◌, ◌<◌, List, [], ◌∷◌, length, All, refl, sym, subst, ap, ◌∙◌, append_assoc, arith}
 use Rattle.std.specs.Prelude.{slice_index}
 use Rattle.std.proofs.lemmas.List.{get_or_default}
 use Rattle.tl_map_county.specs.TheMap.{TheMap, MapChain}
@@ -10,15 +10,13 @@ use Rattle.tl_check_sides.specs.Keeping.Walked.{AreReady, HaveWalked}
 use Rattle.tl_check_sides.proofs.Headings.{dart_within}
 use Rattle.tl_check_sides.proofs.ListLemmas.{length-and, list-last}
 use Rattle.tl_check_inside.specs.Placed.{ArePlaced}
-use Rattle.tl_check_points.specs.Rings.{TheRings, AreBoxed}
 use Rattle.tl_cert.specs.Certificates.{TheCertificate}
 use Rattle.tl_cert.specs.declared.place.CertPart.TheVariants as part
 use Rattle.tl_check.specs.declared.state.State.{State}
 use Rattle.tl_check.specs.declared.state.State.TheVariants as state
 use Rattle.tl_check.specs.declared.state.Halt.{Halt}
 use Rattle.tl_check.specs.declared.known.Known.{Known}
-use Rattle.tl_check.specs.declared.known.Known.TheVariants.{Rings}
-use Rattle.tl_check.specs.Keeping.Known.{IsKnown, IsKnownOf}
+use Rattle.tl_check.specs.Keeping.Known.{IsKnown}
 use Rattle.tl_check.specs.Keeping.Parts.{Continues, TakesWalks, AreWalksSoFar, IsLed, Leads, IsWalked, IsShown, with_walk}
 use Rattle.tl_check.specs.Keeping.Streams.{LeadsBy}
 
@@ -42,19 +40,6 @@ walk_laid m c walk old new known now ready have next so = record {
   behind = next so.behind;
 }
 
--- no walk yet
-pub none_boxed : (chains : List MapChain) (r : TheRings) → r ≡ record { rings = []; boxes = [] } → AreBoxed chains r
-none_boxed chains r is = subst (AreBoxed chains) (sym is) (record { long = refl; each = λ k lt. absurd (let no : k < 0 = lt in omega (arith, no)) })
-
--- where no ring was laid yet
-pub none_known : (m : TheMap) (r : TheRings) → r ≡ record { rings = []; boxes = [] } → IsKnown m [] (Rings r)
-none_known m r is = (ap (λ (r : TheRings). r.rings) is, none_boxed m.chains r is)
-
--- one ring more
-pub ring_known : (m : TheMap) (walks : List (List ℕ)) (walk : List ℕ) (old new : TheRings) → new.rings ≡ and_list old.rings walk → (AreBoxed m.chains old → AreBoxed m.chains new)
-    → IsKnown m walks (Rings old) → IsKnown m (and_list walks walk) (Rings new)
-ring_known m walks walk old new is boxed so = (is ∙ ap (λ ls. and_list ls walk) so.0, boxed so.1)
-
 -- what was walked is shown, with points that are placed
 pub shown_by : (m : TheMap) (c : TheCertificate) (count : ℕ) (known : Known) → IsWalked m c count known → ArePlaced m → IsShown m c count
 shown_by m c count known w placed = record {
@@ -65,10 +50,6 @@ shown_by m c count known w placed = record {
   cells = w.cells;
   counted = w.counted;
 }
-
--- what is known behind all walks
-pub known_of : (m : TheMap) (c : TheCertificate) (count : ℕ) (known : Known) → IsWalked m c count known → count < 2 ^ 32 → IsKnownOf m known
-known_of m c count known w few = record { walks = c.walks; are_walks = w.valid.walks; few = subst (λ n. n < 2 ^ 32) w.counted few; known = w.behind }
 
 -- a walk that is taken where the rounds have ended
 pub leads_on : (m : TheMap) (walk : List ℕ) (old ended : State) (r : Result State Halt) → IsLed m (λ c. c) TakesWalks old ended → Leads m (λ c. with_walk c walk) ended r → Leads m (λ c. with_walk c walk) old r

@@ -3,7 +3,8 @@ use Rattle.tl_check_verdict.specs.Valid.{IsTree}
 use Rattle.tl_check.specs.Keeping.Parts.{IsWalked}
 use Rattle.tl_check.proofs.Searched.{answered_behind, answered_within, ended_searched}
 use Rattle.tl_check.proofs.Stopping.{ended_concludes}
-use Rattle.tl_check.proofs.Walking.{shown_by, known_of}
+use Rattle.tl_check.proofs.Knowing.{known_of}
+use Rattle.tl_check.proofs.Walking.{shown_by}
 use Rattle.tl_check.proofs.walks.conclude.Goals as goal
 
 -- what the state that is held shows

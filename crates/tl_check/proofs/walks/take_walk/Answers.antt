@@ -5,10 +5,6 @@ use Rattle.tl_check.specs.Keeping.Parts.{Holds, AreWalksSoFar, IsSearched, IsBeh
 use Rattle.tl_check.proofs.Walking.{darts_known, walk_laid, walk_passed}
 use Rattle.tl_check.proofs.walks.take_walk.Goals as goal
 
--- what the state says of the parts so far
-so_far : (c : goal.After-known-1) → AreWalksSoFar c.args.map.now c.requires.held.0 c.in-Walking.walks c.in-Walking.known
-so_far c = subst (Holds c.args.map.now c.requires.held.0) c.in-Walking.is c.requires.held.1
-
 pub take-requires-clause-ready : goal.take-requires-clause-ready
 take-requires-clause-ready c =
     let so : AreWalksSoFar c.args.map.now c.requires.held.0 c.in-Walking.walks c.in-Walking.known = subst (Holds c.args.map.now c.requires.held.0) c.in-Walking.is c.requires.held.1 in
@@ -19,10 +15,11 @@ take-requires-clause-some c = c.requires.some
 
 pub known_behind-requires : goal.known_behind-requires
 known_behind-requires c =
-    darts_known c.args.map.now.chains c.requires.held.0.walks c.args.walk.now c.take.new.self (c.in-Ok.ensures.taken c.requires.held.0.walks (so_far c).walked)
+    let so : AreWalksSoFar c.args.map.now c.requires.held.0 c.in-Walking.walks c.in-Walking.known = subst (Holds c.args.map.now c.requires.held.0) c.in-Walking.is c.requires.held.1 in
+    darts_known c.args.map.now.chains c.requires.held.0.walks c.args.walk.now c.take.new.self (c.in-Ok.ensures.taken c.requires.held.0.walks so.walked)
 
-pub returns-in_ok-behind-in-Ok : goal.returns-in_ok-behind-in-Ok
-returns-in_ok-behind-in-Ok c = record {
+pub returns-in-Ok : goal.returns-in-Ok
+returns-in-Ok c = record {
   holds = λ cert held.
       let so : AreWalksSoFar c.args.map.now cert c.in-Walking.walks c.in-Walking.known = subst (Holds c.args.map.now cert) c.in-Walking.is held in
       walk_laid c.args.map.now cert c.args.walk.now c.in-Walking.walks c.take.new.self c.in-Walking.known c.in_ok-behind-in-Ok.behind c.in-Ok.ensures.ready (c.in-Ok.ensures.taken cert.walks so.walked) (c.in_ok-behind-in-Ok.ensures cert.walks) so;
