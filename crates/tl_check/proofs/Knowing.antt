@@ -59,7 +59,7 @@ placed_but : (m : TheMap) (suspects : List ℕ) → AreSuspects m suspects → s
 placed_but m suspects so none p polygon at = elim (so.others p polygon at) [
   | inl listed ↦ absurd (none_held p (subst (λ ns. Contains ns p) none listed))
   | inr placed ↦ placed
-  ]
+]
 
 none_left : (m : TheMap) (walks : List (List ℕ)) (now : Known) → IsKnown m walks now → HasNone now → ArePlaced m
 none_left m walks (Suspects suspects) so none = placed_but m suspects.items so none

@@ -1,5 +1,5 @@
 -- What a sweep that finds chains planar has told.
-use Rattle.std.proofs.Common.{◌≡◌, ◌⊎◌, ℕ, ◌<◌, ◌≤◌, Vec, Global, List, [], length, All, Contains, Option, None, Some}
+use Rattle.std.proofs.Common.{◌≡◌, ◌⊎◌, ℕ, ◌<◌, ◌≤◌, Vec, Global, [], length, All, Contains, Option, None, Some}
 use Rattle.std.specs.Prelude.{slice_get}
 use Rattle.std.specs.Option.{IfSome}
 use Rattle.tl_map_county.specs.TheMap.{TheMap}

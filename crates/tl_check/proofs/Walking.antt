@@ -1,5 +1,5 @@
 -- Walks, and what is known behind them.
-use Rattle.std.proofs.Common.{◌≡◌, ℕ, Vec, Global, Result, Ok, Err, ◌*◌, ◌<◌, List, [], ◌∷◌, length, All, refl, sym, subst, ap, ◌∙◌, append_assoc, arith}
+use Rattle.std.proofs.Common.{◌≡◌, ℕ, Vec, Global, Result, Ok, Err, ◌*◌, ◌<◌, List, [], ◌∷◌, length, All, refl, subst, ◌∙◌, append_assoc, arith}
 use Rattle.std.specs.Prelude.{slice_index}
 use Rattle.std.proofs.lemmas.List.{get_or_default}
 use Rattle.tl_map_county.specs.TheMap.{TheMap, MapChain}
