@@ -35,14 +35,15 @@ run = bench_run()
 SWEEPS, UNKNOWN, SLOW = "sweeps", "sweeps that say nothing", "slabs listed one by one"
 COUNTED = {
     SWEEPS: ["tl_check_sweep::answer::sweep"],
-    UNKNOWN: ["tl_build::judge::judge", "tl_list::of_map::list_by_search"],
+    UNKNOWN: ["tl_build::judge::judge", "tl_check::search::search_tree", "tl_list::of_map::list_by_search"],
     SLOW: ["tl_check_sweep::face_search::gaps::push_above"],
 }
 WANTED = {SWEEPS: 1, UNKNOWN: 0, SLOW: 0}
 CHAINS = 300
 # Words of each command that decides a map, and those of one of which a sweep finds that chains meet.
-COMMANDS = [["audit"], ["audit", "--faces"], ["audit", "--all"], ["audit", "--all", "--faces"], ["build"], ["build", "--faces"]]
-DECIDES = [["audit"], ["audit", "--faces"], ["build"]]
+COMMANDS = [["audit"], ["audit", "--faces"], ["audit", "--all"], ["audit", "--all", "--faces"], ["build"], ["build", "--faces"], ["check"],
+            ["check", "--faces"]]
+DECIDES = [["audit"], ["audit", "--faces"], ["build"], ["check"]]
 
 
 def can_play():
@@ -71,6 +72,18 @@ def records(folder, kind, chains):
     whole = Path(folder, f"{kind}.records")
     whole.write_bytes(b"".join(file.read_bytes() for file in sorted(made.glob("*.RT*"))))
     return whole
+
+
+def certified(folder, kind, file):
+    """A certificate for these records, made by none of the program's parts, of a map that is sound or not."""
+    made = Path(folder, f"{kind}.cert")
+    subprocess.run([sys.executable, BENCH / "certificate.py", made, file], check=True, stdout=subprocess.DEVNULL)
+    return made
+
+
+def given(words, certificate, number):
+    """What a command is given beside its own words and the records: what it makes, or the certificate that it checks by."""
+    return {"build": ["--out", f"made.{number}"], "check": ["--cert", certificate.name]}.get(words[0], [])
 
 
 def calls_in(text):
@@ -121,10 +134,10 @@ def play_all(program=run.PROGRAM, chains=CHAINS):
         asked = []
         for kind, commands in maps():
             file = records(folder, kind, chains)
+            certificate = certified(folder, kind, file)
             for words in commands:
                 number = len(asked)
-                made = ["--out", f"made.{number}"] if words[0] == "build" else []
-                counts = pool.submit(counts_of, program, [*words, *made, file.name], folder, number)
+                counts = pool.submit(counts_of, program, [*words, *given(words, certificate, number), file.name], folder, number)
                 asked.append((kind, words, counts))
         for kind, words, counts in asked:
             well = counts.result() == WANTED

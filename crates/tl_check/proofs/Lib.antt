@@ -4,6 +4,7 @@ pub mod Shown
 pub mod Streaming
 pub mod Recorded
 pub mod Walking
+pub mod Knowing
 pub mod Searched
 pub mod Meeting
 pub mod Halting
@@ -13,3 +14,5 @@ pub mod Rounding
 pub mod Deciding
 pub mod Reading
 pub mod Facing
+pub mod Enough
+pub mod Swept

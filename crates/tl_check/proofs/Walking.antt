@@ -1,5 +1,5 @@
--- Walks that are kept as rings.
-use Rattle.std.proofs.Common.{◌≡◌, ℕ, Vec, Global, Result, Ok, Err, ◌*◌, ◌<◌, List, [], ◌∷◌, length, All, refl, sym, subst, ap, ◌∙◌, append_assoc, arith}
+-- Walks, and what is known behind them.
+use Rattle.std.proofs.Common.{◌≡◌, ℕ, Vec, Global, Result, Ok, Err, ◌*◌, ◌<◌, List, [], ◌∷◌, length, All, refl, subst, ◌∙◌, append_assoc, arith}
 use Rattle.std.specs.Prelude.{slice_index}
 use Rattle.std.proofs.lemmas.List.{get_or_default}
 use Rattle.tl_map_county.specs.TheMap.{TheMap, MapChain}
@@ -10,12 +10,13 @@ use Rattle.tl_check_sides.specs.Keeping.Walked.{AreReady, HaveWalked}
 use Rattle.tl_check_sides.proofs.Headings.{dart_within}
 use Rattle.tl_check_sides.proofs.ListLemmas.{length-and, list-last}
 use Rattle.tl_check_inside.specs.Placed.{ArePlaced}
-use Rattle.tl_check_points.specs.Rings.{TheRings, AreBoxed}
 use Rattle.tl_cert.specs.Certificates.{TheCertificate}
 use Rattle.tl_cert.specs.declared.place.CertPart.TheVariants as part
 use Rattle.tl_check.specs.declared.state.State.{State}
 use Rattle.tl_check.specs.declared.state.State.TheVariants as state
 use Rattle.tl_check.specs.declared.state.Halt.{Halt}
+use Rattle.tl_check.specs.declared.known.Known.{Known}
+use Rattle.tl_check.specs.Keeping.Known.{IsKnown}
 use Rattle.tl_check.specs.Keeping.Parts.{Continues, TakesWalks, AreWalksSoFar, IsLed, Leads, IsWalked, IsShown, with_walk}
 use Rattle.tl_check.specs.Keeping.Streams.{LeadsBy}
 
@@ -28,24 +29,20 @@ darts_known chains walks walk w have k d lt =
     subst (λ x. x < dart_count chains) (get_or_default walk k 0 d lt) (dart_within chains (slice_index walk k) f.next.node f.next.a_starts)
 
 -- one walk more
-pub walk_laid : (m : TheMap) (c : TheCertificate) (walk : List ℕ) (old new : Walks) (laid now : TheRings) → AreReady m.chains new → HaveWalked m.chains (and_list c.walks walk) new → now.rings ≡ and_list laid.rings walk → (AreBoxed m.chains laid → AreBoxed m.chains now) → AreWalksSoFar m c old laid → AreWalksSoFar m (with_walk c walk) new now
-walk_laid m c walk old new laid now ready have is boxed so = record {
+pub walk_laid : (m : TheMap) (c : TheCertificate) (walk : List ℕ) (old new : Walks) (known now : Known) → AreReady m.chains new → HaveWalked m.chains (and_list c.walks walk) new
+    → (IsKnown m c.walks known → IsKnown m (and_list c.walks walk) now) → AreWalksSoFar m c old known → AreWalksSoFar m (with_walk c walk) new now
+walk_laid m c walk old new known now ready have next so = record {
   founded = record { counts = so.founded.counts; tree = so.founded.tree; planar = so.founded.planar; cells = so.founded.cells };
   rounds = so.rounds;
   sides = so.sides;
   ready = ready;
   walked = have;
-  laid = is ∙ ap (λ ls. and_list ls walk) so.laid;
-  boxed = boxed so.boxed;
+  behind = next so.behind;
 }
 
--- no walk yet
-pub none_boxed : (chains : List MapChain) (r : TheRings) → r ≡ record { rings = []; boxes = [] } → AreBoxed chains r
-none_boxed chains r is = subst (AreBoxed chains) (sym is) (record { long = refl; each = λ k lt. absurd (let no : k < 0 = lt in omega (arith, no)) })
-
 -- what was walked is shown, with points that are placed
-pub shown_by : (m : TheMap) (c : TheCertificate) (count : ℕ) (rings : TheRings) → IsWalked m c count rings → ArePlaced m → IsShown m c count
-shown_by m c count rings w placed = record {
+pub shown_by : (m : TheMap) (c : TheCertificate) (count : ℕ) (known : Known) → IsWalked m c count known → ArePlaced m → IsShown m c count
+shown_by m c count known w placed = record {
   valid = w.valid;
   planar = w.planar;
   sides = w.sides;
@@ -84,9 +81,9 @@ goes_on_before c d walk on = record {
 }
 
 -- a walk that is passed over, since the parts before it are wrong
-pub walk_passed : (m : TheMap) (walk : List ℕ) (s : State) → TakesWalks s → ((walks : Walks) (rings : TheRings) → s ≡ state.Walking walks rings → ⊥) → IsLed m (λ c. with_walk c walk) TakesWalks s s
-walk_passed m walk (state.Rounding rounds) takes ne = absurd takes
-walk_passed m walk (state.Walking walks rings) takes ne = absurd (ne walks rings refl)
+pub walk_passed : (m : TheMap) (walk : List ℕ) (s : State) → TakesWalks s → ((walks : Walks) (known : Known) → s ≡ state.Walking walks known → ⊥) → IsLed m (λ c. with_walk c walk) TakesWalks s s
+walk_passed m walk (state.Rounding rounds suspects) takes ne = absurd takes
+walk_passed m walk (state.Walking walks known) takes ne = absurd (ne walks known refl)
 walk_passed m walk (state.Unrounded fault) takes ne = record {
   holds = λ c held. held;
   takes = takes;

@@ -15,6 +15,7 @@ ghost use Rattle.tl_check_verdict.specs.Truth.{IsTrueOfMap, IsOfDarts};
 ghost use Rattle.tl_check_verdict.specs.Verdicts.{OnSound, OnSoundButFaces, IfSound, IfMapFault, IfCertFault, UnlessMeet, OnSearched, IsReport};
 ghost use Rattle.tl_check_verdict.specs.Texts.{IsTrueOfText, IsValidText, TextAllowsSearch, MayStopReading};
 ghost use Rattle.tl_cert_output.specs.Stops.{TellsDevice};
+ghost use Rattle.tl_check.specs.Keeping.Known.{AreToldGaps};
 ghost use Rattle.tl_check.specs.Keeping.Parts.{Holds, LeadsBehindTree};
 ghost use Rattle.tl_check.specs.Keeping.Read.{IsOfSpelt, IsOfText};
 ghost use Rattle.tl_check.specs.Keeping.Streams.{IsBehindTree, IsAnswer, MayCome, LeadsBy};
@@ -29,6 +30,7 @@ use crate::walks::{conclude, take_walk};
 use std::alloc::Global;
 use tl_cert::{CertPart, CertReader, Counts};
 use tl_cert_output::Stop;
+use tl_check_faces::OddGap;
 use tl_check_verdict::{CertFault, Verdict};
 use tl_map_county::Map;
 use tl_record::Source;
@@ -82,22 +84,26 @@ pub fn decide<S: Source>(
 ) -> Result<Verdict, Stop>
     ensures { IsOfText map.now faces budget (S.remaining cert.old) (S.failure_count cert.old) (S.failure_count cert.new) result }
 {
-    let decided = check_text(alloc, map, cert, budget);
-    with_faces(alloc, map, faces, decided)
+    let mut gaps = None;
+    let decided = check_text(alloc, map, cert, budget, &mut gaps);
+    with_faces(alloc, map, faces, decided, gaps)
 }
 
-/// The same without faces.
+/// The same without faces, and the gaps that a sweep has told, if one was made.
 fn check_text<S: Source>(
     alloc: Global,
     map: &Map,
     cert: &mut S,
     budget: u64,
+    gaps: &mut Option<Vec<OddGap>>,
 ) -> Result<Verdict, Stop>
+    requires told { AreToldGaps map.now gaps.old }
     ensures decides { IsOfSpelt map.now false budget (S.remaining cert.old) result }
     ensures failures { TellsDevice (S.failure_count cert.old) (S.failure_count cert.new) result }
+    ensures told { AreToldGaps map.now gaps.new }
 {
     let mut reader = CertReader::new(alloc, cert);
-    check_parts(alloc, map, &mut reader, budget)
+    check_parts(alloc, map, &mut reader, budget, gaps)
 }
 
 /// Checks a certificate of which no part was read yet.
@@ -106,13 +112,16 @@ fn check_parts<R: Source>(
     map: &Map,
     reader: &mut CertReader<R>,
     budget: u64,
+    gaps: &mut Option<Vec<OddGap>>,
 ) -> Result<Verdict, Stop>
     requires standing { standing_of reader.old ≡ Reading Start }
     requires lines { lines_of reader.old ≡ 0 }
+    requires told { AreToldGaps map.now gaps.old }
     ensures answers { IsAnswer R.remaining R.failure_count map.now budget reader.old reader.new result }
     ensures same_reference { R.reference (source_of reader.new) ≡ R.reference (source_of reader.old) }
+    ensures told { AreToldGaps map.now gaps.new }
 {
-    let (nodes, mut state) = match take_head(alloc, map, reader, budget) {
+    let (nodes, mut state) = match take_head(alloc, map, reader, budget, gaps) {
         Ok(begun) => begun,
         Err(early) => return early,
     };
@@ -135,14 +144,17 @@ fn take_head<'a, R: Source>(
     map: &Map,
     reader: &mut CertReader<R>,
     budget: u64,
+    gaps: &mut Option<Vec<OddGap>>,
 ) -> Result<(Vec<TreeNode>, State<'a>), Result<Verdict, Stop>>
     requires standing { standing_of reader.old ≡ Reading Start }
     requires lines { lines_of reader.old ≡ 0 }
+    requires told { AreToldGaps map.now gaps.old }
     ensures begins { IfOk result (λ begun.
         IsBehindTree R.remaining R.failure_count map.now budget reader.old reader.new begun.0.items begun.1) }
     ensures answers { IfErr result (λ early.
         IsAnswer R.remaining R.failure_count map.now budget reader.old reader.new early) }
     ensures same_reference { R.reference (source_of reader.new) ≡ R.reference (source_of reader.old) }
+    ensures told { AreToldGaps map.now gaps.new }
 {
     let counts = match reader.next_part() {
         Ok(Some(CertPart::Counts(counts, _))) => counts,
@@ -154,7 +166,7 @@ fn take_head<'a, R: Source>(
         Ok(_) => unreachable!(),
         Err(stop) => return Err(stopped(stop)),
     };
-    match take_counted(alloc, map, counts, &nodes, budget) {
+    match take_counted(alloc, map, counts, &nodes, budget, gaps) {
         Ok(state) => Ok((nodes, state)),
         Err(halt) => Err(answer(halt)),
     }
@@ -167,14 +179,17 @@ pub fn take_counted<'a>(
     counts: Counts,
     nodes: &[TreeNode],
     budget: u64,
+    gaps: &mut Option<Vec<OddGap>>,
 ) -> Result<State<'a>, Halt>
     requires whole { IsPreorder nodes.now }
     requires numbered { length nodes.now < 2 ^ 32 }
-    ensures { LeadsBehindTree map.now budget (AreCounts map.now counts × IsTree map.now nodes.now) (λ c. c.counts ≡ counts)
+    requires told { AreToldGaps map.now gaps.old }
+    ensures leads { LeadsBehindTree map.now budget (AreCounts map.now counts × IsTree map.now nodes.now) (λ c. c.counts ≡ counts)
         nodes.now result }
+    ensures told { AreToldGaps map.now gaps.new }
 {
     if are_counts(map, counts) {
-        take_tree(alloc, map, nodes, budget)
+        take_tree(alloc, map, nodes, budget, gaps)
     } else {
         Ok(State::Wrong(CertFault::Counts))
     }

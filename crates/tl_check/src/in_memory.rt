@@ -6,6 +6,7 @@ ghost use Rattle.tl_check_planar.specs.Searching.{meeting_segments};
 ghost use Rattle.tl_check_verdict.specs.Sound.{IsSound, IsSoundFor};
 ghost use Rattle.tl_check_verdict.specs.Valid.{AllowsSearch, IsValid};
 ghost use Rattle.tl_check_verdict.specs.Truth.{IsTrueOfMap, IsTrueOfCert, IsOfDarts};
+ghost use Rattle.tl_check.specs.Keeping.Known.{AreToldGaps};
 ghost use Rattle.tl_check.specs.Keeping.Read.{IsOfCert};
 ghost use Rattle.tl_check.specs.Keeping.Streams.{Shows};
 ghost use Rattle.tl_check_verdict.specs.Verdicts.{OnSound, OnSoundButFaces, IfSound, IfMapFault, IfCertFault, UnlessMeet, OnSearched, IsReport, MayStop};
@@ -18,6 +19,7 @@ use crate::walks::{conclude, take_walk};
 use std::alloc::Global;
 use tl_cert::Certificate;
 use tl_cert_output::Stop;
+use tl_check_faces::OddGap;
 use tl_check_verdict::Verdict;
 use tl_map_county::Map;
 
@@ -85,16 +87,25 @@ fn decide(
 ) -> Result<Verdict, Stop>
     ensures { IsOfCert map.now faces budget cert.now result }
 {
-    let decided = check_whole(alloc, map, cert, budget);
-    with_faces(alloc, map, faces, decided)
+    let mut gaps = None;
+    let decided = check_whole(alloc, map, cert, budget, &mut gaps);
+    with_faces(alloc, map, faces, decided, gaps)
 }
 
-// The answer, with one clause for what it says by its kind.
-fn check_whole(alloc: Global, map: &Map, cert: &Certificate, budget: u64) -> Result<Verdict, Stop>
+// The answer, with one clause for what it says by its kind, and the gaps that a sweep has told, if one was made.
+fn check_whole(
+    alloc: Global,
+    map: &Map,
+    cert: &Certificate,
+    budget: u64,
+    gaps: &mut Option<Vec<OddGap>>,
+) -> Result<Verdict, Stop>
+    requires told { AreToldGaps map.now gaps.old }
     ensures shows { Shows map.now cert.now budget result }
     ensures meets { UnlessMeet result (AllowsSearch map.now cert.now → IsPlanar map.now.chains) }
+    ensures told { AreToldGaps map.now gaps.new }
 {
-    let mut state = match take_counted(alloc, map, cert.counts(), cert.tree(), budget) {
+    let mut state = match take_counted(alloc, map, cert.counts(), cert.tree(), budget, gaps) {
         Ok(state) => state,
         Err(halt) => return answer(halt),
     };

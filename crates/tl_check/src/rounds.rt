@@ -4,9 +4,9 @@ ghost use Rattle.std.specs.Prelude.{◌<◌, zero, length};
 ghost use Rattle.tl_cert.specs.Certificates.{TheCertificate};
 ghost use Rattle.tl_check.specs.Keeping.Parts.{with_round, Holds, IsLed, Leads, AreRoundsSoFar, TakesRounds};
 
+use crate::known::known_before;
 use crate::state::{Halt, State};
 use std::alloc::Global;
-use tl_check_points::Rings;
 use tl_check_sides::{Rounds, Walks};
 use tl_check_verdict::{CertFault, MapFault};
 use tl_map_county::Map;
@@ -19,8 +19,8 @@ pub fn take_round<'a>(map: &Map, state: State<'a>, round: &[u32]) -> State<'a>
     ensures { IsLed map.now (λ c. with_round c round.now) TakesRounds state.entry result }
 {
     match state {
-        State::Rounding(mut rounds) => match rounds.take(map, round) {
-            Ok(()) => State::Rounding(rounds),
+        State::Rounding(mut rounds, suspects) => match rounds.take(map, round) {
+            Ok(()) => State::Rounding(rounds, suspects),
             Err(fault) => State::Wrong(CertFault::Round(fault)),
         },
         wrong => wrong,
@@ -39,7 +39,7 @@ pub fn end_rounds<'a>(
     ensures { Leads map.now (λ c. c) state.entry result }
 {
     match state {
-        State::Rounding(rounds) => begin_walks(alloc, map, rounds, lent),
+        State::Rounding(rounds, suspects) => begin_walks(alloc, map, rounds, suspects, lent),
         ended => Ok(ended),
     }
 }
@@ -49,10 +49,11 @@ fn begin_walks<'a>(
     alloc: Global,
     map: &Map,
     rounds: Rounds,
+    suspects: Option<Vec<u32>>,
     lent: &'a [Vec<u32>],
 ) -> Result<State<'a>, Halt>
-    requires held { (c : TheCertificate) × AreRoundsSoFar map.now c rounds }
-    ensures { Leads map.now (λ c. c) (State.Rounding rounds) result }
+    requires held { (c : TheCertificate) × AreRoundsSoFar map.now c rounds suspects }
+    ensures { Leads map.now (λ c. c) (State.Rounding rounds suspects) result }
 {
     let next = match rounds.end(map) {
         Ok(next) => next,
@@ -69,6 +70,6 @@ fn begin_walks<'a>(
         }
     }
     let walks = Walks::new(alloc, map, next)?;
-    let rings = Rings::new(alloc, map.darts(), lent)?;
-    Ok(State::Walking(walks, rings))
+    let known = known_before(alloc, map, suspects, lent)?;
+    Ok(State::Walking(walks, known))
 }

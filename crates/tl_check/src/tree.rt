@@ -1,4 +1,4 @@
-//! The tree of a certificate, and the search for a place where chains meet that they may not.
+//! The tree of a certificate, and what is begun behind it.
 
 ghost use Rattle.std.specs.Prelude.{◌<◌, ◌≤◌, ◌^◌, [], length, OnOk, IfOk, IfErr};
 ghost use Rattle.tl_tree_index.specs.Preorder.{IsPreorder};
@@ -6,11 +6,14 @@ ghost use Rattle.tl_tree_index.specs.Trees.{depth, tree_of};
 ghost use Rattle.tl_check_sides.specs.Keeping.Rounded.{AreSized, HaveTaken};
 ghost use Rattle.tl_check_sides.specs.Cells.Cells.{CellsAgree};
 ghost use Rattle.tl_check_verdict.specs.Valid.{AreCounts, IsTree};
+ghost use Rattle.tl_check.specs.Keeping.Known.{AreToldGaps};
 ghost use Rattle.tl_check.specs.Keeping.Parts.{LeadsBehindTree, MayEnd};
 
+use crate::search::{Found, search};
 use crate::state::{Halt, State};
 use std::alloc::Global;
-use tl_check_planar::{Meeting, Segments, first_meet};
+use tl_check_faces::OddGap;
+use tl_check_planar::Segments;
 use tl_check_sides::Rounds;
 use tl_check_sides::cells::find_cells_at_odds;
 use tl_check_verdict::{CertFault, MapFault};
@@ -19,39 +22,51 @@ use tl_tree::FlatTree;
 use tl_tree_index::{TreeNode, TreeStop};
 
 /// Takes the tree, behind counts that are the map's: it fits the map's segments and the chains are planar, or it is wrong,
-/// or no further part is looked at.
+/// or no further part is looked at. Where a sweep tells of gaps whose facing sides differ, these are kept.
 pub fn take_tree<'a>(
     alloc: Global,
     map: &Map,
     nodes: &[TreeNode],
     budget: u64,
+    gaps: &mut Option<Vec<OddGap>>,
 ) -> Result<State<'a>, Halt>
     requires whole { IsPreorder nodes.now }
     requires numbered { length nodes.now < 2 ^ 32 }
-    ensures { LeadsBehindTree map.now budget (IsTree map.now nodes.now) (λ c. AreCounts map.now c.counts) nodes.now result }
+    requires told { AreToldGaps map.now gaps.old }
+    ensures leads { LeadsBehindTree map.now budget (IsTree map.now nodes.now) (λ c. AreCounts map.now c.counts) nodes.now result }
+    ensures told { AreToldGaps map.now gaps.new }
 {
     match FlatTree::from_nodes(alloc, nodes) {
-        Ok(tree) => search_by(alloc, map, &tree, budget),
+        Ok(tree) => search_by(alloc, map, &tree, budget, gaps),
         Err(TreeStop::TooDeep) => Ok(State::Wrong(CertFault::TooDeep)),
         Err(TreeStop::Memory) => Err(Halt::Memory),
     }
 }
 
-/// Searches by a tree, if it fits the map's segments, for a place where chains meet that they may not.
-fn search_by<'a>(alloc: Global, map: &Map, tree: &FlatTree, budget: u64) -> Result<State<'a>, Halt>
+/// Looks, by a tree that fits the map's segments, for a place where chains meet that they may not.
+fn search_by<'a>(
+    alloc: Global,
+    map: &Map,
+    tree: &FlatTree,
+    budget: u64,
+    gaps: &mut Option<Vec<OddGap>>,
+) -> Result<State<'a>, Halt>
     requires shallow { depth (tree_of tree.now) ≤ 64 }
-    ensures { LeadsBehindTree map.now budget (IsTree map.now tree.now) (λ c. AreCounts map.now c.counts) tree.now result }
+    requires told { AreToldGaps map.now gaps.old }
+    ensures leads { LeadsBehindTree map.now budget (IsTree map.now tree.now) (λ c. AreCounts map.now c.counts) tree.now result }
+    ensures told { AreToldGaps map.now gaps.new }
 {
     match tree.check(alloc, &Segments::new(map))? {
         Some(fault) => return Ok(State::Wrong(CertFault::Tree(fault))),
         None => {}
     }
-    match first_meet(map, tree, budget) {
-        Meeting::Found(meet) => Err(Halt::Fault(MapFault::Meet(meet))),
-        Meeting::Budget => Err(Halt::Budget),
-        Meeting::Clear => {
+    match search(alloc, map, tree, budget)? {
+        Found::Meet(meet) => Err(Halt::Fault(MapFault::Meet(meet))),
+        Found::Budget => Err(Halt::Budget),
+        Found::Planar(suspects, found) => {
+            *gaps = found;
             let rounds = begin_rounds(alloc, map)?;
-            Ok(State::Rounding(rounds))
+            Ok(State::Rounding(rounds, suspects))
         }
     }
 }

@@ -9,7 +9,7 @@ use Rattle.tl_check.proofs.Facing.{alone, but, sound_so}
 use Rattle.tl_check.proofs.as_read.check_text.Goals as goal
 
 pub check_parts-requires : goal.check_parts-requires
-check_parts-requires g c = record { standing = c.new-reader.ensures.standing; lines = c.new-reader.ensures.lines }
+check_parts-requires g c = record { standing = c.new-reader.ensures.standing; lines = c.new-reader.ensures.lines; told = c.requires.told }
 
 pub returns-clause-decides : goal.returns-clause-decides
 returns-clause-decides g c =

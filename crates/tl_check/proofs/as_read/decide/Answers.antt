@@ -4,7 +4,10 @@ use Rattle.tl_check.proofs.as_read.decide.Goals as goal
 
 pub with_faces-requires : goal.with_faces-requires
 with_faces-requires g c =
-    sound_so c.check_text-decided.result _ (IsSound c.args.map.now) c.check_text-decided.ensures.decides.sound (λ so. so.sound)
+    record {
+      sound = sound_so c.check_text-decided.result _ (IsSound c.args.map.now) c.check_text-decided.ensures.decides.sound (λ so. so.sound);
+      told = c.check_text-decided.ensures.told;
+    }
 
 pub returns : goal.returns
 returns g c =

@@ -10,10 +10,10 @@ use Rattle.tl_check.proofs.in_memory.check_whole.Goals as goal
 
 pub loop-round-init : goal.loop-round-init
 loop-round-init c = record {
-  holds = c.in-Ok.ensures.holds (first_rounds c.args.cert.now 0) (sym c.counts.ensures) (sym c.tree.ensures.tree) refl refl;
-  takes = c.in-Ok.ensures.rounds;
-  searched = c.in-Ok.ensures.searched;
-  behind = c.in-Ok.ensures.behind;
+  holds = c.in-Ok.ensures.leads.holds (first_rounds c.args.cert.now 0) (sym c.counts.ensures) (sym c.tree.ensures.tree) refl refl;
+  takes = c.in-Ok.ensures.leads.rounds;
+  searched = c.in-Ok.ensures.leads.searched;
+  behind = c.in-Ok.ensures.leads.behind;
 }
 
 pub take_round-state-requires-clause-some : goal.take_round-state-requires-clause-some
@@ -83,9 +83,9 @@ loop-walk-preserved c =
     }
 
 pub returns-in-Err-clause-shows : goal.returns-in-Err-clause-shows
-returns-in-Err-clause-shows c = rw c.answer.ensures (halted c.args.map.now c.args.cert.now c.args.budget c.in-Err.halt c.in-Err.ensures.halts
+returns-in-Err-clause-shows c = rw c.answer.ensures (halted c.args.map.now c.args.cert.now c.args.budget c.in-Err.halt c.in-Err.ensures.leads.halts
     (subst (λ tree. UnlessMemory c.in-Err.halt (AreCounts c.args.map.now c.args.cert.now.counts × IsTree c.args.map.now tree)) c.tree.ensures.tree
-    (subst (λ counts. UnlessMemory c.in-Err.halt (AreCounts c.args.map.now counts × IsTree c.args.map.now c.tree.result.now)) c.counts.ensures c.in-Err.ensures.tree)))
+    (subst (λ counts. UnlessMemory c.in-Err.halt (AreCounts c.args.map.now counts × IsTree c.args.map.now c.tree.result.now)) c.counts.ensures c.in-Err.ensures.leads.tree)))
 
 pub returns-in-Err-end_rounds-clause-shows : goal.returns-in-Err-end_rounds-clause-shows
 returns-in-Err-end_rounds-clause-shows c = rw c.answer-in-Err-end_rounds.ensures (ended c.args.map.now c.args.cert.now c.args.budget c.in-Err-end_rounds.halt c.in-Err-end_rounds.ensures.halts
@@ -96,7 +96,7 @@ returns-in-Err-take_walk-clause-shows c = rw c.answer-in-Err-take_walk.ensures (
     (allowed_walks c.args.map.now c.args.cert.now c.loop-walk.walk-index (c.in-Err-take_walk.ensures.allowed (first_walks c.args.cert.now c.loop-walk.walk-index) c.loop-walk.invariant.holds)))
 
 pub returns-in-Err-clause-meets : goal.returns-in-Err-clause-meets
-returns-in-Err-clause-meets c = rw c.answer.ensures (halted_meets c.in-Err.halt _ _ c.in-Err.ensures.meets (λ planar allows. planar))
+returns-in-Err-clause-meets c = rw c.answer.ensures (halted_meets c.in-Err.halt _ _ c.in-Err.ensures.leads.meets (λ planar allows. planar))
 
 pub returns-in-Err-end_rounds-clause-meets : goal.returns-in-Err-end_rounds-clause-meets
 returns-in-Err-end_rounds-clause-meets c = rw c.answer-in-Err-end_rounds.ensures (meets_so (answer_of c.in-Err-end_rounds.halt) _

@@ -6,7 +6,10 @@ use Rattle.tl_check.proofs.Facing.{alone, but, decided, sound_so}
 use Rattle.tl_check.proofs.in_memory.decide.Goals as goal
 
 pub with_faces-requires : goal.with_faces-requires
-with_faces-requires c = is_sound c.args.map.now c.args.cert.now c.args.budget c.check_whole-decided.result c.check_whole-decided.ensures.shows
+with_faces-requires c = record {
+  sound = is_sound c.args.map.now c.args.cert.now c.args.budget c.check_whole-decided.result c.check_whole-decided.ensures.shows;
+  told = c.check_whole-decided.ensures.told;
+}
 
 pub returns : goal.returns
 returns c =

@@ -1,9 +1,8 @@
-use Rattle.std.proofs.Common.{refl, sym, subst, ap, ◌∙◌}
+use Rattle.std.proofs.Common.{refl, sym, subst}
 use Rattle.std.proofs.lemmas.Result.{err_from_is_err_and}
 use Rattle.tl_check_sides.specs.Keeping.Walked.{HaveWalked}
 use Rattle.tl_check_sides.proofs.Headings.{dart_within}
-use Rattle.tl_check_points.specs.Rings.{TheRings}
-use Rattle.tl_check.proofs.Walking.{none_boxed}
+use Rattle.tl_check.specs.Keeping.Known.{IsKnown}
 use Rattle.tl_check.proofs.rounds.begin_walks.Goals as goal
 
 pub end-requires : goal.end-requires
@@ -46,16 +45,18 @@ returns c = record {
     sides = c.in-None.ensures.none refl;
     ready = c.in_ok-walks.ensures.ready;
     walked = subst (λ walks. HaveWalked c.args.map.now.chains walks c.in_ok-walks.walks) (sym so.no_walks) c.in_ok-walks.ensures.none;
-    laid = ap (λ (r : TheRings). r.rings) c.in_ok-rings.ensures ∙ sym so.no_walks;
-    boxed = none_boxed c.args.map.now.chains c.in_ok-rings.rings c.in_ok-rings.ensures;
+    behind = subst (λ walks. IsKnown c.args.map.now walks c.in_ok-known.known) (sym so.no_walks) c.in_ok-known.ensures;
   };
   takes = tt;
   searched = λ n within. within;
   behind = λ planar. planar;
 }
 
-pub returns-in_err-rings : goal.returns-in_err-rings
-returns-in_err-rings c = let p = err_from_is_err_and c.from_residual-in_err-rings.result c.from_residual-in_err-rings.ensures.1 in rw (p.1, p.2) (record {
+pub returns-in_err-known : goal.returns-in_err-known
+returns-in_err-known c = let p = err_from_is_err_and c.from_residual-in_err-known.result c.from_residual-in_err-known.ensures.1 in rw (p.1, p.2) (record {
   halts = tt;
   allowed = λ cert so. record { counts = so.founded.counts; tree = so.founded.tree };
 })
+
+pub known_before-requires : goal.known_before-requires
+known_before-requires c = c.requires.held.1.told

@@ -1,14 +1,14 @@
-use Rattle.std.proofs.Common.{length, sym, subst, ap, ◌<◌, ◌^◌, ◌∙◌}
-use Rattle.tl_check_sides.specs.Walks.{AreWalks}
+use Rattle.std.proofs.Common.{subst}
 use Rattle.tl_check_verdict.specs.Valid.{IsTree}
 use Rattle.tl_check.specs.Keeping.Parts.{IsWalked}
 use Rattle.tl_check.proofs.Searched.{answered_behind, answered_within, ended_searched}
 use Rattle.tl_check.proofs.Stopping.{ended_concludes}
+use Rattle.tl_check.proofs.Knowing.{known_of}
 use Rattle.tl_check.proofs.Walking.{shown_by}
 use Rattle.tl_check.proofs.walks.conclude.Goals as goal
 
 -- what the state that is held shows
-walked : (c : goal.After-rings-in-Ok-end_walks-1) → IsWalked c.args.map.now c.requires.held.0 c.in-Ok-end_walks.count c.in-Ok-end_walks.rings
+walked : (c : goal.After-known-in-Ok-end_walks-1) → IsWalked c.args.map.now c.requires.held.0 c.in-Ok-end_walks.count c.in-Ok-end_walks.known
 walked c = c.in-Ok-end_walks.ensures.ended.walked c.requires.held.0 (c.in-Ok.ensures.holds c.requires.held.0 c.requires.held.1)
 
 pub end_rounds-requires : goal.end_rounds-requires
@@ -26,14 +26,8 @@ look_at_points-requires-clause-tree c = subst (IsTree c.args.map.now) c.requires
 pub look_at_points-requires-clause-sides : goal.look_at_points-requires-clause-sides
 look_at_points-requires-clause-sides c = (walked c).sides
 
-pub look_at_points-requires-clause-walks : goal.look_at_points-requires-clause-walks
-look_at_points-requires-clause-walks c = subst (AreWalks c.args.map.now.chains) (sym (walked c).laid) (walked c).valid.walks
-
-pub look_at_points-requires-clause-boxed : goal.look_at_points-requires-clause-boxed
-look_at_points-requires-clause-boxed c = (walked c).boxed
-
-pub look_at_points-requires-clause-few : goal.look_at_points-requires-clause-few
-look_at_points-requires-clause-few c = subst (λ n. n < 2 ^ 32) ((walked c).counted ∙ sym (ap length (walked c).laid)) c.in-Ok-end_walks.ensures.few
+pub look_at_points-requires-clause-known : goal.look_at_points-requires-clause-known
+look_at_points-requires-clause-known c = known_of c.args.map.now c.requires.held.0 c.in-Ok-end_walks.count c.in-Ok-end_walks.known (walked c) c.in-Ok-end_walks.ensures.few
 
 pub look_at_points-requires-clause-whole : goal.look_at_points-requires-clause-whole
 look_at_points-requires-clause-whole c = c.requires.whole
@@ -53,7 +47,7 @@ pub returns-in-Ok-look_at_points : goal.returns-in-Ok-look_at_points
 returns-in-Ok-look_at_points c =
     let ended = c.in-Ok-end_walks.ensures.ended in
     record {
-      concludes = λ cert held. (c.in-Ok-end_walks.count, shown_by c.args.map.now cert c.in-Ok-end_walks.count c.in-Ok-end_walks.rings (ended.walked cert (c.in-Ok.ensures.holds cert held)) c.in-Ok-look_at_points.ensures.placed, c.report.ensures);
+      concludes = λ cert held. (c.in-Ok-end_walks.count, shown_by c.args.map.now cert c.in-Ok-end_walks.count c.in-Ok-end_walks.known (ended.walked cert (c.in-Ok.ensures.holds cert held)) c.in-Ok-look_at_points.ensures.placed, c.report.ensures);
       within = λ n searched. ended.searched n (c.in-Ok.ensures.searched n searched);
       behind = λ behind. tt;
       allowed = tt;

@@ -5,13 +5,13 @@ use Rattle.tl_check.proofs.walks.end_walks.Goals as goal
 
 pub end-requires : goal.end-requires
 end-requires c =
-    let so : AreWalksSoFar c.args.map.now c.requires.held.0 c.in-Walking.walks c.in-Walking.rings = subst (Holds c.args.map.now c.requires.held.0) c.in-Walking.is c.requires.held.1 in
+    let so : AreWalksSoFar c.args.map.now c.requires.held.0 c.in-Walking.walks c.in-Walking.known = subst (Holds c.args.map.now c.requires.held.0) c.in-Walking.is c.requires.held.1 in
     record { ready = so.ready }
 
 pub returns-in-Ok-clause-ended : goal.returns-in-Ok-clause-ended
 returns-in-Ok-clause-ended c = record {
   walked = λ cert held.
-      let so : AreWalksSoFar c.args.map.now cert c.in-Walking.walks c.in-Walking.rings = subst (Holds c.args.map.now cert) c.in-Walking.is held in
+      let so : AreWalksSoFar c.args.map.now cert c.in-Walking.walks c.in-Walking.known = subst (Holds c.args.map.now cert) c.in-Walking.is held in
       let whole = c.in-Ok.ensures.whole cert.walks so.walked in
       record {
         valid = record { counts = so.founded.counts; tree = so.founded.tree; rounds = so.rounds; walks = whole.0 };
@@ -19,8 +19,7 @@ returns-in-Ok-clause-ended c = record {
         sides = so.sides;
         cells = so.founded.cells;
         counted = whole.1;
-        laid = so.laid;
-        boxed = so.boxed;
+        behind = so.behind;
       };
   searched = λ n searched. subst (IsSearched c.args.map.now n) c.in-Walking.is searched;
 }
@@ -37,7 +36,7 @@ returns-in-Walking-clause-few c = tt
 pub returns-in-Walking-clause-faulty : goal.returns-in-Walking-clause-faulty
 returns-in-Walking-clause-faulty c = record {
   fault = λ cert held.
-      let so : AreWalksSoFar c.args.map.now cert c.in-Walking.walks c.in-Walking.rings = subst (Holds c.args.map.now cert) c.in-Walking.is held in
+      let so : AreWalksSoFar c.args.map.now cert c.in-Walking.walks c.in-Walking.known = subst (Holds c.args.map.now cert) c.in-Walking.is held in
       c.in-Err.ensures.fault cert.walks so.walked;
   behind = λ behind of_darts. subst (IsBehindSearch c.args.map.now) c.in-Walking.is behind;
 }
