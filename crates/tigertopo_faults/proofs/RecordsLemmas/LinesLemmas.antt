@@ -14,7 +14,7 @@ use Rattle.tl_record.specs.declared.record.Record.{Record}
 use Rattle.tl_record.specs.declared.record.Record.TheVariants.{Chain, Shape, Sides, PolyPoint, Landmark, AreaLink}
 use Rattle.tigertopo_faults.specs.declared.records.subject.Subject.{Subject}
 use Rattle.tigertopo_faults.specs.declared.records.subject.Subject.TheVariants as subject
-use Rattle.tigertopo_faults.specs.Records.contracts.subject.SubjectPartialEq.TheImpl.{eq-value}
+use Rattle.tigertopo_faults.specs.contracts.records.subject.SubjectPartialEq.TheImpl.{eq-value}
 use Rattle.tigertopo_faults.specs.declared.records.line.RecordLine.{RecordLine}
 use Rattle.tigertopo_faults.specs.declared.records.lines.RecordLines.{RecordLines}
 use Rattle.tigertopo_faults.specs.Records.SpokenOf.{Subjects, is_about}
