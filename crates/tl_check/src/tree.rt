@@ -43,7 +43,8 @@ pub fn take_tree<'a>(
     }
 }
 
-/// Looks, by a tree that fits the map's segments, for a place where chains meet that they may not.
+/// Looks behind a tree, if it fits the map's segments, for a place where chains meet that they may not, and begins the rounds where
+/// there is none.
 fn search_by<'a>(
     alloc: Global,
     map: &Map,
