@@ -16,7 +16,7 @@ known_of m c count known w few = record { walks = c.walks; are_walks = w.valid.w
 none_held : (p : ℕ) → ¬ Contains [] p
 none_held p has = let no : has.0 < 0 = has.1 in omega (arith, no)
 
-placed_but : (m : TheMap) (suspects : List ℕ) → AreSuspects m suspects → suspects ≡ [] → ArePlaced m
+pub placed_but : (m : TheMap) (suspects : List ℕ) → AreSuspects m suspects → suspects ≡ [] → ArePlaced m
 placed_but m suspects so none p polygon at = elim (so.others p polygon at) [
   | inl listed ↦ absurd (none_held p (subst (λ ns. Contains ns p) none listed))
   | inr placed ↦ placed
