@@ -6,8 +6,8 @@ use std::io::IsTerminal;
 use std::process::ExitCode;
 use tigertopo_command::start::answer;
 use tigertopo_command::words::words_of;
-use tigertopo_system_files::SystemFiles;
 use tigertopo_program::Whole;
+use tigertopo_system_files::SystemFiles;
 use tl_record::MeterOut;
 
 fn main(rt: HostRuntime) -> ExitCode {
