@@ -1,5 +1,5 @@
 -- Items that are cleared of any conflict with those behind them.
-use Rattle.std.proofs.Common.{◌≡◌, inl, inr, ℕ, ◌+◌, ◌<◌, ◌≤◌, Bool, true, false, Option, None, List, [], ◌∷◌, ◌++◌, length, get_or, take, drop, map, set, append-nil, All, Result, Ok, Err, ap, sym, subst, ◌∙◌, arith}
+use Rattle.std.proofs.Common.{◌≡◌, ◌⊎◌, inl, inr, refl, ℕ, ◌+◌, ◌<◌, ◌≤◌, Bool, true, false, Option, None, List, [], ◌∷◌, ◌++◌, length, get_or, take, drop, map, set, append-nil, All, Result, Ok, Err, ap, sym, subst, ◌∙◌, arith}
 use Rattle.std.specs.Prelude.{OnOk}
 use Rattle.std.proofs.lemmas.Bool.{cases_lt, cases_eq, true≢false}
 use Rattle.std.proofs.lemmas.List.{get_or_default, get_or-set_same, get_or-set_other, length-drop, map-append, nil_from_length, take_all, take_more}
@@ -8,6 +8,7 @@ use Rattle.tl_geom.specs.declared.rect.Rect.{Rect}
 use Rattle.tl_geom.specs.Rectangle.{AreMeeting, Covers, Holds}
 use Rattle.tl_tree_index.specs.Hits.{times, AreHits}
 use Rattle.tl_tree_index.proofs.Marks.{times-at}
+use Rattle.tl_check_meets.specs.Conflicts.{IsOneMarked}
 use Rattle.tl_check_meets.specs.Keeping.Doubting.{IsCleared, IsClearOf, IsAround, AreNear}
 use Rattle.tl_check_meets.proofs.Listing.{stands, meeting_or_not}
 
@@ -110,3 +111,11 @@ module _ {C : Type 0} (n : ℕ) (tells : ℕ → ℕ → Option C → Type 0) wh
     | inl meet ↦ All-contains (IsClearOf bounds_of tells marks i) listed j none (near j one.behind one.known meet) unmarked
         (record { behind = one.behind; meet = meet; conflict = one.conflict })
   ]
+
+  -- where each item is cleared, of each two that conflict the first is marked
+  pub one_marked : (marks : List Bool) → ((i : ℕ) → i < n → IsCleared n tells marks i) → IsOneMarked n tells marks
+  one_marked marks cleared i j lt known conflict = go (get_or marks i false) refl
+    where
+      go : (b : Bool) → get_or marks i false ≡ b → (get_or marks i false ≡ true) ⊎ (get_or marks j false ≡ true)
+      go true e = inl e
+      go false e = absurd (cleared i (omega (arith, lt, known)) e j (record { behind = lt; known = known; conflict = conflict }))

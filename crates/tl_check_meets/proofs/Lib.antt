@@ -3,7 +3,9 @@ pub mod Rows
 pub mod Pushing
 mod Listing
 mod Telling
-mod Wholes
 pub mod Deciding
 mod Planar
+mod Conflicting
+mod Ordering
 mod Doubting
+mod Pairing

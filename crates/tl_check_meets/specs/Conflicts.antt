@@ -1,5 +1,5 @@
 -- All conflicts of items.
-use Rattle.std.specs.Prelude.{◌≡◌, ℕ, ◌<◌, Option, None, List, All}
+use Rattle.std.specs.Prelude.{◌≡◌, ◌⊎◌, ℕ, ◌<◌, Bool, true, false, Option, None, List, All, slice_index_or}
 use Rattle.std.specs.List.{Any}
 use Rattle.tl_tree_index.specs.Searches.{IsConflict}
 use Rattle.tl_tree_index.specs.declared.items.Conflict.{Conflict}
@@ -11,3 +11,8 @@ pub record AreAllConflicts {C : Type 0} (n : ℕ) (tells : ℕ → ℕ → Optio
   pub true_ones : All (λ f. IsConflict n tells f.i f.j f.c) found
   pub complete : (i j : ℕ) → i < j → j < n → ¬ tells i j None → Any (λ f. (f.i ≡ i) × (f.j ≡ j)) found
   pub rising : AreRising (λ f. f.i) (λ f. f.j) found
+
+-- of each two of the n items of which it isn't told that they don't conflict one is marked
+abbrev pub IsOneMarked : {C : Type 0} → ℕ → (ℕ → ℕ → Option C → Type 0) → List Bool → Type 0
+IsOneMarked n tells marks =
+    (i j : ℕ) → i < j → j < n → ¬ tells i j None → (slice_index_or marks i false ≡ true) ⊎ (slice_index_or marks j false ≡ true)

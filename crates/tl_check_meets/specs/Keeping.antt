@@ -2,4 +2,5 @@
 pub mod Listing
 pub mod Reaching
 pub mod Telling
+pub mod Pairing
 pub mod Doubting

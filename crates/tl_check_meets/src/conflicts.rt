@@ -1,12 +1,12 @@
 //! All conflicts of items.
-ghost use Rattle.std.specs.Prelude.{◌<◌, ◌+◌, zero, IfOk, OnOk};
-ghost use Rattle.tl_check_meets.specs.Conflicts.{AreAllConflicts};
-ghost use Rattle.tl_check_meets.specs.Keeping.Listing.{AreBehind};
-ghost use Rattle.tl_check_meets.specs.Keeping.Reaching.{AreConflictsBefore};
+ghost use Rattle.std.specs.Prelude.{IfOk};
+ghost use Rattle.tl_check_meets.specs.Conflicts.{AreAllConflicts, IsOneMarked};
+ghost use Rattle.tl_check_meets.specs.Keeping.Listing.{IsListed};
+ghost use Rattle.tl_check_meets.specs.Keeping.Pairing.{AreAllPairs, AreInOrder, IsConflictOf};
 
 use crate::ConsistentItems;
-use crate::behind::list_behind;
-use crate::doubtful::{is_marked, mark_doubtful};
+use crate::doubtful::mark_doubtful;
+use crate::pairs::{Pair, all_pairs};
 use std::alloc::Global;
 use tl_tree_index::{BoxIndex, Conflict, Items, Memory};
 
@@ -27,41 +27,63 @@ where
     ensures { IfOk result (λ found. AreAllConflicts (I.count items.now) (I.tells items.now) found.items) }
 {
     let marks = mark_doubtful(alloc, index, items)?;
-    let mut found = Vec::new(alloc);
-    let mut hits = Vec::new(alloc);
-    for i in 0..items.len() {
-        if !is_marked(&marks, i) {
-            continue;
+    all_conflicts_by_marks(alloc, index, items, &marks)
+}
+
+/// All conflicts of items, in the same order, where of each two that conflict one is marked. For each item that is marked one search
+/// is made, and none for the others. An error says that memory was refused.
+pub fn all_conflicts_by_marks<I: ConsistentItems, X: BoxIndex>(
+    alloc: Global,
+    index: &X,
+    items: &I,
+    marks: &[bool],
+) -> Result<Vec<Conflict<I::C>>, Memory>
+where
+    I::C: Drop,
+    requires fits { X.fits index.now (I.count items.now) (I.bounds_of items.now) }
+    requires marked { IsOneMarked (I.count items.now) (I.tells items.now) marks.now }
+    ensures { IfOk result (λ found. AreAllConflicts (I.count items.now) (I.tells items.now) found.items) }
+{
+    let pairs = all_pairs(alloc, index, items, marks)?;
+    conflicts_of(alloc, items, &pairs)
+}
+
+/// The conflicts of pairs, in their order.
+fn conflicts_of<I: ConsistentItems>(
+    alloc: Global,
+    items: &I,
+    pairs: &[Pair],
+) -> Result<Vec<Conflict<I::C>>, Memory>
+where
+    I::C: Drop,
+    requires pairs { AreAllPairs (I.count items.now) (I.tells items.now) pairs.now }
+    requires ordered { AreInOrder pairs.now }
+    ensures { IfOk result (λ found. AreAllConflicts (I.count items.now) (I.tells items.now) found.items) }
+{
+    let Ok(mut found) = Vec::with_capacity(alloc, pairs.len()) else {
+        return Err(Memory);
+    };
+    for place in 0..pairs.len() {
+        if found.push(conflict_of(items, pairs[place])).is_err() {
+            return Err(Memory);
         }
-        list_behind(index, items, i, &mut hits)?;
-        push_behind(items, i, &hits, &mut found)?;
     }
     Ok(found)
 }
 
-/// Appends the conflicts of item `i` with those behind it that conflict with it.
-fn push_behind<I: ConsistentItems>(
-    items: &I,
-    i: u32,
-    hits: &[u32],
-    found: &mut Vec<Conflict<I::C>>,
-) -> Result<(), Memory>
+/// The conflict of two items that conflict.
+fn conflict_of<I: ConsistentItems>(items: &I, pair: Pair) -> Conflict<I::C>
 where
     I::C: Drop,
-    requires behind { AreBehind (I.count items.now) (I.tells items.now) i hits.now }
-    requires found { AreConflictsBefore (I.count items.now) (I.tells items.now) i zero found.old.items }
-    ensures { OnOk result
-        (AreConflictsBefore (I.count items.now) (I.tells items.now) (i + 1) zero found.new.items) }
+    requires { IsListed (I.count items.now) (I.tells items.now) pair.i pair.j }
+    ensures { IsConflictOf (I.count items.now) (I.tells items.now) pair result }
 {
-    for place in 0..hits.len() {
-        let j = hits[place];
-        let Some(c) = items.conflict(i, j) else {
-            // It is listed, so they conflict.
-            unreachable!()
-        };
-        if found.push(Conflict { i, j, c }).is_err() {
-            return Err(Memory);
-        }
+    match items.conflict(pair.i, pair.j) {
+        Some(c) => Conflict {
+            i: pair.i,
+            j: pair.j,
+            c,
+        },
+        None => unreachable!(),
     }
-    Ok(())
 }

@@ -3,10 +3,11 @@ ghost use Rattle.std.specs.Prelude.{◌≡◌, ◌↔◌, ℕ, ◌-◌, ◌<◌,
 ghost use Rattle.std.specs.Int.{bit_at};
 ghost use Rattle.tl_geom.specs.declared.rect.Rect.{Rect};
 ghost use Rattle.tl_geom.specs.Rectangle.{AreMeeting};
+ghost use Rattle.tl_check_meets.specs.Conflicts.{IsOneMarked};
 ghost use Rattle.tl_check_meets.specs.Keeping.Doubting.{IsCleared, AreNear, IsClearOf, IsMetBehind};
 
 use crate::ConsistentItems;
-use crate::behind::conflicts;
+use crate::beside::conflicts;
 use crate::groups::{end_of, grain_of, group_end};
 use crate::near::{Near, bounds_of, list_near};
 use std::alloc::Global;
@@ -27,9 +28,7 @@ pub fn mark_doubtful<I: ConsistentItems, X: BoxIndex>(
 where
     I::C: Drop,
     requires { X.fits index.now (I.count items.now) (I.bounds_of items.now) }
-    ensures long { IfOk result (λ marks. length marks.items ≡ I.count items.now) }
-    ensures cleared { IfOk result (λ marks. (i : ℕ) → i < I.count items.now →
-        IsCleared (I.count items.now) (I.tells items.now) marks.items i) }
+    ensures { IfOk result (λ marks. IsOneMarked (I.count items.now) (I.tells items.now) marks.items) }
 {
     let Ok(mut marks) = vec![in alloc; false; items.len() as usize] else {
         return Err(Memory);
@@ -216,9 +215,12 @@ fn mark(marks: &mut [bool], i: u32)
     marks[i as usize] = true;
 }
 
+/// Whether an item is marked. It isn't so of the number of no item.
 pub fn is_marked(marks: &[bool], i: u32) -> bool
-    requires { i < length marks.now }
     ensures { result ≡ slice_index_or marks.now i false }
 {
-    marks[i as usize]
+    match marks.get(i as usize) {
+        Some(mark) => *mark,
+        None => false,
+    }
 }

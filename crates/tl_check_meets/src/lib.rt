@@ -4,7 +4,7 @@
 //! [`all_meets`] lists all conflicts of a map's segments.
 #![tactic(auto)]
 
-mod behind;
+mod beside;
 mod conflicts;
 mod consistent;
 mod doubtful;
@@ -12,7 +12,8 @@ mod groups;
 pub mod laws;
 mod meets;
 mod near;
+mod pairs;
 
-pub use conflicts::all_conflicts;
+pub use conflicts::{all_conflicts, all_conflicts_by_marks};
 pub use consistent::ConsistentItems;
 pub use meets::all_meets;

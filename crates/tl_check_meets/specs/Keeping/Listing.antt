@@ -1,6 +1,5 @@
 -- The items behind one item that conflict with it.
-use Rattle.std.specs.Prelude.{ℕ, ◌<◌, Option, None, List, All, Contains}
-use Rattle.std.specs.List.{AllPairs}
+use Rattle.std.specs.Prelude.{ℕ, ◌<◌, Option, None}
 use Rattle.tl_geom.specs.declared.rect.Rect.{Rect}
 use Rattle.tl_geom.specs.Rectangle.{AreMeeting}
 
@@ -15,9 +14,3 @@ pub record IsListed {C : Type 0} (n : ℕ) (tells : ℕ → ℕ → Option C →
   pub behind : i < j
   pub known : j < n
   pub conflict : ¬ tells i j None
-
--- these are the items behind item i that conflict with it, by rising number
-pub record AreBehind {C : Type 0} (n : ℕ) (tells : ℕ → ℕ → Option C → Type 0) (i : ℕ) (hits : List ℕ) : Type 0 where
-  pub rising : AllPairs (λ a b. a < b) hits
-  pub each : All (IsListed n tells i) hits
-  pub complete : (j : ℕ) → IsListed n tells i j → Contains hits j

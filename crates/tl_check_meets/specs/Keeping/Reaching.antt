@@ -1,10 +1,7 @@
 -- Lists that are filled pair by pair.
-use Rattle.std.specs.Prelude.{◌≡◌, ℕ, Option, List, All}
+use Rattle.std.specs.Prelude.{◌≡◌, ℕ, List, All}
 use Rattle.std.specs.List.{Any}
-use Rattle.tl_tree_index.specs.Searches.{IsConflict}
-use Rattle.tl_tree_index.specs.declared.items.Conflict.{Conflict}
 use Rattle.tl_check_meets.specs.Orders.{IsPairBefore, AreRising}
-use Rattle.tl_check_meets.specs.Keeping.Listing.{IsListed}
 
 -- of things with two numbers each: all are good, they rise strictly, all come before the pair of a and b, and each pair
 -- before that one that is wanted stands there
@@ -13,8 +10,3 @@ pub record ReachTo {X : Type 0} (first second : X → ℕ) (Good : X → Type 0)
   pub rising : AreRising first second xs
   pub before : All (λ x. IsPairBefore (first x) (second x) a b) xs
   pub each : (i j : ℕ) → Wanted i j → IsPairBefore i j a b → Any (λ x. (first x ≡ i) × (second x ≡ j)) xs
-
--- the conflicts of all pairs of items before the pair of a and b
-abbrev pub AreConflictsBefore : {C : Type 0} → ℕ → (ℕ → ℕ → Option C → Type 0) → (a b : ℕ) → List (Conflict C) → Type 0
-AreConflictsBefore {C} n tells a b found =
-    ReachTo (λ (f : Conflict C). f.i) (λ f. f.j) (λ f. IsConflict n tells f.i f.j f.c) (IsListed n tells) a b found
