@@ -1,5 +1,7 @@
 pub mod PlaceLemmas
 pub mod RowLemmas
+pub mod TableLemmas
+pub mod RemainingLemmas
 pub mod MapLemmas
 pub mod SidesLemmas
 pub mod NumberLemmas

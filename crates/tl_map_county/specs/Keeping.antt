@@ -2,3 +2,4 @@
 pub mod Numbered
 pub mod Noded
 pub mod Sides
+pub mod Remaining

@@ -8,4 +8,5 @@ pub mod Nodes
 pub mod Segments
 pub mod Rows
 pub mod Kept
+pub mod Remaining
 pub mod Keeping

@@ -69,6 +69,14 @@ impl Chains {
         self.rows.len() as u32
     }
 
+    /// They are at most as many as a county may have. This does nothing: its contract is all.
+    pub(crate) fn has_few_chains(&self)
+        ensures { length self.now.chains ≤ CHAIN_LIMIT }
+    {
+        // What the parts keep is known where one of them is looked at.
+        let _rows = self.rows.len();
+    }
+
     /// The TLID of a chain, by its number from 0.
     pub fn tlid(&self, c: u32) -> u64
         requires { c < length self.now.chains }

@@ -21,6 +21,7 @@ mod presort;
 mod runs;
 mod segments;
 mod sides;
+mod without;
 
 pub use chains::{ChainRow, Chains};
 pub use darts::reverse_dart;

@@ -14,6 +14,7 @@ use crate::nodes::{Nodes, number_nodes};
 use crate::polygons::Polygon;
 use crate::segments::number_segments;
 use crate::sides::Side;
+use crate::without::{no_landmarks, remaining_chains};
 use std::alloc::{AllocError, Global};
 use std::marker::Model;
 use tl_geom::{Direction, Point, Segment};
@@ -99,6 +100,7 @@ fn number_parts(alloc: Global, chains: &Chains) -> Result<(Nodes, Vec<u32>), All
 impl Map {
     ghost use Rattle.std.specs.Prelude.{◌≡◌, ℕ, ◌<◌, ◌≤◌, ◌*◌, All, IfOk, length, map};
     ghost use Rattle.tl_map_county.specs.Segments.{segments_before, IsSegmentOf, Joins};
+    ghost use Rattle.tl_map_county.specs.Remaining.{map_without};
     ghost use Rattle.tl_map_county.specs.Keeping.Numbered.{AreNumberedSegments};
     ghost use Rattle.tl_map_county.specs.Darts.{dart_start as dart_start_of, dart_end as dart_end_of};
     ghost use Rattle.tl_map_county.specs.Darts.{dart_left as dart_left_of, dart_cell as dart_cell_of, Heads};
@@ -155,6 +157,22 @@ impl Map {
             segment_chains,
             nodes,
         })
+    }
+
+    /// The map without the chains that are marked, with all polygons and without landmarks. A chain that has no mark stays. The error is
+    /// that memory was refused.
+    pub fn without(&self, alloc: Global, marks: &[bool]) -> Result<Map, AllocError>
+        ensures { IfOk result (λ rest. rest ≡ map_without marks.now self.now) }
+    {
+        let (chains, sides) = remaining_chains(
+            alloc,
+            &self.chains,
+            &self.sides,
+            marks,
+            self.polygons.len() as u32,
+        )?;
+        let polygons = self.polygons.to_vec(alloc)?;
+        Map::new(alloc, chains, sides, polygons, no_landmarks(alloc))
     }
 
     /// How many chains there are.

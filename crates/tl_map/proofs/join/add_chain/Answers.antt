@@ -5,7 +5,8 @@ use Rattle.std.proofs.lemmas.List.{length_push}
 use Rattle.tl_geom.specs.declared.point.Point.{Point}
 use Rattle.tl_map.specs.Keeping.Entries.{entry_points}
 use Rattle.tl_map.specs.Keeping.Rows.{drawn_through}
-use Rattle.tl_map.proofs.RowLemmas.{IsTable-push, chains_in-push, one_drawn, length_appended, too_many_with}
+use Rattle.tl_map_county.proofs.TableLemmas.{IsTable-push, chains_in-push}
+use Rattle.tl_map.proofs.RowLemmas.{one_drawn, length_appended, too_many_with}
 use Rattle.tl_map.proofs.join.add_chain.Goals as goal
 
 pub append_chain-requires : goal.append_chain-requires

@@ -6,7 +6,7 @@ use Rattle.tl_map.specs.Keeping.Entries.{IsInside, joined}
 use Rattle.tl_map_county.specs.Chains.{segment_count}
 use Rattle.tl_map.proofs.JoinLemmas.{run_is, above_run, behind_more, ahead_more, ahead_first, drawn_is, joined_more, stops_join, several_more}
 use Rattle.tl_map.proofs.ListedLemmas.{part_inside}
-use Rattle.tl_map.proofs.RowLemmas.{IsTable-nil}
+use Rattle.tl_map_county.proofs.TableLemmas.{IsTable-nil}
 use Rattle.tl_map.proofs.join.join.Goals as goal
 
 pub loop-chain-init : goal.loop-chain-init
