@@ -7,5 +7,6 @@ pub mod Deciding
 mod Planar
 mod Conflicting
 mod Ordering
+mod Remaining
 mod Doubting
 mod Pairing

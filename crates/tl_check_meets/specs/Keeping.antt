@@ -3,4 +3,5 @@ pub mod Listing
 pub mod Reaching
 pub mod Telling
 pub mod Pairing
+pub mod Marking
 pub mod Doubting

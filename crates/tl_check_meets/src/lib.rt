@@ -16,4 +16,4 @@ mod pairs;
 
 pub use conflicts::{all_conflicts, all_conflicts_by_marks};
 pub use consistent::ConsistentItems;
-pub use meets::all_meets;
+pub use meets::{all_meets, all_meets_by_marks};

@@ -1,14 +1,18 @@
 //! All places where a map's chains meet that they may not.
 ghost use Rattle.std.specs.Prelude.{IfOk, length};
 ghost use Rattle.tl_map_county.specs.Segments.{segments_before};
+ghost use Rattle.tl_map_county.specs.Remaining.{remaining};
+ghost use Rattle.tl_check_planar.specs.Planar.{IsPlanar};
 ghost use Rattle.tl_check_planar.specs.Rectangles.{segment_rect};
 ghost use Rattle.tl_check_planar.specs.Searching.{MayTell};
 ghost use Rattle.tl_tree_index.specs.Searches.{IsConflict};
 ghost use Rattle.tl_check_meets.specs.Conflicts.{AreAllConflicts};
 ghost use Rattle.tl_check_meets.specs.Meets.{AreAllMeets};
+ghost use Rattle.tl_check_meets.specs.Keeping.Marking.{AreMarkedSegments};
 ghost use Rattle.tl_check_meets.specs.Keeping.Telling.{IsMeetOf};
 
-use crate::all_conflicts;
+use crate::conflicts::{all_conflicts, all_conflicts_by_marks};
+use crate::doubtful::is_marked;
 use std::alloc::Global;
 use tl_check_planar::{Meet, Segments};
 use tl_geom::Rational;
@@ -24,6 +28,44 @@ pub fn all_meets<X: BoxIndex>(alloc: Global, index: &X, map: &Map) -> Result<Vec
 {
     let conflicts = all_conflicts(alloc, index, &Segments::new(map))?;
     meets_of(alloc, map, &conflicts)
+}
+
+/// The same where the chains that aren't marked are planar among themselves. One search is made for each segment of a chain that is
+/// marked, and none for the others. A chain that has no mark isn't marked.
+pub fn all_meets_by_marks<X: BoxIndex>(
+    alloc: Global,
+    index: &X,
+    map: &Map,
+    marks: &[bool],
+) -> Result<Vec<Meet>, Memory>
+    requires fits { X.fits index.now (segments_before map.now.chains (length map.now.chains))
+        (segment_rect map.now.chains) }
+    requires planar { IsPlanar (remaining marks.now map.now.chains) }
+    ensures { IfOk result (λ meets. AreAllMeets map.now.chains meets.items) }
+{
+    let segments = mark_segments(alloc, map, marks)?;
+    let conflicts = all_conflicts_by_marks(alloc, index, &Segments::new(map), &segments)?;
+    drop(segments);
+    meets_of(alloc, map, &conflicts)
+}
+
+/// The mark of its chain for each segment of a map.
+fn mark_segments(alloc: Global, map: &Map, marks: &[bool]) -> Result<Vec<bool>, Memory>
+    ensures { IfOk result (λ segments. AreMarkedSegments map.now.chains marks.now segments.items) }
+{
+    let count = map.segments();
+    let Ok(mut segments) = Vec::with_capacity(alloc, count as usize) else {
+        return Err(Memory);
+    };
+    for s in 0..count {
+        if segments
+            .push(is_marked(marks, map.segment_chain(s)))
+            .is_err()
+        {
+            return Err(Memory);
+        }
+    }
+    Ok(segments)
 }
 
 /// The meets of conflicts, in their order.
