@@ -75,6 +75,7 @@ bench: build
 	python3 bench/run.py
 	python3 bench/instructions.py $(if $(BESIDE),--beside $(BESIDE))
 	python3 bench/beside.py $(if $(BESIDE),--beside $(BESIDE))
+	python3 bench/hostile.py --sweep $(if $(BESIDE),--beside $(BESIDE))
 	python3 bench/faulty.py
 
 ways: build
@@ -84,7 +85,8 @@ speed: build
 	python3 proving/prove.py bench
 	python3 bench/run.py --kinds county,comb,lines,star,squares,spiral --counties 100000 --decided 100000 --long 100000 --segments 2750000 --certificates 1000000
 	python3 bench/instructions.py $(if $(BESIDE),--beside $(BESIDE))
-	python3 bench/beside.py --counties 100000 $(if $(BESIDE),--beside $(BESIDE))
+	python3 bench/beside.py --counties 100000,1000000 $(if $(BESIDE),--beside $(BESIDE))
+	python3 bench/hostile.py --sweep $(if $(BESIDE),--beside $(BESIDE))
 	python3 bench/faulty.py
 
 geojson: build

@@ -62,7 +62,7 @@ MAKERS = {"streets": ["make_records.py"], "county": ["county.py"], "shuffled": [
           "grid": ["grid.py"], "nested": ["nested.py"], "keys": ["keys.py"], "hostile": ["keys.py", "--hostile", "fixed"],
           "sip": ["keys.py", "--hostile", "zero"]}
 MAKERS |= {f"{kind}-{seen}": ["long.py", f"--{kind}", *(f"--{it}" for it in seen.split("-") if it)]
-           for kind in LONG for seen in SEEN}
+           for kind in LONG for seen in (*SEEN, *(f"{it}-crossed" for it in OF_SIDES))}
 
 
 def files_of(chains, kind):
@@ -211,28 +211,6 @@ def long_rows(chains, kind, runs):
                f"{found * 1e3:.1f}", f"{found * 1e6 / chains:.2f}", f"{peak:.1f}" if peak >= 0.1 else "-")
 
 
-def asked_rows(chains, kind, runs):
-    """What commands take of one map of long segments, however it is seen: `check` with the certificate that `build` made."""
-    for seen in seen_of(kind):
-        files = files_of(chains, f"{kind}-{seen}")
-        found = [milliseconds([PROGRAM, "audit", *asked, *files], runs) for asked in ([], ["--all"], ["--faces"])]
-        certificate = files[0].parent / "built"
-        if seen in SOUND:
-            found.append(milliseconds([PROGRAM, "build", "--out", certificate, *files], runs))
-            found.append(milliseconds([PROGRAM, "check", "--cert", certificate, *files], runs))
-        found += ["-"] * (5 - len(found))
-        yield f"{chains:,} {LONG[kind]}{SEEN[seen]}", *found
-
-
-def milliseconds(words, runs):
-    """The median of the milliseconds that a command takes, whatever it answers."""
-    def once():
-        begun = time.perf_counter()
-        subprocess.run(words, stdout=subprocess.DEVNULL)
-        return time.perf_counter() - begun
-    return f"{statistics.median(once() for _ in range(runs)) * 1e3:.1f}"
-
-
 def swept_rows(maps, runs):
     """What a sweep says of maps and how long it takes, and how often it says nothing."""
     said = []
@@ -315,7 +293,6 @@ def main():
     parser.add_argument("--keys", default="100000")
     parser.add_argument("--decided", default="1000,10000,100000,1000000")
     parser.add_argument("--long", default="10000,100000,1000000")
-    parser.add_argument("--asked", default="20000")
     parser.add_argument("--segments", default="27500,275000,2750000")
     parser.add_argument("--certificates", default="10000,100000,1000000")
     parser.add_argument("--kinds", default=",".join((*NAMES, *LONG)))
@@ -349,9 +326,6 @@ def main():
     print_table(
         ("Chains", "Answer", "`audit`, ms", "us a chain", "peak MB"),
         (row for kind in LONG if kind in kinds for chains in numbers(words.long) for row in long_rows(chains, kind, words.runs)))
-    print_table(
-        ("Chains", "`audit`, ms", "`audit --all`, ms", "`audit --faces`, ms", "`build`, ms", "`check`, ms"),
-        (row for kind in LONG if kind in kinds for chains in numbers(words.asked) for row in asked_rows(chains, kind, words.runs)))
     print_table(("Chains", "Sweep", "records read, ms", "swept, ms"), swept_rows(swept, words.runs))
     print_table(
         ("Segments", "Tree", "rectangles made and sorted, ms", "tree packed, ms", "search, ms", "times", "tests a segment",

@@ -6,10 +6,10 @@ ghost use Rattle.tl_check_active.specs.Gathered.{AreGathered};
 ghost use Rattle.tl_check_active.specs.declared.events.Event.{Event};
 
 use crate::events::{Event, Events};
-use crate::heights::ends;
+use crate::heights::is_lower;
 use std::alloc::AllocError;
 use std::cmp::Ordering;
-use tl_geom::{Point, turn};
+use tl_geom::{Point, Segment, turn};
 use tl_map_county::Map;
 
 /// Notes the segment of an event, where it ends there or begins there.
@@ -82,21 +82,47 @@ fn are_there(events: &Events, first: usize, place: usize, p: Point) -> bool
     place == first || events.point(place) == p
 }
 
-/// The ends of the segment of a number, if there is one: the lower one, and the higher one.
-fn ends_of(map: &Map, s: u32) -> Option<(Point, Point)> {
+/// The segment of a number, if there is one.
+fn segment_of(map: &Map, s: u32) -> Option<Segment> {
     if s < map.segments() {
-        Some(ends(map.segment(s)))
+        Some(map.segment(s))
     } else {
         None
     }
 }
 
+/// The end of a segment that is at a point, if one is, and the other end.
+fn from_point(s: Segment, p: Point) -> (Point, Point) {
+    if s.a() == p {
+        (p, s.b())
+    } else {
+        (s.b(), s.a())
+    }
+}
+
 /// Which of two segments that share their low end, or their high end, comes first from west to east.
 fn west_first(map: &Map, s: u32, t: u32) -> Ordering {
-    match (ends_of(map, s), ends_of(map, t)) {
-        (Some((a, b)), Some((c, e))) => turn(a, b, if a == c { e } else { c }),
+    match (segment_of(map, s), segment_of(map, t)) {
+        (Some(s), Some(t)) => {
+            let (p, one) = from_point(s, shared_end(s, t));
+            let (_, other) = from_point(t, p);
+            if is_lower(p, one) {
+                turn(p, one, other)
+            } else {
+                turn(one, p, other)
+            }
+        }
         (None, _) => Ordering::Equal,
         (Some(_), None) => Ordering::Equal,
+    }
+}
+
+/// The end that two segments share, if they share one.
+fn shared_end(s: Segment, t: Segment) -> Point {
+    if s.a() == t.a() || s.a() == t.b() {
+        s.a()
+    } else {
+        s.b()
     }
 }
 

@@ -11,6 +11,7 @@ pub mod Sorting
 pub mod Toward
 pub mod Along
 pub mod Sums
+pub mod Parted
 pub mod OnePolygon
 pub mod Alone
 pub mod Near
