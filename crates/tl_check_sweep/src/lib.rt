@@ -18,6 +18,7 @@ mod facing;
 mod kept;
 pub mod laws;
 mod meets;
+mod pairs;
 mod passing;
 mod placing;
 mod spots;
