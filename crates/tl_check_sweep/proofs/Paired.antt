@@ -1,6 +1,6 @@
 -- Rectangles of segments from south to north, and what is told of the segments by them.
 use Rattle.std.proofs.Common.{◌≡◌, ⊎_elim, ℕ, ◌+◌, ◌<◌, ◌≤◌, ℤ, pos, ◌≤ℤ◌, ◌<ℤ◌, false, List, [], ◌∷◌, ◌++◌, length, get_or, refl, sym, ap, subst, ◌∙◌, arith}
-use Rattle.std.specs.List.{All, Contains}
+use Rattle.std.specs.List.{Contains}
 use Rattle.std.specs.List.Sorted.{IsPermutation}
 use Rattle.std.specs.Cmp.{IsStrictWeakOrder}
 use Rattle.std.specs.Ordering.{int_cmp, is_lt, MatchOrdering}
@@ -16,7 +16,6 @@ use Rattle.tl_geom.specs.Rectangle.{AreMeeting}
 use Rattle.tl_map_county.specs.TheMap.{MapChain}
 use Rattle.tl_map_county.specs.Segments.{segments_before}
 use Rattle.tl_check_planar.specs.Planar.{IsPlanar}
-use Rattle.tl_check_planar.specs.Meets.{AreFree}
 use Rattle.tl_check_planar.specs.Rectangles.{segment_rect}
 use Rattle.tl_check_planar.specs.Keeping.Apart.{apart_are_free}
 use Rattle.tl_check_planar.proofs.Numbering.{below_total}
@@ -25,7 +24,6 @@ use Rattle.tl_check_sweep.specs.declared.pairs.NumberedRect.{NumberedRect}
 use Rattle.tl_check_sweep.specs.Keeping.Pairs.{AreFreeBothWays, rect_of_number, IsRectOf, AreRectsOf, AreFromSouth, AreFreeFrom}
 
 -- ---- in order
-
 
 sorted_order : IsStrictWeakOrder (λ (x : NumberedRect) (y : NumberedRect). is_lt (int_cmp x.rect.ymin y.rect.ymin))
 sorted_order = ranks_by int_cmp_total (λ (x : NumberedRect). x.rect.ymin)
@@ -80,6 +78,7 @@ free_both_ways chains one other first second apart = record {
   where
     met : AreMeeting (segment_rect chains one.number) (segment_rect chains other.number) → AreMeeting one.rect other.rect
     met m = rw (first.is, second.is) m
+
     turned : AreMeeting (segment_rect chains other.number) (segment_rect chains one.number) →
         AreMeeting (segment_rect chains one.number) (segment_rect chains other.number)
     turned m = record { point = m.point; in_first = m.in_second; in_second = m.in_first }

@@ -1,4 +1,4 @@
-use Rattle.std.proofs.Common.{◌≡◌, ◌+◌, ◌<◌, ⊎_elim, length, sym, subst, arith}
+use Rattle.std.proofs.Common.{◌≡◌, ⊎_elim, length, sym, subst, arith}
 use Rattle.std.proofs.lemmas.Bool.{cases_lt}
 use Rattle.tl_check_sweep.specs.Keeping.Pairs.{AreFreeFrom}
 use Rattle.tl_check_sweep.proofs.Paired.{free_at_places}
