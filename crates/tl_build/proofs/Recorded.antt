@@ -19,7 +19,7 @@ use Rattle.tl_cert_output.specs.declared.stop.Stop.{Stop}
 use Rattle.tl_cert_output.specs.declared.stop.Stop.TheVariants as stop
 use Rattle.tl_build.specs.Auditing.{Auditing, IfSound, IfFaulty, SaysSound, IsMemoryStop, IsNotBudget, MayStopAudit}
 use Rattle.tl_cert_output.specs.Stops.{TellsDevice}
-use Rattle.tl_build.specs.Keeping.Judging.{refusal_of}
+use Rattle.tl_build.specs.Keeping.Refusing.{refusal_of}
 use Rattle.tl_build.specs.Keeping.Deciding.{AuditsFor, AuditsRead}
 use Rattle.tl_build.proofs.Decided as decided
 use Rattle.tl_build.proofs.Exactly.{of_map, of_refusal}

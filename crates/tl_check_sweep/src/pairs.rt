@@ -20,7 +20,9 @@ pub struct NumberedRect {
 }
 
 /// A meet of two segments, if there is one; where there is none, the chains are planar. From south to north each segment is asked with
-/// each that begins at its latitudes, so the time grows with the number of such pairs. The error is that memory was refused.
+/// each that begins at its latitudes, so the time grows with the number of such pairs. The error is that memory was refused. It is kept
+/// out of where it is called, so that calls of it can be counted.
+#[inline(never)]
 pub fn find_in_pairs(alloc: Global, map: &Map) -> Result<Option<Meet>, AllocError>
     ensures meet { IfOk result (λ found. IfSome found (IsTrueMeet map.now.chains)) }
     ensures none { IfOk result (λ found. found ≡ None → IsPlanar map.now.chains) }
