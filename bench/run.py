@@ -212,15 +212,12 @@ def long_rows(chains, kind, runs):
 
 
 def swept_rows(maps, runs):
-    """What a sweep says of maps and how long it takes, and how often it says nothing."""
-    said = []
+    """What a sweep says of maps and how long it takes."""
     for chains, kind, name in maps:
         words = [PARTS, "sweep", records_of(chains, kind)]
-        said.append(subprocess.run(words, capture_output=True, text=True, check=True).stdout.strip())
+        said = subprocess.run(words, capture_output=True, text=True, check=True).stdout.strip()
         read, swept = (statistics.median(column) for column in zip(*(steps_of(words) for _ in range(runs))))
-        yield f"{chains:,} {name}", said[-1], f"{read:.1f}", f"{swept:.1f}"
-    if said:
-        yield f"{len(said)} maps", f"unknown of {said.count('unknown')}", "", ""
+        yield f"{chains:,} {name}", said, f"{read:.1f}", f"{swept:.1f}"
 
 
 def searched(segments):

@@ -1,5 +1,5 @@
 #!/usr/bin/env python3
-"""Counts, in the built program itself, how often a command sweeps over a map, how often a sweep says nothing of it so that a search decides,
+"""Counts, in the built program itself, how often a command sweeps over a map, how often a search of all its segments decides behind it,
 and how often slabs are listed one by one: by the calls that valgrind's callgrind sees, of maps of each family that the bench makes. One sweep
 is wanted of each, and none of the others. The gate asks for it.
 
@@ -32,13 +32,13 @@ def bench_run():
 run = bench_run()
 
 # What is counted, each by functions that are called where it happens and nowhere else.
-SWEEPS, UNKNOWN, SLOW = "sweeps", "sweeps that say nothing", "slabs listed one by one"
+SWEEPS, SEARCHES, SLOW = "sweeps", "searches of all segments", "slabs listed one by one"
 COUNTED = {
     SWEEPS: ["tl_check_sweep::answer::sweep"],
-    UNKNOWN: ["tl_build::judge::judge", "tl_check::search::search_tree", "tl_list::of_map::list_by_search"],
+    SEARCHES: ["tl_check_sweep::pairs::find_in_pairs", "tl_check::search::search_tree", "tl_list::of_map::list_by_search"],
     SLOW: ["tl_check_sweep::face_search::gaps::push_above"],
 }
-WANTED = {SWEEPS: 1, UNKNOWN: 0, SLOW: 0}
+WANTED = {SWEEPS: 1, SEARCHES: 0, SLOW: 0}
 CHAINS = 300
 # Words of each command that decides a map, and those of one of which a sweep finds that chains meet.
 COMMANDS = [["audit"], ["audit", "--faces"], ["audit", "--all"], ["audit", "--all", "--faces"], ["build"], ["build", "--faces"], ["check"],

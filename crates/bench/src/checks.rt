@@ -121,7 +121,6 @@ fn word_of(swept: Swept) -> &'static str {
         Swept::Placed => "placed",
         Swept::Planar => "planar",
         Swept::Meet(_) => "meet",
-        Swept::Unknown => "unknown",
     }
 }
 

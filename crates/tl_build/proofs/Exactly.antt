@@ -12,7 +12,7 @@ use Rattle.tl_check_verdict.specs.Sound.{IsSoundFor}
 use Rattle.tl_check_verdict.specs.Records.{HaveMap}
 use Rattle.tl_check_verdict.proofs.OneMap.{same_map}
 use Rattle.tl_build.specs.Auditing.{Auditing, SaysSound}
-use Rattle.tl_build.specs.Keeping.Judging.{refusal_of}
+use Rattle.tl_build.specs.Keeping.Refusing.{refusal_of}
 
 -- what is said of a map is said of the records that have it
 pub of_map : (faces : Bool) (of : List ℕ → AllRecords) (text : Option (List ℕ)) (m : TheMap) (answer : Auditing) → IfSome text (λ t. IsReadFrom (of t) m) → IfOk answer (λ a. SaysSound a ↔ IsSoundFor faces m)

@@ -9,17 +9,16 @@ use Rattle.tl_map_county.specs.TheMap.{TheMap}
 use Rattle.tl_map_county.specs.declared.map.Map.{Map}
 use Rattle.tl_map_rules.specs.Reading.{IsReadFrom, StopsReading, TellsDevice as TellsReading}
 use Rattle.tl_check_verdict.specs.declared.verdict.Report.{Report}
-use Rattle.tl_check_verdict.specs.declared.verdict.Verdict.TheVariants as verdict
 use Rattle.tl_check_verdict.specs.Sound.{IsSoundFor}
 use Rattle.tl_check_verdict.specs.Verdicts.{IsReport}
 use Rattle.tl_check_verdict.specs.Records.{HaveMap, IsTrueOfRecords}
-use Rattle.tl_check.proofs.Recorded.{map_fault}
+use Rattle.tl_check_verdict.proofs.Recording.{true_of_records}
 use Rattle.tl_build.specs.declared.answer.Audit.TheVariants as audit
 use Rattle.tl_cert_output.specs.declared.stop.Stop.{Stop}
 use Rattle.tl_cert_output.specs.declared.stop.Stop.TheVariants as stop
 use Rattle.tl_build.specs.Auditing.{Auditing, IfSound, IfFaulty, SaysSound, IsMemoryStop, IsNotBudget, MayStopAudit}
 use Rattle.tl_cert_output.specs.Stops.{TellsDevice}
-use Rattle.tl_build.specs.Keeping.Judging.{refusal_of}
+use Rattle.tl_build.specs.Keeping.Refusing.{refusal_of}
 use Rattle.tl_build.specs.Keeping.Deciding.{AuditsFor, AuditsRead}
 use Rattle.tl_build.proofs.Decided as decided
 use Rattle.tl_build.proofs.Exactly.{of_map, of_refusal}
@@ -35,7 +34,7 @@ module _ (faces : Bool) (of : List ℕ → AllRecords) (text : Option (List ℕ)
 
   fault_so : (answer : Auditing) → AuditsFor faces m answer → IfFaulty answer (λ f. IfSome text (λ t. IsTrueOfRecords faces (of t) f))
   fault_so (Ok (audit.Sound report)) says = tt
-  fault_so (Ok (audit.Fault f)) says = map_fault of text m is faces (Ok (verdict.MapFault f)) says
+  fault_so (Ok (audit.Fault f)) says = IfSome_then text is (λ t read. true_of_records faces (of t) m f read says)
   fault_so (Err why) says = tt
 
   -- why a map isn't decided is why its records aren't

@@ -1,3 +1,3 @@
 -- What the builder keeps on its way. No public contract cites a file of this folder.
-pub mod Judging
+pub mod Refusing
 pub mod Deciding

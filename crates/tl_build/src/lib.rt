@@ -2,18 +2,13 @@
 //!
 //! [`audit`] decides records, and [`build`] makes a certificate. Both sweep over the map first (`tl_check_sweep`). Where its chains
 //! are found to be planar, the walks that follow from the darts sorted about their nodes tell whether sides agree, and its
-//! rings where the points of polygons lie. Where the sweep says nothing, a certificate is proposed, and the checker of
-//! `tl_check` has the last word: it searches by the tree that `tl_tree_pack` makes over the segments. Each certificate that is
-//! made has that tree, and those darts and walks. Who wants the walks of a sound map alone takes [`find_walks`]. Where faces
+//! rings where the points of polygons lie. Each certificate that is made has the tree that `tl_tree_pack` makes over the segments,
+//! and those darts and walks. Who wants the walks of a sound map alone takes [`find_walks`]. Where faces
 //! are asked for ([`audit_with`], [`build_with`]), the same sweep tells whether those of a sound map agree (`tl_check_sweep::face_search`).
-//!
-//! The checker never faults a certificate that is proposed: that is proved (`judge`), since it faults rounds and walks
-//! only where the chains are planar (clause `behind` of `check_map`), and there those that are proposed are the map's.
 #![tactic(auto)]
 
 mod answer;
 mod faces;
-mod judge;
 mod of_map;
 mod of_records;
 mod of_swept;

@@ -1,6 +1,6 @@
 //! A certificate of a map, made with none given.
 
-ghost use Rattle.std.specs.Prelude.{◌≡◌, ◌≤◌, ◌↔◌, IfOk, IfErr, false, All, IfSome, []};
+ghost use Rattle.std.specs.Prelude.{◌≡◌, ◌≤◌, ◌↔◌, Ok, IfOk, IfErr, false, All, []};
 ghost use Rattle.tl_tree_index.specs.Trees.{depth, tree_of};
 ghost use Rattle.tl_tree_pack.specs.Packed.{IsEvenlySplit};
 ghost use Rattle.tl_check_planar.specs.Planar.{IsPlanar};
@@ -20,10 +20,8 @@ ghost use Rattle.tl_build.specs.Keeping.Deciding.{Builds, BuildsFor, IsBuilt};
 
 use crate::answer::Built;
 use crate::faces::find_face_fault;
-use crate::judge::judge;
 use crate::planar::build_planar;
 use std::alloc::Global;
-use tl_build_propose::propose;
 use tl_cert::Certificate;
 use tl_cert_output::Stop;
 use tl_check_faces::OddGap;
@@ -88,7 +86,7 @@ fn decide(alloc: Global, map: &Map, asked: bool) -> Result<Built, Stop>
         suspects,
         gaps,
     } = sweep(alloc, map, Gaps::First)?;
-    decide_by(alloc, map, asked, swept, &suspects, gaps)
+    decide_by(alloc, map, asked, swept, &suspects, &gaps)
 }
 
 /// The same by what the sweep says.
@@ -98,44 +96,37 @@ fn decide_by(
     asked: bool,
     swept: Swept,
     suspects: &[u32],
-    gaps: Option<Vec<OddGap>>,
+    gaps: &[OddGap],
 ) -> Result<Built, Stop>
     requires placed { swept ≡ Swept.Placed → IsPlanar map.now.chains × ArePlaced map.now }
     requires planar { swept ≡ Swept.Planar → IsPlanar map.now.chains }
     requires meet { (meet : Meet) → swept ≡ Swept.Meet meet → IsTrueMeet map.now.chains meet }
     requires suspects { AreSuspects map.now suspects.now }
-    requires odd { IfSome gaps (λ found. All (IsLowestOddGap widest map.now.chains) found.items) }
-    requires agree { IfSome gaps (λ found. found.items ≡ [] → FacesAgree map.now.chains) }
+    requires odd { IsPlanar map.now.chains → All (IsLowestOddGap widest map.now.chains) gaps.now }
+    requires agree { IsPlanar map.now.chains → gaps.now ≡ [] → FacesAgree map.now.chains }
     ensures { BuildsFor asked map.now result }
 {
     match build_swept(alloc, map, swept, suspects)? {
-        Built::Cert(cert) => ask_for_faces(alloc, map, asked, cert, gaps),
+        Built::Cert(cert) => Ok(ask_for_faces(map, asked, cert, gaps)),
         Built::Fault(fault) => Ok(Built::Fault(fault)),
     }
 }
 
 /// The answer where the map is sound, by what a sweep says of its faces.
-fn ask_for_faces(
-    alloc: Global,
-    map: &Map,
-    asked: bool,
-    cert: Certificate,
-    gaps: Option<Vec<OddGap>>,
-) -> Result<Built, Stop>
+fn ask_for_faces(map: &Map, asked: bool, cert: Certificate, gaps: &[OddGap]) -> Built
     requires sound { IsSound map.now }
     requires built { IsBuilt map.now cert }
-    requires odd { IfSome gaps (λ found. All (IsLowestOddGap widest map.now.chains) found.items) }
-    requires agree { IfSome gaps (λ found. found.items ≡ [] → FacesAgree map.now.chains) }
-    ensures { BuildsFor asked map.now result }
+    requires odd { IsPlanar map.now.chains → All (IsLowestOddGap widest map.now.chains) gaps.now }
+    requires agree { IsPlanar map.now.chains → gaps.now ≡ [] → FacesAgree map.now.chains }
+    ensures { BuildsFor asked map.now (Ok result) }
 {
-    match find_face_fault(alloc, map, asked, gaps)? {
-        Some(fault) => Ok(Built::Fault(fault)),
-        None => Ok(Built::Cert(cert)),
+    match find_face_fault(map, asked, gaps) {
+        Some(fault) => Built::Fault(fault),
+        None => Built::Cert(cert),
     }
 }
 
-/// Makes a certificate or names a fault without faces, of a map of which a sweep has said this, and where it says nothing of the
-/// map by a search.
+/// Makes a certificate or names a fault without faces, of a map of which a sweep has said this.
 fn build_swept(alloc: Global, map: &Map, swept: Swept, suspects: &[u32]) -> Result<Built, Stop>
     requires placed { swept ≡ Swept.Placed → IsPlanar map.now.chains × ArePlaced map.now }
     requires planar { swept ≡ Swept.Planar → IsPlanar map.now.chains }
@@ -147,17 +138,5 @@ fn build_swept(alloc: Global, map: &Map, swept: Swept, suspects: &[u32]) -> Resu
         Swept::Placed => build_planar(alloc, map, suspects),
         Swept::Planar => build_planar(alloc, map, suspects),
         Swept::Meet(meet) => Ok(Built::Fault(MapFault::Meet(meet))),
-        Swept::Unknown => build_by_search(alloc, map),
-    }
-}
-
-/// Makes a certificate or names a fault by a search.
-fn build_by_search(alloc: Global, map: &Map) -> Result<Built, Stop>
-    ensures { Builds map.now result }
-{
-    let cert = propose(alloc, map)?;
-    match judge(alloc, map, &cert)? {
-        Ok(_) => Ok(Built::Cert(cert)),
-        Err(fault) => Ok(Built::Fault(fault)),
     }
 }

@@ -1,6 +1,6 @@
 //! The decision of records with no certificate given.
 
-ghost use Rattle.std.specs.Prelude.{◌≡◌, ◌↔◌, IfOk, IfErr, false, All, IfSome, []};
+ghost use Rattle.std.specs.Prelude.{◌≡◌, ◌↔◌, Ok, IfOk, IfErr, false, All, []};
 ghost use Rattle.std.specs.Option.{IfSome};
 ghost use Rattle.tl_record.specs.Layout.{tiger_2006, layout_with};
 ghost use Rattle.tl_record.specs.Records.{records_of};
@@ -112,7 +112,7 @@ pub fn decide(alloc: Global, map: &Map, asked: bool) -> Result<Audit, Stop>
         suspects,
         gaps,
     } = sweep(alloc, map, Gaps::First)?;
-    decide_by(alloc, map, asked, swept, &suspects, gaps)
+    decide_by(alloc, map, asked, swept, &suspects, &gaps)
 }
 
 /// The same by what the sweep says.
@@ -122,38 +122,32 @@ fn decide_by(
     asked: bool,
     swept: Swept,
     suspects: &[u32],
-    gaps: Option<Vec<OddGap>>,
+    gaps: &[OddGap],
 ) -> Result<Audit, Stop>
     requires placed { swept ≡ Swept.Placed → IsPlanar map.now.chains × ArePlaced map.now }
     requires planar { swept ≡ Swept.Planar → IsPlanar map.now.chains }
     requires meet { (meet : Meet) → swept ≡ Swept.Meet meet → IsTrueMeet map.now.chains meet }
     requires suspects { AreSuspects map.now suspects.now }
-    requires odd { IfSome gaps (λ found. All (IsLowestOddGap widest map.now.chains) found.items) }
-    requires agree { IfSome gaps (λ found. found.items ≡ [] → FacesAgree map.now.chains) }
+    requires odd { IsPlanar map.now.chains → All (IsLowestOddGap widest map.now.chains) gaps.now }
+    requires agree { IsPlanar map.now.chains → gaps.now ≡ [] → FacesAgree map.now.chains }
     ensures { AuditsFor asked map.now result }
 {
     match decide_swept(alloc, map, swept, suspects)? {
-        Audit::Sound(report) => ask_for_faces(alloc, map, asked, report, gaps),
+        Audit::Sound(report) => Ok(ask_for_faces(map, asked, report, gaps)),
         Audit::Fault(fault) => Ok(Audit::Fault(fault)),
     }
 }
 
 /// The answer where the map is sound, by what a sweep says of its faces.
-fn ask_for_faces(
-    alloc: Global,
-    map: &Map,
-    asked: bool,
-    report: Report,
-    gaps: Option<Vec<OddGap>>,
-) -> Result<Audit, Stop>
+fn ask_for_faces(map: &Map, asked: bool, report: Report, gaps: &[OddGap]) -> Audit
     requires sound { IsSound map.now }
     requires report { IsReport map.now report }
-    requires odd { IfSome gaps (λ found. All (IsLowestOddGap widest map.now.chains) found.items) }
-    requires agree { IfSome gaps (λ found. found.items ≡ [] → FacesAgree map.now.chains) }
-    ensures { AuditsFor asked map.now result }
+    requires odd { IsPlanar map.now.chains → All (IsLowestOddGap widest map.now.chains) gaps.now }
+    requires agree { IsPlanar map.now.chains → gaps.now ≡ [] → FacesAgree map.now.chains }
+    ensures { AuditsFor asked map.now (Ok result) }
 {
-    match find_face_fault(alloc, map, asked, gaps)? {
-        Some(fault) => Ok(Audit::Fault(fault)),
-        None => Ok(Audit::Sound(report)),
+    match find_face_fault(map, asked, gaps) {
+        Some(fault) => Audit::Fault(fault),
+        None => Audit::Sound(report),
     }
 }

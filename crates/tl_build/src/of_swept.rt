@@ -9,17 +9,15 @@ ghost use Rattle.tl_check_inside.specs.Suspects.{AreSuspects};
 ghost use Rattle.tl_build.specs.Keeping.Deciding.{Audits};
 
 use crate::answer::Audit;
-use crate::judge::judge;
 use crate::planar::audit_planar;
 use std::alloc::Global;
-use tl_build_propose::propose;
 use tl_cert_output::Stop;
 use tl_check_sweep::Swept;
 use tl_check_verdict::MapFault;
 use tl_map_county::Map;
 
 /// Decides whether a map is sound of which a sweep has said this (`tl_check_sweep`): by the walks about its nodes and the
-/// points of the suspects where its chains are planar, and by a search where the sweep said nothing. Which of several faults is named is open.
+/// points of the suspects where its chains are planar. Which of several faults is named is open.
 pub fn decide_swept(alloc: Global, map: &Map, swept: Swept, suspects: &[u32]) -> Result<Audit, Stop>
     requires placed { swept ≡ Swept.Placed → IsPlanar map.now.chains × ArePlaced map.now }
     requires planar { swept ≡ Swept.Planar → IsPlanar map.now.chains }
@@ -31,17 +29,5 @@ pub fn decide_swept(alloc: Global, map: &Map, swept: Swept, suspects: &[u32]) ->
         Swept::Placed => audit_planar(alloc, map, suspects),
         Swept::Planar => audit_planar(alloc, map, suspects),
         Swept::Meet(meet) => Ok(Audit::Fault(MapFault::Meet(meet))),
-        Swept::Unknown => audit_by_search(alloc, map),
-    }
-}
-
-/// Decides whether a map is sound by a search.
-fn audit_by_search(alloc: Global, map: &Map) -> Result<Audit, Stop>
-    ensures { Audits map.now result }
-{
-    let cert = propose(alloc, map)?;
-    match judge(alloc, map, &cert)? {
-        Ok(report) => Ok(Audit::Sound(report)),
-        Err(fault) => Ok(Audit::Fault(fault)),
     }
 }

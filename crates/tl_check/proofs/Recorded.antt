@@ -9,7 +9,6 @@ use Rattle.tl_map_rules.specs.declared.fault.MapStop.TheVariants as map
 use Rattle.tl_map_county.specs.TheMap.{TheMap}
 use Rattle.tl_check_planar.specs.Planar.{IsPlanar}
 use Rattle.tl_map_rules.specs.Reading.{IsReadFrom, StopsReading, TellsDevice as TellsReading}
-use Rattle.tl_check_verdict.specs.declared.fault.MapFault.{MapFault}
 use Rattle.tl_check_verdict.specs.declared.fault.MapFault.TheVariants.{Records, Meet, Side, PolygonPoint, Cell, Face}
 use Rattle.tl_check_verdict.specs.declared.verdict.Report.{Report}
 use Rattle.tl_check_verdict.specs.declared.verdict.Verdict.TheVariants as verdict
@@ -21,17 +20,10 @@ use Rattle.tl_check_verdict.specs.Verdicts.{Answer, OnSound, OnSoundButFaces, If
 use Rattle.tl_check_verdict.specs.Texts.{MayStopReading}
 use Rattle.tl_cert_output.specs.Stops.{TellsDevice}
 use Rattle.tl_check_verdict.specs.Records.{HaveMap, IsTrueOfRecords, MayStopOn, TellsEither, LeavesUnread}
+use Rattle.tl_check_verdict.proofs.Recording.{true_of_records}
 use Rattle.tl_check.specs.Keeping.Answers.{refusal_of}
 use Rattle.tl_check.proofs.Searched.{searched_so}
 use Rattle.tl_check.proofs.Meeting.{meets_leads}
-
-true_of_records : (faces : Bool) (all : AllRecords) (m : TheMap) (f : MapFault) → IsReadFrom all m → IsTrueOfMap faces m f → IsTrueOfRecords faces all f
-true_of_records faces all m (Records fault) is true = absurd true
-true_of_records faces all m (Meet meet) is true = record { map = m; is_read = is; so = true }
-true_of_records faces all m (Side node first next) is true = record { map = m; is_read = is; so = true }
-true_of_records faces all m (PolygonPoint fault) is true = record { map = m; is_read = is; so = true }
-true_of_records faces all m (Cell odds) is true = record { map = m; is_read = is; so = true }
-true_of_records faces all m (Face fault) is true = record { map = m; is_read = is; so = true }
 
 -- what is so of another thing
 pub but_faces_so : (answer : Answer) (P Q : Type 0) → OnSoundButFaces answer P → (P → Q) → OnSoundButFaces answer Q

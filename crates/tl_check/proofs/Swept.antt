@@ -1,7 +1,6 @@
 -- What a sweep that finds chains planar has told.
-use Rattle.std.proofs.Common.{◌≡◌, ◌⊎◌, ℕ, ◌<◌, ◌≤◌, Vec, Global, [], length, All, Contains, Option, None, Some}
+use Rattle.std.proofs.Common.{◌≡◌, ◌⊎◌, ℕ, ◌<◌, ◌≤◌, Vec, Global, [], length, All, Contains, Some}
 use Rattle.std.specs.Prelude.{slice_get}
-use Rattle.std.specs.Option.{IfSome}
 use Rattle.tl_map_county.specs.TheMap.{TheMap}
 use Rattle.tl_map_county.specs.Segments.{segments_before}
 use Rattle.tl_map_county.specs.declared.polygons.Polygon.{Polygon}
@@ -11,22 +10,17 @@ use Rattle.tl_check_inside.specs.Placed.{IsPlacedIn}
 use Rattle.tl_check_faces.specs.declared.odd.OddGap.{OddGap}
 use Rattle.tl_check_faces.specs.Odd.{IsLowestOddGap}
 use Rattle.tl_check_faces.specs.Facing.{FacesAgree}
-use Rattle.tl_check.specs.Keeping.Known.{pairs_of, AreToldGaps, IsFoundPlanar}
+use Rattle.tl_check.specs.Keeping.Known.{pairs_of, IsFoundPlanar}
 use Rattle.tl_check.proofs.Enough.{enough}
 
-told_gaps : (m : TheMap) (gaps : Option (Vec OddGap Global)) → IfSome gaps (λ found. IsPlanar m.chains × All (IsLowestOddGap widest m.chains) found.items)
-    → IfSome gaps (λ found. found.items ≡ [] → FacesAgree m.chains) → AreToldGaps m gaps
-told_gaps m None odd agree = tt
-told_gaps m (Some gaps) odd agree = (odd.1, agree)
-
-pub swept_planar : (m : TheMap) (budget : ℕ) (suspects : Vec ℕ Global) (gaps : Option (Vec OddGap Global)) → pairs_of (segments_before m.chains (length m.chains)) ≤ budget → IsPlanar m.chains
+pub swept_planar : (m : TheMap) (budget : ℕ) (suspects : Vec ℕ Global) (gaps : Vec OddGap Global) → pairs_of (segments_before m.chains (length m.chains)) ≤ budget → IsPlanar m.chains
     → All (λ p. p < length m.polygons) suspects.items
     → ((p : ℕ) (polygon : Polygon) → slice_get m.polygons p ≡ Some polygon → Contains suspects.items p ⊎ IsPlacedIn m polygon.point p)
-    → IfSome gaps (λ found. IsPlanar m.chains × All (IsLowestOddGap widest m.chains) found.items) → IfSome gaps (λ found. found.items ≡ [] → FacesAgree m.chains)
-    → IsFoundPlanar m budget (Some suspects) gaps
+    → (IsPlanar m.chains → All (IsLowestOddGap widest m.chains) gaps.items) → (IsPlanar m.chains → gaps.items ≡ [] → FacesAgree m.chains)
+    → IsFoundPlanar m budget (Some suspects) (Some gaps)
 swept_planar m budget suspects gaps many planar known others odd agree = record {
   planar = planar;
   within = enough m.chains budget many;
   suspects = record { known = known; others = others };
-  gaps = told_gaps m gaps odd agree;
+  gaps = (odd planar, agree planar);
 }

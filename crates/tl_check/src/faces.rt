@@ -70,7 +70,7 @@ fn find_by(
     ensures fault { IfOk result (λ found. (fault : FaceFault) → found ≡ Some fault → IsTrueFaceFault map.now fault) }
 {
     match gaps {
-        Some(told) => face_fault_of(alloc, map, Some(told)),
+        Some(told) => Ok(face_fault_of(map, &told)),
         None => find_face_fault(alloc, map),
     }
 }

@@ -8,7 +8,7 @@
 //! The parts of the certificate are taken in their order. Behind a tree that fits, where the budget is enough for all pairs of
 //! segments, one sweep (`tl_check_sweep`) says whether two segments meet where they may not; it tells too which polygons' points are
 //! still to be looked at, and of gaps at which faces disagree, so that no walk need be kept and no second sweep made. Where the
-//! budget is lower, or the sweep doesn't know, the certificate's tree is searched, and points are looked at by the walks as rings.
+//! budget is lower, the certificate's tree is searched, and points are looked at by the walks as rings.
 #![tactic(auto)]
 
 mod answer;

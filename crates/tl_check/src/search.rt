@@ -21,14 +21,14 @@ pub enum Found {
     /// Two segments meet where they may not.
     Meet(Meet),
     /// The chains are planar. Where a sweep was made, it has told the polygons whose points may not lie where they have to, and
-    /// perhaps a gap whose facing sides differ.
+    /// the gaps whose facing sides differ.
     Planar(Option<Vec<u32>>, Option<Vec<OddGap>>),
     /// More pairs of segments than the budget have rectangles that meet, and as many of these as the budget don't conflict.
     Budget,
 }
 
-/// Looks for two segments that meet where they may not: by one sweep, where the budget is enough for all pairs of segments; and
-/// where it isn't, or the sweep doesn't know, in a tree that fits the map's segments.
+/// Looks for two segments that meet where they may not: by one sweep, where the budget is enough for all pairs of segments, and else
+/// in a tree that fits the map's segments.
 pub fn search(alloc: Global, map: &Map, tree: &FlatTree, budget: u64) -> Result<Found, Memory>
     requires fits { Fits (tree_of tree.now) (segments_before map.now.chains (length map.now.chains)) (segment_rect map.now.chains) }
     ensures { IfOk result (MayFind map.now budget) }
@@ -45,10 +45,9 @@ pub fn search(alloc: Global, map: &Map, tree: &FlatTree, budget: u64) -> Result<
         gaps,
     } = report;
     match swept {
-        Swept::Placed => Ok(Found::Planar(Some(suspects), gaps)),
-        Swept::Planar => Ok(Found::Planar(Some(suspects), gaps)),
+        Swept::Placed => Ok(Found::Planar(Some(suspects), Some(gaps))),
+        Swept::Planar => Ok(Found::Planar(Some(suspects), Some(gaps))),
         Swept::Meet(meet) => Ok(Found::Meet(meet)),
-        Swept::Unknown => Ok(search_tree(map, tree, budget)),
     }
 }
 

@@ -1,8 +1,9 @@
 //! The segments that end at a point, and those that begin there.
 ghost use Rattle.std.specs.Prelude.{◌≡◌, ◌≢◌, ◌∷◌, [], ◌+◌, ◌<◌, ℕ, IfOk, IsTrue, IsFalse, List, length, count_by, slice_index_or};
 ghost use Rattle.tl_tree_index.specs.Hits.{times};
+ghost use Rattle.tl_check_planar.specs.ByHeight.Heights.{height, widest};
 ghost use Rattle.tl_check_active.specs.Events.{begins_at, ends_at, AreAt};
-ghost use Rattle.tl_check_active.specs.Gathered.{AreGathered};
+ghost use Rattle.tl_check_active.specs.Gathered.{AreGathered, IsElsewhere};
 ghost use Rattle.tl_check_active.specs.declared.events.Event.{Event};
 
 use crate::events::{Event, Events};
@@ -78,8 +79,20 @@ fn are_there(events: &Events, first: usize, place: usize, p: Point) -> bool
     requires first { (d : List Event) → AreAt p (slice_index_or events.now first d) }
     ensures there { IsTrue result → (d : List Event) → AreAt p (slice_index_or events.now place d) }
     ensures other { IsFalse result → place ≢ first }
+    ensures elsewhere { IsFalse result → IsElsewhere p events.now place }
 {
-    place == first || events.point(place) == p
+    place == first || are_one(events.point(place), p)
+}
+
+/// Whether two points are one. If they aren't, their heights differ.
+#[inline]
+fn are_one(p: Point, q: Point) -> bool
+    ensures one { IsTrue result → p ≡ q }
+    ensures differ { IsFalse result → height widest p ≢ height widest q }
+{
+    // that their longitudes are within the range of an i32
+    let (_p, _q) = (p.x, q.x);
+    p == q
 }
 
 /// The segment of a number, if there is one.

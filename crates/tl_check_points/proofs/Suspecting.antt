@@ -66,3 +66,13 @@ all_placed m suspects sites known are all p polygon is = elim (known.others p po
       subst (IsPlacedIn m polygon.point) at (all k d lt polygon (ap (λ i. slice_get m.polygons i) at ∙ is))
   | inr placed ↦ placed
 ]
+
+-- where there are no suspects
+none_held : (p : ℕ) → ¬ Contains [] p
+none_held p has = let no : has.0 < 0 = has.1 in omega (arith, no)
+
+pub placed_but : (m : TheMap) (suspects : List ℕ) → AreSuspects m suspects → suspects ≡ [] → ArePlaced m
+placed_but m suspects so none p polygon at = elim (so.others p polygon at) [
+  | inl listed ↦ absurd (none_held p (subst (λ ns. Contains ns p) none listed))
+  | inr placed ↦ placed
+]

@@ -1,5 +1,5 @@
 -- Where no gap is told, faces agree; and what is told at the end of a sweep is so.
-use Rattle.std.proofs.Common.{◌≡◌, ◌≢◌, inl, inr, ⊎_elim, true, ℕ, List, [], ◌∷◌, ◌++◌, length, append_assoc, refl, sym, ap, subst, ◌∙◌, arith}
+use Rattle.std.proofs.Common.{◌≡◌, ◌≢◌, inl, inr, ⊎_elim, ℕ, List, [], ◌∷◌, ◌++◌, length, append_assoc, refl, sym, ap, subst, ◌∙◌, arith}
 use Rattle.std.proofs.lemmas.Bool.{cases_eq}
 use Rattle.tl_map_county.specs.declared.sides.Side.{Side}
 use Rattle.tl_map_county.specs.declared.sides.Side.TheVariants.{Outside, Polygon}
@@ -71,15 +71,14 @@ module _ (chains : List MapChain) where
       record { planar = planar; true_ones = all_lowest widest chains kept whole; agree = none_told near planar kept whole; whole = λ e. whole }
 
   -- what is told at the end of a sweep is so
-  module _ (near : AreAllNear widest chains) (planar : IsPlanar chains) (watch : Watch) (sure : watch.is_sure ≡ true)
-      (watched : IsWatchedToEnd chains watch) where
+  module _ (near : AreAllNear widest chains) (planar : IsPlanar chains) (watch : Watch) (watched : IsWatchedToEnd chains watch) where
     of_slabs : IsOpen watch → AreToldOfSlabs chains watch.told.items
-    of_slabs still = record { near = near; true_ones = watched.true_ones sure; slabs = watched.slabs still }
+    of_slabs still = record { near = near; true_ones = watched.true_ones; slabs = watched.slabs still }
 
     pub true_first : watch.asked ≡ First → AreTrueGaps chains watch.asked watch.told.items
     true_first first = record {
       planar = planar;
-      true_ones = λ k d lt. first_lowest chains near planar _ (watched.true_ones sure k d lt) (watched.first first k d lt);
+      true_ones = λ k d lt. first_lowest chains near planar _ (watched.true_ones k d lt) (watched.first first k d lt);
       agree = λ none.
           none_told near planar watch.told.items
           (all_of_lowest chains planar watch.told.items watch.told.items (of_slabs (inr none)) (record {

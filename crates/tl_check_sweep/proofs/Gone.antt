@@ -1,5 +1,6 @@
 -- A sweep from one place of its events to another.
-use Rattle.std.proofs.Common.{◌≡◌, ℕ, zero, suc, ◌+◌, ◌-◌, ◌≤◌, ◌<◌, ℤ, pos, ◌+ℤ◌, ◌<ℤ◌, ◌≤ℤ◌, List, [], ◌∷◌, length, take, drop, get_or, count_by, refl, sym, ap, ◌∙◌, arith}
+use Rattle.std.proofs.Common.{◌≡◌, ⊎_elim, ℕ, zero, suc, ◌+◌, ◌-◌, ◌≤◌, ◌<◌, ℤ, pos, ◌+ℤ◌, ◌<ℤ◌, ◌≤ℤ◌, List, [], ◌∷◌, length, take, drop, get_or, count_by, refl, sym, ap, ◌∙◌, arith}
+use Rattle.std.proofs.lemmas.Bool.{cases_lt}
 use Rattle.std.proofs.lemmas.Int.{ints, by_lt_z}
 use Rattle.std.proofs.lemmas.List.{get_or_default}
 use Rattle.tl_geom.specs.declared.point.Point.{Point}
@@ -39,8 +40,8 @@ module _ (chains : List MapChain) (events : List (List Event)) (from to : ℕ) (
 
   level : (k : ℕ) (d : Event) → before from events ≤ k → k < before to events →
       (get_or (joined events) k d).height ≡ (get_or (joined events) (before from events) d).height
-  level k d low high = level_there from to events gathered.height le gathered.level k d low high
-      ∙ sym (level_there from to events gathered.height le gathered.level (before from events) d (omega arith) past)
+  level k d low high = level_there from to events gathered.height_is le gathered.level k d low high
+      ∙ sym (level_there from to events gathered.height_is le gathered.level (before from events) d (omega arith) past)
 
   -- the events there
   abbrev group : List Event
@@ -101,10 +102,26 @@ module _ (chains : List MapChain) (events : List (List Event)) (from to : ℕ) (
         let same = ap (λ (e : Event). e.height) (get_or_default (joined events) (before from events) d no_event (omega (arith, le, lt))) in
         omega (arith, ints, is, up, same, below)
 
-    -- below the other events the list is that of the slab above the point
-    pub listed_here : IsBelowNext p (joined events) (before to events) → IsListOf widest (height widest p) chains next
-    listed_here below =
+    -- the other events are above the point
+    below_next : IsBelowNext p (joined events) (before to events)
+    below_next d lt =
         let is = at in
+        let rest = past in
+        let own = gathered.beyond d (fewer lt) in
+        let here = level_there from to events gathered.height_is le gathered.level (before from events) no_event (omega arith) past in
+        let up = rising (before from events) (before to events) d (omega (arith, rest)) lt in
+        let same = ap (λ (e : Event). e.height) (get_or_default (joined events) (before from events) d no_event (omega (arith, rest, lt))) in
+        by_lt_z (height widest p +ℤ pos 2147483647) (get_or (joined events) (before to events) d).height (λ above. above)
+        (λ low. absurd (own (omega (arith, ints, is, here, up, same, low))))
+      where
+        fewer : before to events < length (joined events) → to < length events
+        fewer lt = ⊎_elim (λ less. less) (λ all. let none = all_before events to all in absurd (omega (arith, none, lt))) (cases_lt to (length events))
+
+    -- the list is that of the slab above the point
+    pub listed_here : IsListOf widest (height widest p) chains next
+    listed_here =
+        let is = at in
+        let below = below_next in
         next_list chains (joined events) (before from events) (before to events) list next are rising swept past (before_within to events) level sums
         tested (height widest p)
         (λ k d le lt.

@@ -22,3 +22,4 @@ pub mod Answered
 pub mod Unmarked
 pub mod Turning
 pub mod FaceSearch
+pub mod Paired

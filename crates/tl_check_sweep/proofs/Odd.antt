@@ -85,7 +85,6 @@ module _ (chains : List MapChain) where
       (gaps ≡ Some 0) ⊎ ¬ IsOpen watch → HasLooked chains p list next gaps watch watch
   nothing_more p list next gaps watch counted why = record {
     asked = refl;
-    sure = refl;
     told = λ still before.
         ⊎_elim (λ zero. none_along _ next watch.told.items (sym (counted 0 zero))) (λ closed. absurd (closed still)) why;
     kept = λ n w e listed. listed;

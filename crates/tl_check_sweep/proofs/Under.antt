@@ -1,5 +1,5 @@
 -- How a sweep tells the gaps of all slabs.
-use Rattle.std.proofs.Common.{◌≡◌, ◌⊎◌, inl, inr, ⊎_elim, ℕ, ◌+◌, ◌<◌, ◌≤◌, ℤ, ◌<ℤ◌, ◌≤ℤ◌, true, Option, Some, List, [], ◌∷◌, length, get_or, refl, sym, ap, subst, ◌∙◌, arith}
+use Rattle.std.proofs.Common.{◌≡◌, inl, inr, ⊎_elim, ℕ, ◌+◌, ◌<◌, ◌≤◌, ℤ, ◌<ℤ◌, ◌≤ℤ◌, Option, List, [], ◌∷◌, length, get_or, refl, sym, ap, subst, ◌∙◌, arith}
 use Rattle.std.specs.Prelude.{All}
 use Rattle.std.proofs.lemmas.Int.{ints}
 use Rattle.std.proofs.lemmas.List.Elements.{All-nil}
@@ -18,7 +18,7 @@ use Rattle.tl_check_sweep.specs.declared.watch.Watch.{Watch}
 use Rattle.tl_check_sweep.specs.Telling.{IsToldAlong, IsKept, IsAt}
 use Rattle.tl_check_sweep.specs.Keeping.Passing.{HasLooked}
 use Rattle.tl_check_sweep.specs.Keeping.Swept.{IsSwept}
-use Rattle.tl_check_sweep.specs.Keeping.Watched.{IsOpen, IsFirst, IsBelowNext, IsSlabTold, IsWatched, IsWatchedToEnd}
+use Rattle.tl_check_sweep.specs.Keeping.Watched.{IsOpen, IsFirst, IsSlabTold, IsWatched, IsWatchedToEnd}
 use Rattle.tl_check_active.proofs.Joining.{before_past}
 use Rattle.tl_check_sweep.proofs.Slab.{list_of_slab}
 use Rattle.tl_check_sweep.proofs.Gone.{reached_all, reached_by, before_or, under_here, listed_here}
@@ -40,7 +40,7 @@ none_before (g ∷ old) new kept e =
 pub begun : (chains : List MapChain) (events : List Event) (list : List ℕ) (watch : Watch) → AreEvents chains events → list ≡ [] →
     watch.told.items ≡ [] → IsWatched chains events 0 list watch
 begun chains events list watch are e f = record {
-  true_ones = λ sure. subst (All (IsOddGap widest chains)) (sym f) (All-nil (IsOddGap widest chains));
+  true_ones = subst (All (IsOddGap widest chains)) (sym f) (All-nil (IsOddGap widest chains));
   along = λ still n reached. subst (λ l. IsToldAlong chains n l watch.told.items) (sym e) (nothing_along chains n watch.told.items);
   below = λ still n above. record {
     list = [];
@@ -54,28 +54,25 @@ module _ (chains : List MapChain) (groups : List (List Event)) (from to : ℕ) (
     (rising : AreRising (joined groups)) (swept : IsSwept chains (joined groups) (before from groups) list)
     (gathered : AreGathered groups from to outs ins) (moved : (s : ℕ) → times s next + times s outs ≡ times s list + times s ins)
     (tested : EachTwo (AreTested widest chains) next) (p : Point) (here : (e : List Event) → AreAt p (get_or groups from e))
-    (gaps : Option ℕ) (old mid new : Watch) (under : IsWatched chains (joined groups) (before from groups) list old)
-    (looked : HasLooked chains p list next gaps old mid) (asked : new.asked ≡ mid.asked) (told : new.told.items ≡ mid.told.items)
-    (sure : new.is_sure ≡ true → (mid.is_sure ≡ true) × ((gaps ≡ Some 0) ⊎ IsBelowNext p (joined groups) (before to groups))) where
+    (gaps : Option ℕ) (old new : Watch) (under : IsWatched chains (joined groups) (before from groups) list old)
+    (looked : HasLooked chains p list next gaps old new) where
   was_open : IsOpen new → IsOpen old
   was_open =
-      ⊎_elim (λ all. inl (sym looked.asked ∙ sym asked ∙ all))
-      (λ none. inr (none_before old.told.items mid.told.items looked.kept (sym told ∙ none)))
+      ⊎_elim (λ all. inl (sym looked.asked ∙ all)) (λ none. inr (none_before old.told.items new.told.items looked.kept none))
 
   along : IsOpen old → (n : ℤ) → height widest p ≤ℤ n → IsToldAlong chains n next new.told.items
   along still n le =
-      subst (IsToldAlong chains n next) (sym told)
-      (told_up chains (height widest p) n next mid.told.items le (looked.told still (under.along still (height widest p)
+      told_up chains (height widest p) n next new.told.items le (looked.told still (under.along still (height widest p)
       (λ k d lt inside. reached_all chains groups from to list next outs ins are rising swept gathered moved tested p here (height widest p)
-      (omega (arith, ints)) k d (let all = earlier in omega (arith, lt, all)) inside))))
+      (omega (arith, ints)) k d (let all = earlier in omega (arith, lt, all)) inside)))
     where
       earlier : before from groups < before to groups
       earlier = let past = gathered.past in before_past from to groups (omega (arith, past)) gathered.some
 
   -- the first that are told are of the slab above the point, and below it nothing was to be told; behind them no more are
-  first : old.asked ≡ First → (were : List OddGap) → old.told.items ≡ were → All (IsFirst chains) mid.told.items
+  first : old.asked ≡ First → (were : List OddGap) → old.told.items ≡ were → All (IsFirst chains) new.told.items
   first only [] none = λ k d lt n below.
-      let is : IsAt p (get_or mid.told.items k d) = looked.here (subst (All (IsAt p)) (sym none) (All-nil (IsAt p))) k d lt in
+      let is : IsAt p (get_or new.told.items k d) = looked.here (subst (All (IsAt p)) (sym none) (All-nil (IsAt p))) k d lt in
       subst (IsSlabTold chains n) none
       (under.below (inr none) n
       (under_here chains groups from to list next outs ins are rising swept gathered moved tested p here n (subst (λ q. n <ℤ height widest q) is below)))
@@ -87,22 +84,17 @@ module _ (chains : List MapChain) (groups : List (List Event)) (from to : ℕ) (
 
   pub goes_on : IsWatched chains (joined groups) (before to groups) next new
   goes_on = record {
-    true_ones = λ sure_yet.
-        let so = sure sure_yet in
-        let were = under.true_ones (sym looked.sure ∙ so.0) in
-        subst (All (IsOddGap widest chains)) (sym told)
-        (⊎_elim (λ zero. subst (All (IsOddGap widest chains)) (sym (looked.quiet zero)) were)
-        (λ below. looked.true_ones (listed_here chains groups from to list next outs ins are rising swept gathered moved tested p here below) were) so.1);
+    true_ones =
+        looked.true_ones (listed_here chains groups from to list next outs ins are rising swept gathered moved tested p here) under.true_ones;
     along = λ still n reached.
         along (was_open still) n
         (reached_by chains groups from to list next outs ins are rising swept gathered moved tested p here n reached);
     below = λ still n above.
         before_or chains groups from to list next outs ins are rising swept gathered moved tested p here n above
         (λ under_it.
-        subst (IsSlabTold chains n) (sym told)
-        (slab_kept chains n old.told.items mid.told.items looked.kept (under.below (was_open still) n under_it)))
+        slab_kept chains n old.told.items new.told.items looked.kept (under.below (was_open still) n under_it))
         (λ le listed. record { list = next; listed = listed; told = along (was_open still) n le });
-    first = λ only. subst (All (IsFirst chains)) (sym told) (first (sym looked.asked ∙ sym asked ∙ only) old.told.items refl);
+    first = λ only. first (sym looked.asked ∙ only) old.told.items refl;
   }
 
 pub ended : (chains : List MapChain) (events : List Event) (from : ℕ) (list : List ℕ) (watch : Watch) → length events ≤ from →

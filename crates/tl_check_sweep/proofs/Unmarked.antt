@@ -1,7 +1,9 @@
 -- Polygons that are listed where they have no mark.
 use Rattle.std.proofs.Common.{◌≡◌, ◌⊎◌, inl, inr, ℕ, ◌+◌, ◌<◌, Bool, false, true, List, [], ◌∷◌, ◌++◌, All, Contains, slice_index_or, sym, subst, arith}
-use Rattle.std.proofs.lemmas.Bool.{cases_lt}
+use Rattle.std.proofs.lemmas.Bool.{cases_lt, true≢false}
 use Rattle.std.proofs.lemmas.List.Elements.{All-push, Contains-append_left, Contains-push}
+use Rattle.tl_map_county.specs.TheMap.{TheMap}
+use Rattle.tl_check_sweep.specs.Keeping.Spotted.{AreTrueMarks}
 
 -- each polygon before this one is listed or marked, and those that are listed are polygons
 pub record AreListedBefore (n : ℕ) (marks : List Bool) (p : ℕ) (list : List ℕ) : Type 0 where
@@ -29,3 +31,7 @@ module _ (n : ℕ) (marks : List Bool) (p : ℕ) where
     kept : (q : ℕ) → Contains list q ⊎ (slice_index_or marks q false ≡ true) → Contains new q ⊎ (slice_index_or marks q false ≡ true)
     kept q (inl h) = inl (subst (λ l. Contains l q) (sym is) (Contains-append_left list (p ∷ []) q h))
     kept q (inr marked) = inr marked
+
+-- where there are no marks, none is true of a polygon
+pub none_marked : (m : TheMap) (marks : List Bool) → marks ≡ [] → AreTrueMarks m marks
+none_marked m marks none = subst (AreTrueMarks m) (sym none) (λ p marked. absurd (true≢false (sym marked)))

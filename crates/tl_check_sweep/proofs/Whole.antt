@@ -167,10 +167,9 @@ all_told chains p list old new about =
 pub looked : (chains : List MapChain) (p : Point) (west outs ins east : List ℕ) (gaps : Option ℕ) (old : Watch) (told : Vec OddGap Global) →
     AreToldAbout chains p (record { west = west; ins = ins; east = east }) (length ins + 1) old.told.items told.items → ¬ (gaps ≡ Some 0) →
     IsOpen old →
-    HasLooked chains p (west ++ (outs ++ east)) ((west ++ ins) ++ east) gaps old (record { asked = old.asked; told = told; is_sure = old.is_sure })
+    HasLooked chains p (west ++ (outs ++ east)) ((west ++ ins) ++ east) gaps old (record { asked = old.asked; told = told })
 looked chains p west outs ins east gaps old told about some still = record {
   asked = refl;
-  sure = refl;
   told = λ still before. told_on chains p west outs ins east old.told.items told.items before about;
   kept = about.kept;
   true_ones = about.true_ones;

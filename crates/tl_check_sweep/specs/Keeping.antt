@@ -7,3 +7,4 @@ pub mod Passing
 pub mod Kept
 pub mod Spotted
 pub mod Told
+pub mod Pairs

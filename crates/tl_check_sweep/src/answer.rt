@@ -1,6 +1,7 @@
 //! What a sweep says of a map.
 ghost use Rattle.std.specs.Prelude.{◌≡◌, ◌⊎◌, ◌<◌, ℕ, [], Some, length, slice_get, All, Contains, IfOk, IfSome};
 ghost use Rattle.tl_map_county.specs.declared.polygons.Polygon.{Polygon};
+ghost use Rattle.tl_map_county.specs.TheMap.{TheMap};
 ghost use Rattle.tl_check_planar.specs.Planar.{IsPlanar};
 ghost use Rattle.tl_check_planar.specs.declared.meet.Meet.{Meet};
 ghost use Rattle.tl_check_planar.specs.Searching.{IsTrueMeet};
@@ -17,7 +18,9 @@ ghost use Rattle.tl_check_sweep.specs.Gaps.{AreAllOddGaps};
 ghost use Rattle.tl_check_sweep.specs.Keeping.Spotted.{AreMarks, AreTrueMarks};
 ghost use Rattle.tl_check_sweep.specs.Keeping.Told.{IsTrueAnswer, IsTrueSweep};
 
+use crate::face_search::gaps_by_slabs;
 use crate::meets::are_vertices_tested;
+use crate::pairs::find_in_pairs;
 use crate::spots::{InnerPoints, list_unmarked};
 use crate::suspects::{find_meet, find_meet_at_vertex};
 use crate::sweeping::sweep_list;
@@ -37,8 +40,6 @@ pub enum Swept {
     Planar,
     /// Two segments meet where they may not.
     Meet(Meet),
-    /// A test failed, which says nothing of the map.
-    Unknown,
 }
 
 /// What a sweep tells of a map.
@@ -47,8 +48,8 @@ pub struct SweepReport {
     pub swept: Swept,
     /// Polygons by their numbers: the point of each other one lies where it has to. Where the chains aren't found to be planar, these are all.
     pub suspects: Vec<u32>,
-    /// Gaps whose facing sides differ, those that were asked for; nothing where a test failed.
-    pub gaps: Option<Vec<OddGap>>,
+    /// Gaps whose facing sides differ, those that were asked for; none where segments meet.
+    pub gaps: Vec<OddGap>,
 }
 
 /// The same on the way, with a mark for each polygon whose point was found to be placed.
@@ -56,10 +57,10 @@ pub struct SweepReport {
 pub struct Told {
     pub swept: Swept,
     pub marks: Vec<bool>,
-    pub gaps: Option<Vec<OddGap>>,
+    pub gaps: Vec<OddGap>,
 }
 
-/// Sweeps over the chains of a map from south to north. Of the gaps whose facing sides differ those are told that are asked for: all that
+/// Sweeps over the chains of a map from south to north, and tells whether they are planar or which two segments meet. Of the gaps whose facing sides differ those are told that are asked for: all that
 /// there are, each two segments once, at the lowest such gap between them, by rising numbers of the western one and of one such by those
 /// of the eastern one, those with no segment on a side before the others; or some of these, if there are any. The error is that memory
 /// was refused.
@@ -75,15 +76,15 @@ pub fn sweep(alloc: Global, map: &Map, gaps: Gaps) -> Result<SweepReport, AllocE
     // The point of each polygon that isn't listed lies where it has to.
     ensures others { IfOk result (λ report. (p : ℕ) (polygon : Polygon) → slice_get map.now.polygons p ≡ Some polygon →
         Contains report.suspects.items p ⊎ IsPlacedIn map.now polygon.point p) }
-    // Where a list of gaps is answered, the chains are planar, and each gap is one of a slab's list whose facing sides
-    // differ, the lowest between its segments.
-    ensures odd { IfOk result (λ report. IfSome report.gaps (λ found. IsPlanar map.now.chains × All (IsLowestOddGap widest map.now.chains) found.items)) }
-    // Where this list is empty, faces agree.
-    ensures agree { IfOk result (λ report. IfSome report.gaps (λ found. found.items ≡ [] → FacesAgree map.now.chains)) }
-    // Where all gaps are asked for, it has for each such gap of each slab's list one between the same two segments, of
-    // that slab or a lower one. They rise strictly by what stands west of them, and of one such by what stands east, so
-    // that no two segments stand there twice.
-    ensures all { gaps ≡ Gaps.All → IfOk result (λ report. IfSome report.gaps (λ found. AreAllOddGaps widest map.now.chains found.items)) }
+    // Where the chains are planar, each gap is one of a slab's list whose facing sides differ, the lowest between its
+    // segments.
+    ensures odd { IfOk result (λ report. IsPlanar map.now.chains → All (IsLowestOddGap widest map.now.chains) report.gaps.items) }
+    // Where they are planar and there is no gap, faces agree.
+    ensures agree { IfOk result (λ report. IsPlanar map.now.chains → report.gaps.items ≡ [] → FacesAgree map.now.chains) }
+    // Where they are planar and all gaps are asked for, there is for each such gap of each slab's list one between the
+    // same two segments, of that slab or a lower one. They rise strictly by what stands west of them, and of one such by
+    // what stands east, so that no two segments stand there twice.
+    ensures all { gaps ≡ Gaps.All → IfOk result (λ report. IsPlanar map.now.chains → AreAllOddGaps widest map.now.chains report.gaps.items) }
 {
     map.has_proper_chains();
     let Told { swept, marks, gaps } = sweep_ends(alloc, map, gaps)?;
@@ -134,7 +135,7 @@ fn sweep_events(alloc: Global, map: &Map, events: &Events, gaps: Gaps) -> Result
     ensures { IfOk result (IsTrueSweep map.now gaps) }
 {
     if !are_vertices_tested(map, events) {
-        return Ok(answer_by_meet(alloc, map, find_meet_at_vertex(map, events)));
+        return answer_by_pairs(alloc, map, find_meet_at_vertex(map, events));
     }
     sweep_tested(alloc, map, events, gaps)
 }
@@ -153,7 +154,7 @@ fn sweep_tested(alloc: Global, map: &Map, events: &Events, gaps: Gaps) -> Result
     let mut suspects = Vec::new(alloc);
     let mut watch = Watch::new(alloc, gaps);
     if !sweep_list(alloc, map, events, &mut spots, &mut suspects, &mut watch)? {
-        return Ok(answer_by_meet(alloc, map, find_meet(map, &suspects)));
+        return answer_by_pairs(alloc, map, find_meet(map, &suspects));
     }
     let swept = planar(map, &spots);
     let gaps = watch.into_gaps(alloc, map)?;
@@ -164,16 +165,43 @@ fn sweep_tested(alloc: Global, map: &Map, events: &Events, gaps: Gaps) -> Result
     })
 }
 
-/// What is told where a test failed, and two segments may have been found that meet where they may not.
-fn answer_by_meet(alloc: Global, map: &Map, found: Option<Meet>) -> Told
+/// What is told where a test failed: the meet that was found there, if there is one, and else what a search of all pairs of segments
+/// says. No map is known of which the tests fail and no meet is found there.
+fn answer_by_pairs(alloc: Global, map: &Map, found: Option<Meet>) -> Result<Told, AllocError>
     requires { IfSome found (IsTrueMeet map.now.chains) }
-    ensures { (gaps : _) → IsTrueSweep map.now gaps result }
+    ensures { IfOk result (λ told. (gaps : _) → IsTrueSweep map.now gaps told) }
+{
+    if let Some(meet) = found {
+        return Ok(answer_by_meet(alloc, meet));
+    }
+    match find_in_pairs(alloc, map)? {
+        Some(meet) => Ok(answer_by_meet(alloc, meet)),
+        None => answer_by_slabs(alloc, map),
+    }
+}
+
+/// What is told where two segments meet where they may not.
+fn answer_by_meet(alloc: Global, meet: Meet) -> Told
+    ensures { (m : TheMap) (gaps : _) → IsTrueMeet m.chains meet → IsTrueSweep m gaps result }
 {
     Told {
-        swept: answer_of(map, found),
+        swept: Swept::Meet(meet),
         marks: Vec::new(alloc),
-        gaps: None,
+        gaps: Vec::new(alloc),
     }
+}
+
+/// What is told where the chains are planar, though a test failed: nothing of points, and of gaps those of all slabs.
+fn answer_by_slabs(alloc: Global, map: &Map) -> Result<Told, AllocError>
+    requires planar { IsPlanar map.now.chains }
+    ensures { IfOk result (λ told. (gaps : _) → IsTrueSweep map.now gaps told) }
+{
+    let gaps = gaps_by_slabs(alloc, map)?;
+    Ok(Told {
+        swept: Swept::Planar,
+        marks: Vec::new(alloc),
+        gaps,
+    })
 }
 
 /// What is answered where the chains are planar.
@@ -186,16 +214,5 @@ fn planar(map: &Map, spots: &InnerPoints) -> Swept
         Swept::Placed
     } else {
         Swept::Planar
-    }
-}
-
-/// What is answered where a test failed, and two segments may have been found that meet where they may not.
-fn answer_of(map: &Map, found: Option<Meet>) -> Swept
-    requires { IfSome found (IsTrueMeet map.now.chains) }
-    ensures { IsTrueAnswer map.now result }
-{
-    match found {
-        Some(meet) => Swept::Meet(meet),
-        None => Swept::Unknown,
     }
 }

@@ -6,8 +6,8 @@
 //! a place at which it faces the other. `tl_check_faces/specs/Faults` says when that is true of a map.
 //!
 //! [`find_face_fault`] decides by a sweep (`tl_check_sweep`), and [`find_all_face_faults`] tells of all gaps that there are: `specs/AllFaults` says
-//! of which. Where a sweep was made already, [`face_fault_of`] and [`all_face_faults`] take what it told of gaps. Only where it told nothing
-//! of them, [`gaps_by_slabs`] lists all slabs one by one, which takes longer.
+//! of which. Where a sweep was made already, [`face_fault_of`] and [`all_face_faults`] take what it told of gaps. [`gaps_by_slabs`] is for
+//! planar maps of which a test of the sweep fails, and none is known: it lists all slabs one by one, which takes longer.
 
 mod all;
 mod decide;

@@ -1,6 +1,8 @@
 //! Segments that may meet where they may not, of which it is asked where a test failed.
-ghost use Rattle.std.specs.Prelude.{IfSome, IsTrue};
+ghost use Rattle.std.specs.Prelude.{◌≡◌, ◌<◌, None, IfSome, IsTrue};
+ghost use Rattle.tl_check_planar.specs.Meets.{AreFree};
 ghost use Rattle.tl_check_planar.specs.Searching.{IsTrueMeet};
+ghost use Rattle.tl_check_sweep.specs.Keeping.Pairs.{AreFreeBothWays};
 
 use crate::meets::{are_in_order, last_of};
 use std::alloc::AllocError;
@@ -11,7 +13,8 @@ use tl_tree_index::Items;
 
 /// The meet of two segments, if they meet where they may not and the first has the lower number.
 fn meet_in_order(map: &Map, s: u32, t: u32) -> Option<Meet>
-    ensures { IfSome result (IsTrueMeet map.now.chains) }
+    ensures meet { IfSome result (IsTrueMeet map.now.chains) }
+    ensures none { result ≡ None → s < t → AreFree map.now.chains s t }
 {
     if s >= t || t >= map.segments() {
         return None;
@@ -27,8 +30,9 @@ fn meet_in_order(map: &Map, s: u32, t: u32) -> Option<Meet>
 }
 
 /// The meet of two segments, if they meet where they may not.
-fn meet_of(map: &Map, s: u32, t: u32) -> Option<Meet>
-    ensures { IfSome result (IsTrueMeet map.now.chains) }
+pub fn meet_of(map: &Map, s: u32, t: u32) -> Option<Meet>
+    ensures meet { IfSome result (IsTrueMeet map.now.chains) }
+    ensures none { result ≡ None → AreFreeBothWays map.now.chains s t }
 {
     if s < t {
         meet_in_order(map, s, t)

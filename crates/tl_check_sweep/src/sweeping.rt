@@ -83,7 +83,6 @@ fn sweep_along(
             list_suspects(line, outs, ins, suspects)?;
             return Ok(false);
         }
-        watch.stay_sure(events, p, to, gaps);
         from = to;
     }
     Ok(true)

@@ -1,18 +1,16 @@
 //! What a sweep watches of the gaps whose facing sides differ.
-ghost use Rattle.std.specs.Prelude.{◌≡◌, ◌⊎◌, ◌↔◌, ◌++◌, [], List, ℕ, Some, false, true, IsTrue, IfOk, IfSome, slice_get};
+ghost use Rattle.std.specs.Prelude.{◌≡◌, ◌⊎◌, ◌↔◌, ◌++◌, [], List, ℕ, Some, false, IsTrue, IfOk, slice_get};
 ghost use Rattle.tl_check_planar.specs.ByHeight.Heights.{widest};
 ghost use Rattle.tl_check_planar.specs.Planar.{IsPlanar};
 ghost use Rattle.tl_check_faces.specs.Lists.{AreAllNear};
-ghost use Rattle.tl_check_active.specs.Events.{before as events_before, joined};
 ghost use Rattle.tl_check_active.specs.Lined.{last_of};
 ghost use Rattle.tl_check_sweep.specs.Keeping.Facing.{IsCounted};
 ghost use Rattle.tl_check_sweep.specs.Keeping.Passing.{HasLooked};
-ghost use Rattle.tl_check_sweep.specs.Keeping.Watched.{IsOpen, IsBelowNext, IsWatchedToEnd, AreTrueGaps};
+ghost use Rattle.tl_check_sweep.specs.Keeping.Watched.{IsOpen, IsWatchedToEnd, AreTrueGaps};
 
 use crate::kept::lowest_of_each;
 use crate::telling::push_about;
 use std::alloc::{AllocError, Global};
-use tl_check_active::{Events, height};
 use tl_check_faces::OddGap;
 use tl_geom::Point;
 use tl_map_county::Map;
@@ -26,12 +24,11 @@ pub enum Gaps {
     All,
 }
 
-/// Which gaps are asked for, those that are told, and whether each of these is known to be one of its slab's list.
+/// Which gaps are asked for, and those that are told.
 #[derive(Drop)]
 pub struct Watch {
     pub asked: Gaps,
     pub told: Vec<OddGap>,
-    pub is_sure: bool,
 }
 
 impl Watch {
@@ -43,7 +40,6 @@ impl Watch {
         Watch {
             asked,
             told: Vec::new(alloc),
-            is_sure: true,
         }
     }
 
@@ -88,51 +84,17 @@ impl Watch {
         Ok(())
     }
 
-    /// Behind a vertex at a point, where sides differ so often along the list, and the next event is at a place: where that isn't above
-    /// the point, the list isn't known to be that of the slab above it. Mostly sides differ nowhere, and nothing is to change.
-    #[inline]
-    pub fn stay_sure(&mut self, events: &Events, p: Point, place: usize, gaps: Option<u64>)
-        ensures asked { self.new.asked ≡ self.old.asked }
-        ensures told { self.new.told.items ≡ self.old.told.items }
-        ensures sure { self.new.is_sure ≡ true → (self.old.is_sure ≡ true) ×
-            ((gaps ≡ Some 0) ⊎ IsBelowNext p (joined events.now) (events_before place events.now)) }
-    {
-        if gaps == Some(0) {
-            return;
-        }
-        if !is_below(p, events, place) {
-            self.is_sure = false;
-        }
-    }
-
-    /// What is told of gaps behind the last vertex, if it is known to be true.
-    pub fn into_gaps(self, alloc: Global, map: &Map) -> Result<Option<Vec<OddGap>>, AllocError>
+    /// What is told of gaps behind the last vertex.
+    pub fn into_gaps(self, alloc: Global, map: &Map) -> Result<Vec<OddGap>, AllocError>
         requires near { AreAllNear widest map.now.chains }
         requires planar { IsPlanar map.now.chains }
         requires watched { IsWatchedToEnd map.now.chains self }
-        ensures { IfOk result (λ found. IfSome found (λ gaps. AreTrueGaps map.now.chains self.asked gaps.items)) }
+        ensures { IfOk result (λ gaps. AreTrueGaps map.now.chains self.asked gaps.items) }
     {
-        let Watch {
-            asked,
-            told,
-            is_sure,
-        } = self;
-        if !is_sure {
-            return Ok(None);
-        }
+        let Watch { asked, told } = self;
         match asked {
-            Gaps::First => Ok(Some(told)),
-            Gaps::All => {
-                let gaps = lowest_of_each(alloc, told)?;
-                Ok(Some(gaps))
-            }
+            Gaps::First => Ok(told),
+            Gaps::All => lowest_of_each(alloc, told),
         }
     }
-}
-
-/// Whether a point is below the events from a place on.
-fn is_below(p: Point, events: &Events, place: usize) -> bool
-    ensures { IsTrue result → IsBelowNext p (joined events.now) (events_before place events.now) }
-{
-    place >= events.len() || height(p) < height(events.point(place))
 }

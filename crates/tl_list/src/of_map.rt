@@ -1,6 +1,6 @@
 //! All faults of a map, or that it is sound.
 
-ghost use Rattle.std.specs.Prelude.{◌≡◌, [], IfOk, length, true, IfSome};
+ghost use Rattle.std.specs.Prelude.{◌≡◌, [], IfOk, length, true};
 ghost use Rattle.tl_map_county.specs.Segments.{segments_before};
 ghost use Rattle.tl_check_planar.specs.Planar.{IsPlanar};
 ghost use Rattle.tl_check_planar.specs.Rectangles.{segment_rect};
@@ -29,8 +29,8 @@ use tl_tree::FlatTree;
 use tl_tree_index::{BoxIndex, Memory, TreeStop};
 use tl_tree_pack::pack;
 
-/// All faults of a map, or its report where it is sound: by a sweep, and where that doesn't tell that the chains are
-/// planar, by a search for all their meets. Of polygons' points those are looked at that the sweep doesn't know to be placed. Where
+/// All faults of a map, or its report where it is sound: by a sweep, and where that tells that segments meet, by a
+/// search for all their meets. Of polygons' points those are looked at that the sweep doesn't know to be placed. Where
 /// `faces` are asked for, those that disagree are listed of a map that is sound otherwise. An error says that memory was refused.
 pub fn list_map(alloc: Global, map: &Map, faces: bool) -> Result<Listing, Memory>
     ensures { IfOk result (IsListingFor faces map.now) }
@@ -43,7 +43,7 @@ pub fn list_map(alloc: Global, map: &Map, faces: bool) -> Result<Listing, Memory
         suspects,
         gaps,
     } = report;
-    list_for(alloc, map, swept, suspects, faces, gaps)
+    list_for(alloc, map, swept, suspects, faces, &gaps)
 }
 
 /// Which gaps are told: all, where faces are asked for.
@@ -60,12 +60,12 @@ fn list_for(
     swept: Swept,
     suspects: Vec<u32>,
     faces: bool,
-    gaps: Option<Vec<OddGap>>,
+    gaps: &[OddGap],
 ) -> Result<Listing, Memory>
     requires placed { swept ≡ Swept.Placed → IsPlanar map.now.chains × ArePlaced map.now }
     requires planar { swept ≡ Swept.Planar → IsPlanar map.now.chains }
     requires suspects { AreSuspects map.now suspects.items }
-    requires all { faces ≡ true → IfSome gaps (λ found. AreAllOddGaps widest map.now.chains found.items) }
+    requires all { faces ≡ true → IsPlanar map.now.chains → AreAllOddGaps widest map.now.chains gaps.now }
     ensures { IfOk result (IsListingFor faces map.now) }
 {
     match list_swept(alloc, map, swept, suspects)? {
@@ -87,11 +87,11 @@ fn list_faces(
     map: &Map,
     report: Report,
     faces: bool,
-    gaps: Option<Vec<OddGap>>,
+    gaps: &[OddGap],
 ) -> Result<Listing, Memory>
     requires sound { IsSound map.now }
     requires report { IsReport map.now report }
-    requires all { faces ≡ true → IfSome gaps (λ found. AreAllOddGaps widest map.now.chains found.items) }
+    requires all { faces ≡ true → IsPlanar map.now.chains → AreAllOddGaps widest map.now.chains gaps.now }
     ensures { IfOk result (IsListingFor faces map.now) }
 {
     if !faces {
@@ -123,7 +123,7 @@ fn list_swept(alloc: Global, map: &Map, swept: Swept, suspects: Vec<u32>) -> Res
     match swept {
         Swept::Placed => list_planar(alloc, map, Vec::new(alloc)),
         Swept::Planar => list_planar(alloc, map, suspects),
-        Swept::Meet(_) | Swept::Unknown => list_by_search(alloc, map, suspects),
+        Swept::Meet(_) => list_by_search(alloc, map, suspects),
     }
 }
 

@@ -14,7 +14,7 @@ use Rattle.tl_build.specs.declared.answer.Audit.TheVariants as audit
 use Rattle.tl_build.specs.declared.answer.Built.TheVariants as built
 use Rattle.tl_build.specs.Auditing.{Auditing, IsMemoryStop}
 use Rattle.tl_build.specs.Building.{Building}
-use Rattle.tl_build.specs.Keeping.Judging.{refusal_of}
+use Rattle.tl_build.specs.Keeping.Refusing.{refusal_of}
 
 -- what an audit says of a map, without faces
 abbrev pub Audits : TheMap → Auditing → Type 0

@@ -14,7 +14,6 @@ use Rattle.tl_check_sweep.specs.Keeping.Watched.{IsOpen}
 -- point; where sides differ nowhere, or no more gaps are to be told, nothing more is
 pub record HasLooked (chains : List MapChain) (p : Point) (list next : List ℕ) (gaps : Option ℕ) (old new : Watch) : Type 0 where
   pub asked : new.asked ≡ old.asked
-  pub sure : new.is_sure ≡ old.is_sure
   pub told : IsOpen old → IsToldAlong chains (height widest p) list old.told.items → IsToldAlong chains (height widest p) next new.told.items
   pub kept : IsKept old.told.items new.told.items
   pub true_ones : StaysTrue chains p next old.told.items new.told.items

@@ -1,5 +1,5 @@
 -- What is watched of gaps on the way of a sweep.
-use Rattle.std.specs.Prelude.{◌≡◌, ◌⊎◌, ℕ, ◌<◌, ℤ, pos, ◌+ℤ◌, ◌<ℤ◌, ◌≤ℤ◌, Bool, true, List, [], length, slice_index_or, All}
+use Rattle.std.specs.Prelude.{◌≡◌, ◌⊎◌, ℕ, ◌<◌, ℤ, pos, ◌+ℤ◌, ◌<ℤ◌, ◌≤ℤ◌, Bool, List, [], length, slice_index_or, All}
 use Rattle.tl_geom.specs.declared.point.Point.{Point}
 use Rattle.tl_map_county.specs.TheMap.{TheMap, MapChain}
 use Rattle.tl_check_planar.specs.Planar.{IsPlanar}
@@ -46,17 +46,17 @@ AreReached n from events = (k : ℕ) (d : Event) → k < from → k < length eve
 abbrev pub IsBelowNext : Point → List Event → ℕ → Type 0
 IsBelowNext p events place = (d : Event) → place < length events → (height widest p +ℤ pos 2147483647) <ℤ (slice_index_or events place d).height
 
--- what is told after the first events, with this list: it is true, where that is sure; while gaps are still told, all of the list are, and
+-- what is told after the first events, with this list: it is true; while gaps are still told, all of the list are, and
 -- all of all slabs below the other events; and where only the first are asked for, they are of the lowest slab that has any
 pub record IsWatched (chains : List MapChain) (events : List Event) (from : ℕ) (list : List ℕ) (watch : Watch) : Type 0 where
-  pub true_ones : watch.is_sure ≡ true → All (IsOddGap widest chains) watch.told.items
+  pub true_ones : All (IsOddGap widest chains) watch.told.items
   pub along : IsOpen watch → (n : ℤ) → AreReached n from events → IsToldAlong chains n list watch.told.items
   pub below : IsOpen watch → (n : ℤ) → AreAbove n from events → IsSlabTold chains n watch.told.items
   pub first : watch.asked ≡ choice.First → All (IsFirst chains) watch.told.items
 
 -- it is so of all slabs
 pub record IsWatchedToEnd (chains : List MapChain) (watch : Watch) : Type 0 where
-  pub true_ones : watch.is_sure ≡ true → All (IsOddGap widest chains) watch.told.items
+  pub true_ones : All (IsOddGap widest chains) watch.told.items
   pub slabs : IsOpen watch → (n : ℤ) → IsSlabTold chains n watch.told.items
   pub first : watch.asked ≡ choice.First → All (IsFirst chains) watch.told.items
 

@@ -1,5 +1,5 @@
 //! All faces that disagree, as a user is told of them.
-ghost use Rattle.std.specs.Prelude.{◌≡◌, ◌↔◌, [], All, IfOk, IfSome};
+ghost use Rattle.std.specs.Prelude.{◌≡◌, ◌↔◌, [], All, IfOk};
 ghost use Rattle.tl_check_planar.specs.Planar.{IsPlanar};
 ghost use Rattle.tl_check_planar.specs.ByHeight.Heights.{widest};
 ghost use Rattle.tl_check_faces.specs.Facing.{FacesAgree};
@@ -10,7 +10,6 @@ ghost use Rattle.tl_check_sweep.specs.FaceSearch.AllFaults.{AreOfAllGaps};
 ghost use Rattle.tl_check_sweep.specs.FaceSearch.Keeping.Told.{AreFaultsOf};
 
 use crate::face_search::find::face_fault;
-use crate::face_search::gaps::gaps_by_slabs;
 use crate::face_search::near::look_at_points;
 use crate::{Gaps, SweepReport, sweep};
 use std::alloc::{AllocError, Global};
@@ -32,31 +31,24 @@ pub fn find_all_face_faults(alloc: Global, map: &Map) -> Result<Vec<FaceFault>, 
         suspects: _suspects,
         gaps,
     } = sweep(alloc, map, Gaps::All)?;
-    all_face_faults(alloc, map, gaps)
+    all_face_faults(alloc, map, &gaps)
 }
 
 /// All faces of a map that disagree, as [`find_all_face_faults`] tells them, where a sweep of the map has told of all
-/// gaps already. Where it told nothing of them, slabs are listed one by one, as [`gaps_by_slabs`] does. The error is
-/// that memory was refused.
+/// gaps already. The error is that memory was refused.
 pub fn all_face_faults(
     alloc: Global,
     map: &Map,
-    gaps: Option<Vec<OddGap>>,
+    gaps: &[OddGap],
 ) -> Result<Vec<FaceFault>, AllocError>
     requires planar { IsPlanar map.now.chains }
-    requires told { IfSome gaps (λ found. AreAllOddGaps widest map.now.chains found.items) }
+    requires told { AreAllOddGaps widest map.now.chains gaps.now }
     ensures true_ones { IfOk result (λ faults. All (IsTrueFaceFault map.now) faults.items) }
     ensures all { IfOk result (λ faults. AreOfAllGaps widest map.now faults.items) }
     ensures agree { IfOk result (λ faults. (faults.items ≡ []) ↔ FacesAgree map.now.chains) }
 {
     look_at_points(map);
-    match gaps {
-        Some(gaps) => faults_of(alloc, map, &gaps),
-        None => {
-            let gaps = gaps_by_slabs(alloc, map)?;
-            faults_of(alloc, map, &gaps)
-        }
-    }
+    faults_of(alloc, map, gaps)
 }
 
 /// The faults of gaps, in their order.

@@ -19,7 +19,7 @@ use tl_map_county::Map;
 
 /// All gaps of slabs' lists whose facing sides differ, where a map's chains are planar, as [`crate::sweep`] tells them. It lists the slab
 /// above each end of each segment anew, so its time grows with the square of the number of segments at least: it is for maps of which a
-/// sweep says nothing of gaps. The error is that memory was refused.
+/// test of the sweep fails. The error is that memory was refused.
 pub fn gaps_by_slabs(alloc: Global, map: &Map) -> Result<Vec<OddGap>, AllocError>
     requires planar { IsPlanar map.now.chains }
     ensures odd { IfOk result (λ gaps. All (IsLowestOddGap widest map.now.chains) gaps.items) }

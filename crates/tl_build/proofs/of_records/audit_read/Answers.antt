@@ -1,6 +1,6 @@
 use Rattle.std.proofs.Common.{sym, subst, ap}
 use Rattle.std.proofs.lemmas.Result.{err_from_is_err_and}
-use Rattle.tl_build.specs.Keeping.Judging.{audit_of}
+use Rattle.tl_build.specs.Keeping.Refusing.{audit_of}
 use Rattle.tl_build.specs.Keeping.Deciding.{AuditsRead}
 use Rattle.tl_build.proofs.of_records.audit_read.Goals as goal
 

@@ -45,13 +45,31 @@ pub returns-else-are_there : goal.returns-else-are_there
 returns-else-are_there c =
     let now = c.loop-to.invariant in
     let past : c.args.from < c.loop-to.to = let le = now.past in let other = c.are_there.ensures.other c.if-are_there.false in omega (arith, le, other) in
-    record { past = past; within = now.within; some = now.some past; height = height widest c.point-p.result +ℤ pos 2147483647; level = now.level; off = now.off; on = now.on }
+    record {
+      past = past;
+      within = now.within;
+      some = now.some past;
+      height_is = height widest c.point-p.result +ℤ pos 2147483647;
+      level = now.level;
+      beyond = c.are_there.ensures.elsewhere c.if-are_there.false;
+      off = now.off;
+      on = now.on;
+    }
 
 pub returns-after-loop-to : goal.returns-after-loop-to
 returns-after-loop-to c =
     let now = c.loop-to.invariant in
     let past : c.args.from < c.loop-to.to = omega (arith, c.loop-to-test.false, c.len-count.ensures, c.requires) in
-    record { past = past; within = now.within; some = now.some past; height = height widest c.point-p.result +ℤ pos 2147483647; level = now.level; off = now.off; on = now.on }
+    record {
+      past = past;
+      within = now.within;
+      some = now.some past;
+      height_is = height widest c.point-p.result +ℤ pos 2147483647;
+      level = now.level;
+      beyond = λ d lt. absurd (omega (arith, lt, c.loop-to-test.false, c.len-count.ensures));
+      off = now.off;
+      on = now.on;
+    }
 
 pub returns-in_err-note_all : goal.returns-in_err-note_all
 returns-in_err-note_all c = let p = err_from_is_err_and c.from_residual.result c.from_residual.ensures.1 in rw p.1 tt

@@ -1,5 +1,6 @@
 use Rattle.std.proofs.Common.{◌≡◌, false, true, subst, ◌∙◌}
-use Rattle.std.specs.Prelude.{IfSome, slice_index_or}
+use Rattle.std.specs.Prelude.{slice_index_or}
+use Rattle.std.proofs.lemmas.Result.{IfOk-weaker}
 use Rattle.tl_check_planar.specs.ByHeight.Heights.{widest}
 use Rattle.tl_check_planar.proofs.ByHeight.Planarity.{planar}
 use Rattle.tl_check_sweep.specs.Keeping.Watched.{AreTrueGaps}
@@ -18,7 +19,7 @@ into_gaps-requires-clause-planar c =
     planar widest c.args.map.now.chains c.requires.wide (c.in_ok-sweep_list.ensures c.if-not-branch.false).slabs c.requires.vertices
 
 pub returns-then-not-branch : goal.returns-then-not-branch
-returns-then-not-branch c = c.answer_by_meet.ensures c.args.gaps
+returns-then-not-branch c = IfOk-weaker c.answer_by_pairs.result _ _ (λ told is. is c.args.gaps) c.answer_by_pairs.ensures
 
 pub returns : goal.returns
 returns c =
@@ -26,6 +27,6 @@ returns c =
     record {
       answer = c.planar-swept.ensures;
       marks = λ p marked. end.marks.placed p (subst (λ l. slice_index_or l p false ≡ true) c.into_marks.ensures marked);
-      gaps = subst (λ asked. IfSome c.in_ok-gaps.gaps (λ found. AreTrueGaps c.args.map.now.chains asked found.items)) (end.asked ∙ c.new-watch.ensures.asked)
+      gaps = λ planar. subst (λ asked. AreTrueGaps c.args.map.now.chains asked c.in_ok-gaps.gaps.items) (end.asked ∙ c.new-watch.ensures.asked)
           c.in_ok-gaps.ensures;
     }

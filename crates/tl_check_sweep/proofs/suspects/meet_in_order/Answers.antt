@@ -1,12 +1,15 @@
 use Rattle.std.proofs.Common.{◌<◌, length, subst, sym, arith}
 use Rattle.std.proofs.lemmas.Option.{slice_get_within}
 use Rattle.tl_map_county.specs.Segments.{segments_before}
+use Rattle.tl_check_planar.specs.Meets.{AreFree}
 use Rattle.tl_check_planar.specs.Searching.{MayTell}
+use Rattle.tl_check_planar.proofs.Numbering.{below_total}
 use Rattle.tl_check_planar.proofs.Meetings.{true_meet}
 use Rattle.tl_check_sweep.proofs.suspects.meet_in_order.Goals as goal
+use Rattle.tl_check_sweep.proofs.suspects.meet_in_order.Goals.{then-s-t-via-then-s-t, then-s-t-via-else-s-t+then-t-segments}
 
-pub returns : goal.returns
-returns c =
+pub returns-clause-meet : goal.returns-clause-meet
+returns-clause-meet c =
     let below = c.if-s-t.false in
     let listed = c.if-t-segments.false in
     let count = c.segments.ensures.count in
@@ -20,8 +23,19 @@ returns c =
     (record { c = c.segment_chain.result; k = c.segment_chain.ensures.0; number = c.segment_chain.ensures.1; chain = c.chain.ensures.chain.chain; is = c.chain.ensures.chain.is; tlid_is = c.chain.ensures.chain.tlid_is })
     (record { c = c.segment_chain-2.result; k = c.segment_chain-2.ensures.0; number = c.segment_chain-2.ensures.1; chain = c.chain-2.ensures.chain.chain; is = c.chain-2.ensures.chain.is; tlid_is = c.chain-2.ensures.chain.tlid_is })
 
-pub returns-then-s-t : goal.returns-then-s-t
-returns-then-s-t c = tt
+pub returns-then-s-t-clause-none : goal.returns-then-s-t-clause-none
+returns-then-s-t-clause-none c = λ n lt r m. elim c.then-s-t.branch [
+  | then-s-t-via-then-s-t w ↦ absurd (let ge = w.if-s-t.true in omega (arith, lt, ge))
+  | then-s-t-via-else-s-t+then-t-segments w ↦
+      let past = w.if-t-segments.true in
+      let count = w.segments.ensures.count in
+      let below = below_total c.args.map.now.chains c.args.t m.d m.j m.second in
+      absurd (omega (arith, past, count, below))
+]
+
+pub returns-in_err-at-clause-none : goal.returns-in_err-at-clause-none
+returns-in_err-at-clause-none c = λ n lt.
+    subst (λ cs. AreFree cs c.args.s c.args.t) c.new.ensures (subst (MayTell c.new.result c.args.s c.args.t) c.in_err-at.was c.conflict.ensures)
 
 pub conflict-requires-clause-ordered : goal.conflict-requires-clause-ordered
 conflict-requires-clause-ordered c = c.if-s-t.false

@@ -39,12 +39,11 @@ loop-from-preserved c =
           (list_of c.pass.new.line) _ _ c.requires.events c.requires.rising swept to passed.moved (passed.tested swept.tested);
       counted = passed.counted counted;
       marks = c.in_ok-look.ensures.marks;
-      same = c.stay_sure.ensures.asked ∙ looked.asked ∙ c.loop-from.invariant.same;
+      same = looked.asked ∙ c.loop-from.invariant.same;
       watched =
           goes_on chains events c.loop-from.from c.in_ok-to.to (list_of c.look.new.line)
           (list_of c.pass.new.line) _ _ c.requires.events c.requires.rising swept to passed.moved (passed.tested swept.tested)
-          c.point-p.result c.point-p.ensures c.pass.new.gaps c.loop-from.watch c.pass.new.watch c.stay_sure.new.self watched looked
-          c.stay_sure.ensures.asked c.stay_sure.ensures.told c.stay_sure.ensures.sure;
+          c.point-p.result c.point-p.ensures c.pass.new.gaps c.loop-from.watch c.pass.new.watch watched looked;
     }
 
 pub look-requires-clause-events : goal.look-requires-clause-events
