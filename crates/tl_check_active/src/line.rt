@@ -176,8 +176,28 @@ impl Line {
         }
     }
 
+    /// Goes before the last number before the place, if there is one. The error is that memory was refused.
+    pub fn go_back(&mut self) -> Result<(), AllocError>
+        ensures { IfOk result (λ done. list_of self.new ≡ list_of self.old) }
+    {
+        if self.place > 0 {
+            let before = self.place - 1;
+            self.seek(before);
+            return Ok(());
+        }
+        let Some(s) = self.previous() else {
+            return Ok(());
+        };
+        let block = self.opened.saturating_sub(1);
+        self.open_block(block)?;
+        let end = self.items.len();
+        let place = self.find(s, end).unwrap_or(end);
+        self.seek(place);
+        Ok(())
+    }
+
     /// Takes off the first number behind the place, if there is one.
-    pub(crate) fn take(&mut self)
+    pub fn take(&mut self)
         ensures front { self.new.front ≡ self.old.front }
         ensures back { self.new.back ≡ drop 1 self.old.back }
     {
@@ -221,7 +241,7 @@ impl Line {
     }
 
     /// Puts a number in at the place, and goes behind it.
-    pub(crate) fn put(&mut self, s: u32) -> Result<(), AllocError>
+    pub fn put(&mut self, s: u32) -> Result<(), AllocError>
         ensures front { IfOk result (λ done. self.new.front ≡ self.old.front ++ s ∷ []) }
         ensures back { IfOk result (λ done. self.new.back ≡ self.old.back) }
     {

@@ -22,14 +22,17 @@ mod meets;
 mod pairs;
 mod passing;
 mod placing;
+mod remaining;
 mod spots;
 mod suspects;
 mod sweeping;
+mod taking;
 mod telling;
 mod watch;
 
 pub use answer::{SweepReport, Swept, sweep};
 pub use facing::flanks_of;
 pub use kept::lowest_of_each;
+pub use remaining::{PlanarPart, planar_part};
 pub use telling::push_about;
 pub use watch::Gaps;

@@ -7,21 +7,22 @@ ghost use Rattle.tl_check_planar.specs.Rectangles.{segment_rect};
 ghost use Rattle.tl_check_inside.specs.Placed.{ArePlaced};
 ghost use Rattle.tl_check_planar.specs.ByHeight.Heights.{widest};
 ghost use Rattle.tl_check_sweep.specs.Gaps.{AreAllOddGaps};
+ghost use Rattle.tl_check_meets.specs.Meets.{AreAllMeets};
 ghost use Rattle.tl_check_inside.specs.Suspects.{AreSuspects};
 ghost use Rattle.tl_check_verdict.specs.Sound.{IsSound};
 ghost use Rattle.tl_check_verdict.specs.Verdicts.{IsReport};
-ghost use Rattle.tl_list.specs.Keeping.OfMap.{IsListingOfMap, IsListingFor};
+ghost use Rattle.tl_list.specs.Keeping.OfMap.{IsListingOfMap, IsListingFor, IsPlanarPart};
 
 use crate::met::list_met;
 use crate::planar::list_planar;
 use crate::tell::push_faces;
 use std::alloc::Global;
 use tl_check_faces::OddGap;
-use tl_check_meets::all_meets;
 use tl_check_meets::laws::planar_where_no_meet_is_listed;
-use tl_check_planar::Segments;
+use tl_check_meets::{all_meets, all_meets_by_marks};
+use tl_check_planar::{Meet, Segments};
 use tl_check_sweep::face_search::all_face_faults;
-use tl_check_sweep::{Gaps, SweepReport, Swept, sweep};
+use tl_check_sweep::{Gaps, PlanarPart, SweepReport, Swept, planar_part, sweep};
 use tl_check_verdict::Report;
 use tl_list_text::Listing;
 use tl_map_county::Map;
@@ -127,42 +128,66 @@ fn list_swept(alloc: Global, map: &Map, swept: Swept, suspects: Vec<u32>) -> Res
     }
 }
 
-/// All faults of a map, or its report where it is sound, by a tree over its segments. It is kept out of where it is called, so that
-/// calls of it can be counted.
+/// All faults of a map, or its report where it is sound, by a tree over its segments. Chains are taken out until the others are planar, so
+/// that only those that are have to be searched for. It is kept out of where it is called, so that calls of it can be counted.
 #[inline(never)]
 fn list_by_search(alloc: Global, map: &Map, suspects: Vec<u32>) -> Result<Listing, Memory>
     requires { AreSuspects map.now suspects.items }
     ensures { IfOk result (IsListingOfMap map.now) }
 {
+    let Ok(part) = planar_part(alloc, map) else {
+        return Err(Memory);
+    };
     let Ok(nodes) = pack(alloc, &Segments::new(map)) else {
         return Err(Memory);
     };
     match FlatTree::from_nodes(alloc, &nodes) {
-        Ok(tree) => list_by(alloc, &tree, map, suspects),
+        Ok(tree) => list_by(alloc, &tree, map, part, suspects),
         Err(TreeStop::Memory) => Err(Memory),
         // A tree that is packed is never so deep.
         Err(TreeStop::TooDeep) => unreachable!(),
     }
 }
 
-/// The same by an index that fits the map's segments.
+/// The same by an index that fits the map's segments, and by the planar part of the map, where one was found.
 fn list_by<X: BoxIndex>(
     alloc: Global,
     index: &X,
     map: &Map,
+    part: Option<PlanarPart>,
     suspects: Vec<u32>,
 ) -> Result<Listing, Memory>
     requires fits { X.fits index.now (segments_before map.now.chains (length map.now.chains))
         (segment_rect map.now.chains) }
+    requires part { IfSome part (IsPlanarPart map.now) }
     requires suspects { AreSuspects map.now suspects.items }
     ensures { IfOk result (IsListingOfMap map.now) }
 {
-    let meets = all_meets(alloc, index, map)?;
+    let meets = meets_by(alloc, index, map, &part)?;
+    drop(part);
     // So the chains are planar where there is none.
     planar_where_no_meet_is_listed();
     if meets.is_empty() {
         list_planar(alloc, map, suspects)
     } else {
         list_met(alloc, index, map, meets, suspects)
+    }
+}
+
+/// All meets of a map, by its planar part where one was found.
+fn meets_by<X: BoxIndex>(
+    alloc: Global,
+    index: &X,
+    map: &Map,
+    part: &Option<PlanarPart>,
+) -> Result<Vec<Meet>, Memory>
+    requires fits { X.fits index.now (segments_before map.now.chains (length map.now.chains))
+        (segment_rect map.now.chains) }
+    requires part { IfSome part.now (IsPlanarPart map.now) }
+    ensures { IfOk result (λ meets. AreAllMeets map.now.chains meets.items) }
+{
+    match part {
+        Some(part) => all_meets_by_marks(alloc, index, map, &part.marks),
+        None => all_meets(alloc, index, map),
     }
 }

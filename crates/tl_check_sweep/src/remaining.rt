@@ -1,0 +1,69 @@
+//! The part of a map whose chains are planar among themselves, where all of them aren't.
+ghost use Rattle.std.specs.Prelude.{◌≡◌, IfOk, IfSome};
+ghost use Rattle.tl_map_county.specs.Remaining.{map_without};
+ghost use Rattle.tl_check_planar.specs.Planar.{IsPlanar};
+
+use crate::answer::{Swept, sweep};
+use crate::taking::take_out;
+use crate::watch::Gaps;
+use std::alloc::{AllocError, Global};
+use tl_check_planar::Meet;
+use tl_map_county::Map;
+
+/// How often chains that remain are swept at most, where some of them meet after all.
+const TRIES: usize = 16;
+
+/// Which chains are taken out of a map, and the map of those that remain, which are planar.
+#[derive(Drop)]
+pub struct PlanarPart {
+    /// A mark for each chain that is taken out.
+    pub marks: Vec<bool>,
+    /// The map without them, with all polygons and without landmarks.
+    pub map: Map,
+}
+
+/// Takes chains out of a map until those that remain are planar. A sweep finds which ones, and few more than have to go; another one over
+/// those that remain says that they are planar. Where it doesn't, no part is answered. The error is that memory was refused.
+pub fn planar_part(alloc: Global, map: &Map) -> Result<Option<PlanarPart>, AllocError>
+    ensures planar { IfOk result (λ found. IfSome found (λ part. IsPlanar part.map.chains)) }
+    ensures part { IfOk result (λ found. IfSome found (λ part. part.map ≡ map_without part.marks.items map.now)) }
+{
+    let mut marks = take_out(alloc, map)?;
+    for _ in 0..TRIES {
+        let rest = map.without(alloc, &marks)?;
+        match sweep(alloc, &rest, Gaps::First)?.swept {
+            Swept::Placed | Swept::Planar => return Ok(Some(PlanarPart { marks, map: rest })),
+            Swept::Meet(meet) => mark_meet(&rest, meet, &mut marks),
+            Swept::Unknown => return Ok(None),
+        }
+    }
+    Ok(None)
+}
+
+/// Marks the chains of a meet among those that remain.
+fn mark_meet(rest: &Map, meet: Meet, marks: &mut [bool]) {
+    if meet.s >= rest.segments() || meet.t >= rest.segments() {
+        return;
+    }
+    let (c, d) = (rest.segment_chain(meet.s), rest.segment_chain(meet.t));
+    // The one of the higher number is marked first, so that as many remain before the other.
+    mark_remaining(marks, c.max(d));
+    if c != d {
+        mark_remaining(marks, c.min(d));
+    }
+}
+
+/// Marks the chain that has this number among those that aren't marked.
+fn mark_remaining(marks: &mut [bool], number: u32) {
+    let mut before = 0u32;
+    for place in 0..marks.len() {
+        if marks[place] {
+            continue;
+        }
+        if before == number {
+            marks[place] = true;
+            return;
+        }
+        before = before.wrapping_add(1);
+    }
+}
