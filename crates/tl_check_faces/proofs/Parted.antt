@@ -12,6 +12,7 @@ use Rattle.tl_map_county.specs.Remaining.{remaining}
 use Rattle.tl_check_inside.specs.declared.flanks.Flanks.{Flanks}
 use Rattle.tl_check_inside.specs.Inside.{flanks_at, balance, IsCount}
 use Rattle.tl_check_inside.specs.Keeping.Tallies.{TellCounts}
+use Rattle.tl_check_inside.specs.Places.{IsHeldBy, IsOffChains}
 use Rattle.tl_check_faces.specs.Crossings.Headings.{AreProper}
 use Rattle.tl_check_faces.proofs.CrossingsLemmas.Rays.{counted}
 use Rattle.tl_check_faces.proofs.CrossingsLemmas.Weighed.{chain_weight, chains_weight, balance_is}
@@ -47,6 +48,32 @@ proper_part marks [] proper = proper
 proper_part [] (c ∷ chains) proper = proper_more c (remaining [] chains) (proper_head c chains proper) (proper_part [] chains (proper_tail c chains proper))
 proper_part (true ∷ marks) (c ∷ chains) proper = proper_part marks chains (proper_tail c chains proper)
 proper_part (false ∷ marks) (c ∷ chains) proper = proper_more c (remaining marks chains) (proper_head c chains proper) (proper_part marks chains (proper_tail c chains proper))
+
+-- ---- a point on no chain of either part
+
+held_later : (x : MapChain) (chains : List MapChain) (q : Point) (c : ℕ) → IsHeldBy chains q c → IsHeldBy (x ∷ chains) q (suc c)
+held_later x chains q c held = record { chain = held.chain; is = held.is; on = held.on }
+
+off_tail : (x : MapChain) (chains : List MapChain) (q : Point) → IsOffChains (x ∷ chains) q → IsOffChains chains q
+off_tail x chains q off c held = off (suc c) (held_later x chains q c held)
+
+off_more : (x : MapChain) (chains : List MapChain) (q : Point) → ¬ IsHeldBy (x ∷ []) q 0 → IsOffChains chains q → IsOffChains (x ∷ chains) q
+off_more x chains q head off zero held = head (record { chain = held.chain; is = held.is; on = held.on })
+off_more x chains q head off (suc c) held = off c (record { chain = held.chain; is = held.is; on = held.on })
+
+off_head : (x : MapChain) (chains : List MapChain) (q : Point) → IsOffChains (x ∷ chains) q → ¬ IsHeldBy (x ∷ []) q 0
+off_head x chains q off held = off 0 (record { chain = held.chain; is = held.is; on = held.on })
+
+pub off_both : (marks : List Bool) (chains : List MapChain) (q : Point) → length chains ≤ length marks
+    → IsOffChains (remaining marks chains) q → IsOffChains (remaining (others marks) chains) q → IsOffChains chains q
+off_both marks [] q few rest taken = rest
+off_both [] (x ∷ chains) q few rest taken = absurd (omega (arith, few))
+off_both (true ∷ marks) (x ∷ chains) q few rest taken =
+    off_more x chains q (off_head x (remaining (others marks) chains) q taken)
+    (off_both marks chains q (omega (arith, few)) rest (off_tail x (remaining (others marks) chains) q taken))
+off_both (false ∷ marks) (x ∷ chains) q few rest taken =
+    off_more x chains q (off_head x (remaining marks chains) q rest)
+    (off_both marks chains q (omega (arith, few)) (off_tail x (remaining marks chains) q rest) taken)
 
 -- ---- what flanks tell
 
