@@ -28,14 +28,15 @@ pub enum Found {
 }
 
 /// Looks for two segments that meet where they may not: by one sweep, where the budget is enough for all pairs of segments, and else
-/// in a tree that fits the map's segments.
-pub fn search(alloc: Global, map: &Map, tree: &FlatTree, budget: u64) -> Result<Found, Memory>
-    requires fits { Fits (tree_of tree.now) (segments_before map.now.chains (length map.now.chains)) (segment_rect map.now.chains) }
+/// in a tree that fits the map's segments. A sweep needs no tree, so it is freed before.
+pub fn search(alloc: Global, map: &Map, tree: FlatTree, budget: u64) -> Result<Found, Memory>
+    requires fits { Fits (tree_of tree) (segments_before map.now.chains (length map.now.chains)) (segment_rect map.now.chains) }
     ensures { IfOk result (MayFind map.now budget) }
 {
     if !is_enough(map, budget) {
-        return Ok(search_tree(map, tree, budget));
+        return Ok(search_tree(map, &tree, budget));
     }
+    drop(tree);
     let Ok(report) = sweep(alloc, map, Gaps::First) else {
         return Err(Memory);
     };

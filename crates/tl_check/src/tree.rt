@@ -37,7 +37,7 @@ pub fn take_tree<'a>(
     ensures told { AreToldGaps map.now gaps.new }
 {
     match FlatTree::from_nodes(alloc, nodes) {
-        Ok(tree) => search_by(alloc, map, &tree, budget, gaps),
+        Ok(tree) => search_by(alloc, map, tree, budget, gaps),
         Err(TreeStop::TooDeep) => Ok(State::Wrong(CertFault::TooDeep)),
         Err(TreeStop::Memory) => Err(Halt::Memory),
     }
@@ -48,13 +48,13 @@ pub fn take_tree<'a>(
 fn search_by<'a>(
     alloc: Global,
     map: &Map,
-    tree: &FlatTree,
+    tree: FlatTree,
     budget: u64,
     gaps: &mut Option<Vec<OddGap>>,
 ) -> Result<State<'a>, Halt>
-    requires shallow { depth (tree_of tree.now) ≤ 64 }
+    requires shallow { depth (tree_of tree) ≤ 64 }
     requires told { AreToldGaps map.now gaps.old }
-    ensures leads { LeadsBehindTree map.now budget (IsTree map.now tree.now) (λ c. AreCounts map.now c.counts) tree.now result }
+    ensures leads { LeadsBehindTree map.now budget (IsTree map.now tree) (λ c. AreCounts map.now c.counts) tree result }
     ensures told { AreToldGaps map.now gaps.new }
 {
     match tree.check(alloc, &Segments::new(map))? {

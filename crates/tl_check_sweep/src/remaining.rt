@@ -34,7 +34,6 @@ pub fn planar_part(alloc: Global, map: &Map) -> Result<Option<PlanarPart>, Alloc
         match sweep(alloc, &rest, Gaps::First)?.swept {
             Swept::Placed | Swept::Planar => return Ok(Some(PlanarPart { marks, map: rest })),
             Swept::Meet(meet) => mark_meet(&rest, meet, &mut marks),
-            Swept::Unknown => return Ok(None),
         }
     }
     Ok(None)

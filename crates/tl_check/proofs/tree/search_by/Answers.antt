@@ -9,12 +9,12 @@ use Rattle.tl_check.proofs.Treed.{tree_fits, tree_is, fault_stays}
 use Rattle.tl_check.proofs.tree.search_by.Goals as goal
 
 pub search-requires : goal.search-requires
-search-requires c = record { fits = tree_fits c.args.map.now.chains c.args.tree.now c.new.result c.in_ok-fault.field-0 c.in_ok-fault.ensures.found c.in-None.is c.new.ensures }
+search-requires c = record { fits = tree_fits c.args.map.now.chains c.args.tree c.new.result c.in_ok-fault.field-0 c.in_ok-fault.ensures.found c.in-None.is c.new.ensures }
 
 pub returns-in-Some-clause-leads : goal.returns-in-Some-clause-leads
 returns-in-Some-clause-leads c = record {
   holds = λ cert counts tree rounds walks d on.
-      fault_stays c.args.map.now cert d c.args.tree.now c.args.tree.now c.new.result c.in_ok-fault.field-0 c.in-Some.fault c.in_ok-fault.ensures.found c.in-Some.is c.new.ensures refl tree on;
+      fault_stays c.args.map.now cert d c.args.tree c.args.tree c.new.result c.in_ok-fault.field-0 c.in-Some.fault c.in_ok-fault.ensures.found c.in-Some.is c.new.ensures refl tree on;
   rounds = tt;
   searched = tt;
   behind = λ of_darts. absurd of_darts;
@@ -26,14 +26,14 @@ returns-in_err-fault-clause-leads c = let p = err_from_is_err_and c.from_residua
 pub returns-in-Meet-clause-leads : goal.returns-in-Meet-clause-leads
 returns-in-Meet-clause-leads c = record {
   halts = subst (MayFind c.args.map.now c.args.budget) c.in-Meet.is c.in_ok-meet.ensures;
-  tree = tree_is c.args.map.now c.args.tree.now c.args.tree.now c.new.result c.in_ok-fault.field-0 c.in_ok-fault.ensures.found c.in-None.is c.new.ensures refl c.requires.shallow;
+  tree = tree_is c.args.map.now c.args.tree c.args.tree c.new.result c.in_ok-fault.field-0 c.in_ok-fault.ensures.found c.in-None.is c.new.ensures refl c.requires.shallow;
   meets = tt;
 }
 
 pub returns-in-Budget-clause-leads : goal.returns-in-Budget-clause-leads
 returns-in-Budget-clause-leads c = record {
   halts = subst (MayFind c.args.map.now c.args.budget) c.in-Budget.is c.in_ok-meet.ensures;
-  tree = tree_is c.args.map.now c.args.tree.now c.args.tree.now c.new.result c.in_ok-fault.field-0 c.in_ok-fault.ensures.found c.in-None.is c.new.ensures refl c.requires.shallow;
+  tree = tree_is c.args.map.now c.args.tree c.args.tree c.new.result c.in_ok-fault.field-0 c.in_ok-fault.ensures.found c.in-None.is c.new.ensures refl c.requires.shallow;
   meets = tt;
 }
 
@@ -44,7 +44,7 @@ returns-in_ok-rounds-in-Planar-clause-leads c =
       holds = λ cert counts tree rounds walks. record {
         founded = record {
           counts = counts;
-          tree = subst (IsTree c.args.map.now) (sym tree) (tree_is c.args.map.now c.args.tree.now c.args.tree.now c.new.result c.in_ok-fault.field-0 c.in_ok-fault.ensures.found c.in-None.is c.new.ensures refl c.requires.shallow);
+          tree = subst (IsTree c.args.map.now) (sym tree) (tree_is c.args.map.now c.args.tree c.args.tree c.new.result c.in_ok-fault.field-0 c.in_ok-fault.ensures.found c.in-None.is c.new.ensures refl c.requires.shallow);
           planar = so.planar;
           cells = c.in_ok-rounds-in-Planar.ensures.agree;
         };
@@ -65,7 +65,7 @@ returns-in_err-rounds-in-Planar-clause-leads c =
     let halt = c.in_err-rounds-in-Planar.field-0.0 in
     rw (p.1, p.2) (record {
       halts = may_halt c.args.map.now c.args.budget halt c.in_err-rounds-in-Planar.ensures.halts;
-      tree = so_unless_memory halt _ (tree_is c.args.map.now c.args.tree.now c.args.tree.now c.new.result c.in_ok-fault.field-0 c.in_ok-fault.ensures.found c.in-None.is c.new.ensures refl c.requires.shallow);
+      tree = so_unless_memory halt _ (tree_is c.args.map.now c.args.tree c.args.tree c.new.result c.in_ok-fault.field-0 c.in_ok-fault.ensures.found c.in-None.is c.new.ensures refl c.requires.shallow);
       meets = met_so halt _ so.planar;
     })
 
