@@ -23,3 +23,4 @@ pub mod Unmarked
 pub mod Turning
 pub mod FaceSearch
 pub mod Paired
+pub mod Deciding

@@ -8,3 +8,5 @@ pub mod Kept
 pub mod Spotted
 pub mod Told
 pub mod Pairs
+pub mod Ranges
+pub mod Slabs

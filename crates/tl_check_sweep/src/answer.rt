@@ -1,5 +1,5 @@
 //! What a sweep says of a map.
-ghost use Rattle.std.specs.Prelude.{◌≡◌, ◌⊎◌, ◌<◌, ℕ, [], Some, length, slice_get, All, Contains, IfOk, IfSome};
+ghost use Rattle.std.specs.Prelude.{◌≡◌, ◌↔◌, ◌⊎◌, ◌<◌, ℕ, [], Some, length, slice_get, All, Contains, IfOk, IfSome};
 ghost use Rattle.tl_map_county.specs.declared.polygons.Polygon.{Polygon};
 ghost use Rattle.tl_map_county.specs.TheMap.{TheMap};
 ghost use Rattle.tl_check_planar.specs.Planar.{IsPlanar};
@@ -14,13 +14,14 @@ ghost use Rattle.tl_check_active.specs.Events.{joined, AreEvents, AreRising, Are
 ghost use Rattle.tl_check_active.specs.Ranges.{AreInRange};
 ghost use Rattle.tl_check_faces.specs.Facing.{FacesAgree};
 ghost use Rattle.tl_check_faces.specs.Odd.{IsLowestOddGap};
+ghost use Rattle.tl_check_sweep.specs.Deciding.{SaysPlanar};
 ghost use Rattle.tl_check_sweep.specs.Gaps.{AreAllOddGaps};
 ghost use Rattle.tl_check_sweep.specs.Keeping.Spotted.{AreMarks, AreTrueMarks};
 ghost use Rattle.tl_check_sweep.specs.Keeping.Told.{IsTrueAnswer, IsTrueSweep};
 
-use crate::face_search::gaps_by_slabs;
 use crate::meets::are_vertices_tested;
 use crate::pairs::find_in_pairs;
+use crate::slabs::gaps_by_slabs;
 use crate::spots::{InnerPoints, list_unmarked};
 use crate::suspects::{find_meet, find_meet_at_vertex};
 use crate::sweeping::sweep_list;
@@ -60,11 +61,13 @@ pub struct Told {
     pub gaps: Vec<OddGap>,
 }
 
-/// Sweeps over the chains of a map from south to north, and tells whether they are planar or which two segments meet. Of the gaps whose facing sides differ those are told that are asked for: all that
-/// there are, each two segments once, at the lowest such gap between them, by rising numbers of the western one and of one such by those
-/// of the eastern one, those with no segment on a side before the others; or some of these, if there are any. The error is that memory
-/// was refused.
+/// Sweeps over the chains of a map from south to north, and tells that they are planar, or two segments that meet. Of the gaps whose facing
+/// sides differ those are told that are asked for: all that there are, each two segments once, at the lowest such gap between them, by
+/// rising numbers of the western one and of one such by those of the eastern one, those with no segment on a side before the others; or
+/// some of these, if there are any. The error is that memory was refused.
 pub fn sweep(alloc: Global, map: &Map, gaps: Gaps) -> Result<SweepReport, AllocError>
+    // Either of `Placed` and `Planar` is answered exactly where the chains are planar, and elsewhere a meet.
+    ensures exactly { IfOk result (λ report. SaysPlanar report.swept ↔ IsPlanar map.now.chains) }
     // `Placed` is answered only where the chains are planar and the point of each polygon lies where it has to.
     ensures placed { IfOk result (λ report. report.swept ≡ Swept.Placed → IsPlanar map.now.chains × ArePlaced map.now) }
     // `Planar` is answered only where the chains are planar.

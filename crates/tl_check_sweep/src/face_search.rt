@@ -6,20 +6,14 @@
 //! a place at which it faces the other. `tl_check_faces/specs/Faults` says when that is true of a map.
 //!
 //! [`find_face_fault`] decides by a sweep (`tl_check_sweep`), and [`find_all_face_faults`] tells of all gaps that there are: `specs/AllFaults` says
-//! of which. Where a sweep was made already, [`face_fault_of`] and [`all_face_faults`] take what it told of gaps. [`gaps_by_slabs`] is for
-//! planar maps of which a test of the sweep fails, and none is known: it lists all slabs one by one, which takes longer.
+//! of which. Where a sweep was made already, [`face_fault_of`] and [`all_face_faults`] take what it told of gaps.
 
 mod all;
 mod decide;
 mod find;
-mod gaps;
 pub mod laws;
 mod midway;
-mod near;
-mod order;
-mod slab;
 
 pub use all::{all_face_faults, find_all_face_faults};
 pub use decide::{face_fault_of, find_face_fault};
 pub use find::face_fault;
-pub use gaps::gaps_by_slabs;

@@ -10,7 +10,7 @@
 //! Of the gaps between two neighbours whose facing sides differ ([`tl_check_faces::OddGap`]) it tells the first or all, as it is asked
 //! ([`Gaps`]): `specs/Gaps` says which list is of all. It counts the places along the list where sides differ. Only where there are such
 //! does it look, at each vertex, at the gaps before, between and behind the segments that begin there: each other gap of the new list
-//! stood in the list before. What lists slabs one by one asks [`push_about`], [`flanks_of`] and [`lowest_of_each`] too.
+//! stood in the list before. Where a test fails on planar chains, slabs are listed one by one.
 #![tactic(auto)]
 
 mod answer;
@@ -23,6 +23,7 @@ mod pairs;
 mod passing;
 mod placing;
 mod remaining;
+mod slabs;
 mod spots;
 mod suspects;
 mod sweeping;

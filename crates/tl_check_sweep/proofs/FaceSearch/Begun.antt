@@ -12,7 +12,7 @@ use Rattle.tl_check_planar.specs.ByHeight.Neighbours.{IsNumbered}
 use Rattle.tl_check_planar.specs.ByHeight.Slabs.{IsActive}
 use Rattle.tl_check_planar.proofs.ByHeight.Numbered.{one_segment}
 use Rattle.tl_check_active.proofs.Tests.{low_height, high_height}
-use Rattle.tl_check_sweep.specs.FaceSearch.Keeping.Slabs.{IsBegun}
+use Rattle.tl_check_sweep.specs.Keeping.Slabs.{IsBegun}
 
 lt_true : (x y : ℤ) → x <ℤ y → lt_z x y ≡ true
 lt_true x y h = grind (arith, ints, h)

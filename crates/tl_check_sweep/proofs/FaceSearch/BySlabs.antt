@@ -17,7 +17,7 @@ use Rattle.tl_check_sweep.specs.Telling.{AreToldAbout}
 use Rattle.tl_check_sweep.specs.Keeping.Watched.{IsSlabTold, AreToldOfSlabs}
 use Rattle.tl_check_sweep.proofs.Under.{slab_kept}
 use Rattle.tl_check_sweep.proofs.Whole.{nothing_along, all_told, told_up}
-use Rattle.tl_check_sweep.specs.FaceSearch.Keeping.Told.{IsToldAbove, AreEndsTold, AreFirstTold}
+use Rattle.tl_check_sweep.specs.Keeping.Slabs.{IsToldAbove, AreEndsTold, AreFirstTold}
 use Rattle.tl_check_sweep.proofs.FaceSearch.Tops.{holds_above}
 
 pub told_above : (chains : List MapChain) (p : Point) (list : List ℕ) (old new : List OddGap) → IsListOf widest (height widest p) chains list →

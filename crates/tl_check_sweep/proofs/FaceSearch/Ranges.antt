@@ -12,7 +12,7 @@ use Rattle.tl_check_planar.proofs.ByHeight.Rising.{ends_of}
 use Rattle.tl_check_faces.specs.Lists.{AreAllNear}
 use Rattle.tl_check_active.specs.Ranges.{IsInRange}
 use Rattle.tl_check_active.proofs.Wide.{near_by_range}
-use Rattle.tl_check_sweep.specs.FaceSearch.Keeping.Ranges.{ArePointsInRange, AreFirstInRange, AreChainsInRange}
+use Rattle.tl_check_sweep.specs.Keeping.Ranges.{ArePointsInRange, AreFirstInRange, AreChainsInRange}
 
 -- one more point
 pub one_more : (points : List Point) (i : ℕ) (d : Point) → IsInRange (get_or points i d) → AreFirstInRange points i → AreFirstInRange points (i + 1)

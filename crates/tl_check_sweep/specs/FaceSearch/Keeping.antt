@@ -1,4 +1,2 @@
 -- What the code keeps on its way. No public contract cites a file of this folder.
-pub mod Ranges
-pub mod Slabs
 pub mod Told
