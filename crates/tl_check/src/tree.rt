@@ -54,7 +54,7 @@ fn search_by<'a>(
 ) -> Result<State<'a>, Halt>
     requires shallow { depth (tree_of tree) ≤ 64 }
     requires told { AreToldGaps map.now gaps.old }
-    ensures leads { LeadsBehindTree map.now budget (IsTree map.now tree) (λ c. AreCounts map.now c.counts) tree result }
+    ensures leads { LeadsBehindTree map.now budget (IsTree map.now tree.entry) (λ c. AreCounts map.now c.counts) tree.entry result }
     ensures told { AreToldGaps map.now gaps.new }
 {
     match tree.check(alloc, &Segments::new(map))? {
