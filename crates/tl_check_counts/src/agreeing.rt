@@ -1,6 +1,5 @@
 //! The sides of segments by their heights, and whether those that end at a vertex have the same as those that begin there.
-ghost use Rattle.std.specs.Prelude.{◌≡◌, Some, IfSome, IsTrue, length};
-ghost use Rattle.tl_map_county.specs.declared.sides.Side.{Side as TheSide};
+ghost use Rattle.std.specs.Prelude.{◌≡◌, ◌↔◌, IfSome, IsTrue, length};
 ghost use Rattle.tl_check_inside.specs.Inside.{flanks_at};
 ghost use Rattle.tl_check_inside.specs.Keeping.Tallies.{flanks_in};
 ghost use Rattle.tl_check_sweep.specs.Keeping.Facing.{raised};
@@ -22,6 +21,13 @@ pub fn find_flanks(map: &Map, s: u32) -> Option<Flanks>
     Some(flanks_of(map, s))
 }
 
+/// Whether two sides are one.
+fn are_same(one: Side, other: Side) -> bool
+    ensures { IsTrue result ↔ (one ≡ other) }
+{
+    one == other
+}
+
 /// The side that is come to from another one over these segments, if each has the side before it on its near side.
 fn walk(map: &Map, from: Side, list: &[u32]) -> Option<Side>
     ensures { IfSome result (LeadsTo (flanks_in (raised map.now.chains) list.now) from) }
@@ -29,7 +35,7 @@ fn walk(map: &Map, from: Side, list: &[u32]) -> Option<Side>
     let mut side = from;
     for s in list {
         let flanks = find_flanks(map, *s)?;
-        if flanks.near != side {
+        if !are_same(flanks.near, side) {
             return None;
         }
         side = flanks.far;
@@ -53,7 +59,7 @@ pub fn are_balanced(map: &Map, outs: &[u32], ins: &[u32]) -> bool
         None => first_near(map, ins).unwrap_or(Side::Outside),
     };
     match (walk(map, west, outs), walk(map, west, ins)) {
-        (Some(one), Some(other)) => one == other,
+        (Some(one), Some(other)) => are_same(one, other),
         (None, _) => false,
         (Some(_), None) => false,
     }

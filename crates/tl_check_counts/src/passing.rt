@@ -8,6 +8,17 @@ use tl_check_active::{Line, Places, closes, go_to_first, order, shift};
 use tl_geom::Point;
 use tl_map_county::Map;
 
+/// Takes segments off the list at the place and puts others in, if the former stand there and all that are neighbours for the first time
+/// may be.
+fn exchange(map: &Map, line: &mut Line, outs: &[u32], ins: &[u32]) -> Result<bool, AllocError>
+    ensures { IfOk result (λ done. IsTrue done → HasPassed map.now.chains (list_of line.old) line.new outs.now outs.now ins.now ins.now) }
+{
+    if !shift(map, line, outs, ins)? {
+        return Ok(false);
+    }
+    Ok(closes(map, line))
+}
+
 /// Passes the vertex at a point, with the segments that end there and those that begin there in any order, which are sorted. It answers no
 /// where those don't stand there, or where a test of neighbours fails. The error is that memory was refused.
 pub fn pass(
@@ -24,7 +35,7 @@ pub fn pass(
     order(map, outs);
     order(map, ins);
     go_to_first(map, p, line, places, outs)?;
-    let is_passed = shift(map, line, outs, ins)? && closes(map, line);
+    let is_passed = exchange(map, line, outs, ins)?;
     places.keep(line, ins);
     Ok(is_passed)
 }

@@ -1,5 +1,5 @@
 //! The labels at a vertex.
-ghost use Rattle.std.specs.Prelude.{◌≡◌, ℕ, List, ◌++◌, IfOk, IsTrue, length};
+ghost use Rattle.std.specs.Prelude.{◌≡◌, ℕ, List, ◌++◌, Some, IfOk, IsTrue, length};
 ghost use Rattle.tl_check_active.specs.Lined.{list_of};
 ghost use Rattle.tl_check_sweep.specs.Keeping.Facing.{raised};
 ghost use Rattle.tl_check_counts.specs.Keeping.Ways.{AreKept};
@@ -29,8 +29,18 @@ pub fn label_vertex(
 {
     let east = labels.gap_at(line);
     if are_balanced(map, outs, ins) {
-        return Ok(labels.enter_all(map, ins, east)?.is_some());
+        return Ok(is_some(labels.enter_all(map, ins, east)?));
     }
     line.list_front(front)?;
-    Ok(labels.enter_all(map, front, east)?.is_some())
+    Ok(is_some(labels.enter_all(map, front, east)?))
+}
+
+/// Whether there is a number.
+fn is_some(number: Option<u32>) -> bool
+    ensures { IsTrue result → (g : ℕ) × (number ≡ Some g) }
+{
+    match number {
+        Some(_) => true,
+        None => false,
+    }
 }

@@ -17,9 +17,9 @@ AreLabelled n chains gaps labels (s ∷ rest) =
 abbrev pub IsOnce : List ℕ → Type 0
 IsOnce list = (s : ℕ) → times s list ≤ 1
 
--- what these segments have before them is labelled, if they stand before what was
-abbrev pub HasEntered : ℕ → List MapChain → (old new : Labels) → List ℕ → (east g : ℕ) → Type 0
-HasEntered n chains old new list east g =
-    (back : List ℕ) → IsOnce (list ++ back) → AreLabelled n chains old.gaps.items old.labels.items back →
-    TellGap n old.gaps.items east (flanks_in chains back) →
-    AreLabelled n chains new.gaps.items new.labels.items (list ++ back) × TellGap n new.gaps.items g (flanks_in chains (list ++ back))
+-- these segments have entered: all others have their labels, and if these stand before what was labelled, all of it is
+pub record HasEntered (n : ℕ) (chains : List MapChain) (old new : Labels) (list : List ℕ) (east g : ℕ) : Type 0 where
+  pub others : (t : ℕ) → times t list ≡ 0 → slice_index new.labels.items t ≡ slice_index old.labels.items t
+  pub labelled : (back : List ℕ) → IsOnce (list ++ back) → AreLabelled n chains old.gaps.items old.labels.items back →
+      TellGap n old.gaps.items east (flanks_in chains back) →
+      AreLabelled n chains new.gaps.items new.labels.items (list ++ back) × TellGap n new.gaps.items g (flanks_in chains (list ++ back))

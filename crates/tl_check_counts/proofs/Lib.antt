@@ -1,0 +1,10 @@
+pub mod Balances
+pub mod Treed
+pub mod Labelled
+pub mod Naming
+pub mod Gapped
+pub mod Entering
+pub mod Going
+pub mod Shortening
+pub mod Passed
+pub mod Seen
