@@ -8,3 +8,6 @@ pub mod Going
 pub mod Shortening
 pub mod Passed
 pub mod Seen
+pub mod Visiting
+pub mod Weighed
+pub mod Settling

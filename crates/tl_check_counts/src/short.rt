@@ -1,5 +1,5 @@
 //! Flanks of which near sides and far ones of one polygon cancel.
-ghost use Rattle.std.specs.Prelude.{◌≡◌, ◌+◌, ℕ, Bool, if◌then◌else◌, All, OnOk, length, count_by};
+ghost use Rattle.std.specs.Prelude.{◌≡◌, ◌+◌, [], ℕ, Bool, if◌then◌else◌, All, OnOk, length, count_by};
 ghost use Rattle.tl_map_county.specs.Sides.{IsSideAmong};
 ghost use Rattle.tl_check_inside.specs.declared.flanks.Flanks.{Flanks as TheFlanks};
 ghost use Rattle.tl_check_inside.specs.Keeping.Tallies.{AreClear, AreTallies};
@@ -39,7 +39,7 @@ fn settle_all(
     far: &mut [u64],
 ) -> Result<(), AllocError>
     requires among { All (AreAmong (length near.old)) journal.now }
-    requires none { length short.old.items ≡ 0 }
+    requires none { short.old.items ≡ [] }
     requires alike { length far.old ≡ length near.old }
     requires tallies { AreTallies journal.now near.old far.old }
     ensures one { OnOk result (HaveOneBalance short.new.items journal.now) }
