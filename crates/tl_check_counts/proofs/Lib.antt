@@ -11,3 +11,4 @@ pub mod Seen
 pub mod Visiting
 pub mod Weighed
 pub mod Settling
+pub mod Upward

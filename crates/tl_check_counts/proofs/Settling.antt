@@ -5,6 +5,7 @@ use Rattle.std.proofs.lemmas.Bool.{cases_lt}
 use Rattle.std.proofs.lemmas.List.{drop_more, drop_all, get_or-set_other, get_or-set_same}
 use Rattle.tl_map_county.specs.declared.sides.Side.{Side}
 use Rattle.tl_map_county.specs.declared.sides.Side.TheVariants.{Outside, Polygon}
+use Rattle.tl_map_county.specs.Sides.{IsSideAmong}
 use Rattle.tl_tree_index.proofs.Times.{same_or}
 use Rattle.tl_check_active.proofs.Bits.{bit}
 use Rattle.tl_check_inside.specs.declared.flanks.Flanks.{Flanks}
@@ -96,6 +97,12 @@ module _ (q : ℕ) (old new : List Flanks) (near near' far far' : List ℕ) (lt 
 
 -- ---- all flanks
 
+pub near_among : (n m : ℕ) (flanks : List Flanks) (k : ℕ) (d : Flanks) → m ≡ n → k < length flanks → All (AreAmong n) flanks → IsSideAmong m (get_or flanks k d).near
+near_among n m flanks k d same lt all = subst (λ x. IsSideAmong x (get_or flanks k d).near) (sym same) (all k d lt).near
+
+pub far_among : (n m : ℕ) (flanks : List Flanks) (k : ℕ) (d : Flanks) → m ≡ n → k < length flanks → All (AreAmong n) flanks → IsSideAmong m (get_or flanks k d).far
+far_among n m flanks k d same lt all = subst (λ x. IsSideAmong x (get_or flanks k d).far) (sym same) (all k d lt).far
+
 pub none_settled : (flanks short : List Flanks) (near far : List ℕ) → short ≡ [] → length far ≡ length near → AreTallies flanks near far →
     AreSettled flanks short near far 0
 none_settled flanks short near far none alike tallies = record {
@@ -108,8 +115,8 @@ none_settled flanks short near far none alike tallies = record {
 }
 
 bit_none : (b : Bool) → ¬ (b ≡ true) → bit b ≡ 0
-bit_none true no = absurd (no refl)
-bit_none false no = refl
+bit_none true not_so = absurd (not_so refl)
+bit_none false not_so = refl
 
 pub one_settled : (flanks : List Flanks) (k : ℕ) (d : Flanks) (short mid new : List Flanks) (near near1 near2 far far1 far2 : List ℕ) → k < length flanks →
     length near2 ≡ length near → AreSettled flanks short near far k → IsSettled (get_or flanks k d).near short mid near near1 far far1 →

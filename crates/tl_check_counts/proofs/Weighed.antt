@@ -40,7 +40,7 @@ if_sum false m n = refl
 
 module _ (S : Side → Bool) where
   -- of those that pass
-  weighed : (ℕ → ℕ) → ℕ → ℕ
+  pub weighed : (ℕ → ℕ) → ℕ → ℕ
   weighed h zero = 0
   weighed h (suc n) = weighed h n + (if S (Polygon n) then h n else 0)
 
