@@ -1,5 +1,5 @@
 -- Segments that enter the list one after the other, from the last to the first.
-use Rattle.std.proofs.Common.{◌≡◌, ◌≢◌, ℕ, suc, ◌+◌, ◌<◌, ◌≤◌, List, [], ◌∷◌, ◌++◌, length, take, drop, get_or, refl, sym, ap, subst, ◌∙◌, arith}
+use Rattle.std.proofs.Common.{◌≡◌, ◌≢◌, ℕ, ◌+◌, ◌<◌, ◌≤◌, List, [], ◌∷◌, ◌++◌, length, take, drop, get_or, refl, sym, ap, subst, ◌∙◌, arith}
 use Rattle.std.specs.Prelude.{slice_index}
 use Rattle.std.proofs.lemmas.List.{take-append-drop, drop_all, drop_more}
 use Rattle.tl_map_county.specs.TheMap.{MapChain}
@@ -8,7 +8,6 @@ use Rattle.tl_tree_index.proofs.Times.{times-same, times-other, times-append}
 use Rattle.tl_check_inside.specs.declared.flanks.Flanks.{Flanks}
 use Rattle.tl_check_inside.specs.Inside.{flanks_at}
 use Rattle.tl_check_inside.specs.Keeping.Tallies.{flanks_in}
-use Rattle.tl_check_counts.specs.declared.labels.Gap.{Gap}
 use Rattle.tl_check_counts.specs.declared.labels.Labels.{Labels}
 use Rattle.tl_check_counts.specs.Keeping.Balances.{HaveOneBalance}
 use Rattle.tl_check_counts.specs.Keeping.Ways.{TellGap, AreKept}
@@ -34,9 +33,10 @@ module _ (n : ℕ) (chains : List MapChain) where
         within = omega (arith, all);
         kept = kept_none n old.gaps.items;
         others = λ t e. refl;
-        labelled = λ back once labelled told.
-            (subst (λ l. AreLabelled n chains old.gaps.items old.labels.items (l ++ back)) (sym none) labelled,
-            subst (λ l. TellGap n old.gaps.items east (flanks_in chains (l ++ back))) (sym none) told);
+        labelled = λ back once labelled told. (
+          subst (λ l. AreLabelled n chains old.gaps.items old.labels.items (l ++ back)) (sym none) labelled,
+          subst (λ l. TellGap n old.gaps.items east (flanks_in chains (l ++ back))) (sym none) told,
+        );
       }
 
   -- one more
@@ -81,9 +81,10 @@ module _ (n : ℕ) (chains : List MapChain) where
           still_labelled n chains mid.gaps.items new.gaps.items mid.labels.items new.labels.items (drop after list ++ back) kept
           (λ t some. others t (apart back once t some)) was.0 in
           let both : AreLabelled n chains new.gaps.items new.labels.items (s ∷ (drop after list ++ back)) =
-          (subst (λ k. TellGap n new.gaps.items k (flanks_in chains (s ∷ (drop after list ++ back)))) (sym label) here, behind) in
-          (subst (λ l. AreLabelled n chains new.gaps.items new.labels.items (l ++ back)) (sym cut) both,
-          subst (λ l. TellGap n new.gaps.items g (flanks_in chains (l ++ back))) (sym cut) here);
+          (subst (λ k. TellGap n new.gaps.items k (flanks_in chains (s ∷ (drop after list ++ back)))) (sym label) here, behind) in (
+            subst (λ l. AreLabelled n chains new.gaps.items new.labels.items (l ++ back)) (sym cut) both,
+            subst (λ l. TellGap n new.gaps.items g (flanks_in chains (l ++ back))) (sym cut) here,
+          );
     }
 
   -- all
@@ -92,9 +93,10 @@ module _ (n : ℕ) (chains : List MapChain) where
   all_entered old new list place east gap first e = record {
     others = λ t none. e.others t (ap (λ k. times t (drop k list)) first ∙ none);
     labelled = λ back once labelled tell.
-        let all = e.labelled back once labelled tell in
-        (subst (λ k. AreLabelled n chains new.gaps.items new.labels.items (drop k list ++ back)) first all.0,
-        subst (λ k. TellGap n new.gaps.items gap (flanks_in chains (drop k list ++ back))) first all.1);
+        let all = e.labelled back once labelled tell in (
+          subst (λ k. AreLabelled n chains new.gaps.items new.labels.items (drop k list ++ back)) first all.0,
+          subst (λ k. TellGap n new.gaps.items gap (flanks_in chains (drop k list ++ back))) first all.1,
+        );
   }
 
   -- where as much begins at a vertex as ends there, labels west of it stay

@@ -1,15 +1,14 @@
 -- The labels of lists.
-use Rattle.std.proofs.Common.{◌≡◌, ◌≢◌, ℕ, ◌+◌, ◌<◌, ◌≤◌, List, [], ◌∷◌, ◌++◌, length, refl, sym, ap, subst, ◌∙◌, arith}
+use Rattle.std.proofs.Common.{◌≡◌, ℕ, ◌≤◌, List, [], ◌∷◌, ◌++◌, refl, sym, ap, subst, ◌∙◌, arith}
 use Rattle.std.specs.Prelude.{slice_index}
 use Rattle.tl_map_county.specs.TheMap.{MapChain}
 use Rattle.tl_tree_index.specs.Hits.{times}
-use Rattle.tl_tree_index.proofs.Times.{same_or, times-same, times-other, times-append}
-use Rattle.tl_check_inside.specs.declared.flanks.Flanks.{Flanks}
+use Rattle.tl_tree_index.proofs.Times.{same_or, times-same, times-other}
 use Rattle.tl_check_inside.specs.Keeping.Tallies.{flanks_in}
 use Rattle.tl_check_counts.specs.declared.labels.Gap.{Gap}
 use Rattle.tl_check_counts.specs.Keeping.Balances.{HaveOneBalance}
 use Rattle.tl_check_counts.specs.Keeping.Ways.{TellGap, AreKept}
-use Rattle.tl_check_counts.specs.Keeping.Labels.{AreLabelled, IsOnce}
+use Rattle.tl_check_counts.specs.Keeping.Labels.{AreLabelled}
 use Rattle.tl_check_counts.proofs.Balances.{balance_within, flanks_joined}
 use Rattle.tl_check_counts.proofs.Treed.{still_told, told_by}
 
@@ -21,7 +20,7 @@ module _ (n : ℕ) (chains : List MapChain) where
   still_labelled old new labels labels' [] kept same all = tt
   still_labelled old new labels labels' (s ∷ rest) kept same all = (
     subst (λ g. TellGap n new g (flanks_in chains (s ∷ rest))) (sym (same s (let one = times-same s s rest refl in omega (arith, one))))
-    (still_told n old new (slice_index labels s) (flanks_in chains (s ∷ rest)) kept all.0),
+        (still_told n old new (slice_index labels s) (flanks_in chains (s ∷ rest)) kept all.0),
     still_labelled old new labels labels' rest kept (λ t some. same t (one_more t some)) all.1,
   )
     where
@@ -42,9 +41,9 @@ module _ (n : ℕ) (chains : List MapChain) where
   labelled_within old new labels labels' [] outs ins back one kept all same behind = behind
   labelled_within old new labels labels' (s ∷ front) outs ins back one kept all same behind = (
     subst (λ g. TellGap n new g (flanks_in chains ((s ∷ front) ++ (ins ++ back))))
-    (sym (same s (let one = times-same s s front refl in omega (arith, one))))
-    (told_by n new (slice_index labels s) (flanks_in chains ((s ∷ front) ++ (outs ++ back))) (flanks_in chains ((s ∷ front) ++ (ins ++ back)))
-    (balance_lists (s ∷ front)) (still_told n old new (slice_index labels s) (flanks_in chains ((s ∷ front) ++ (outs ++ back))) kept all.0)),
+        (sym (same s (let one = times-same s s front refl in omega (arith, one))))
+        (told_by n new (slice_index labels s) (flanks_in chains ((s ∷ front) ++ (outs ++ back))) (flanks_in chains ((s ∷ front) ++ (ins ++ back)))
+        (balance_lists (s ∷ front)) (still_told n old new (slice_index labels s) (flanks_in chains ((s ∷ front) ++ (outs ++ back))) kept all.0)),
     labelled_within old new labels labels' front outs ins back one kept all.1 (λ t some. same t (one_more t some)) behind,
   )
     where

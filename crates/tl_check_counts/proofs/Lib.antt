@@ -12,3 +12,5 @@ pub mod Visiting
 pub mod Weighed
 pub mod Settling
 pub mod Upward
+pub mod Parted
+pub mod Known

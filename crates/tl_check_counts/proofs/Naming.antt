@@ -1,11 +1,11 @@
 -- The sides that segments name are polygons of the map.
-use Rattle.std.proofs.Common.{◌≡◌, ℕ, ℤ, Bool, true, false, if◌then◌else◌, Some, List, length, All, sym, subst}
-use Rattle.std.specs.Prelude.{slice_get, int_lt}
+use Rattle.std.proofs.Common.{◌≡◌, ℕ, Bool, true, false, if◌then◌else◌, Some, List, All, sym, subst}
+use Rattle.std.specs.Prelude.{slice_get}
 use Rattle.std.proofs.lemmas.Option.{slice_get_within, get_or_from_slice_get}
 use Rattle.tl_map_county.specs.declared.sides.Side.{Side}
 use Rattle.tl_map_county.specs.TheMap.{MapChain}
 use Rattle.tl_map_county.specs.Sides.{IsSideAmong, HasSidesAmong}
-use Rattle.tl_check_planar.specs.ByHeight.Heights.{widest, height}
+use Rattle.tl_check_planar.specs.ByHeight.Heights.{widest}
 use Rattle.tl_check_faces.specs.Odd.{NamesWest, NamesEast}
 
 chosen : (n : ℕ) (b : Bool) (x y : Side) → IsSideAmong n x → IsSideAmong n y → IsSideAmong n (if b then x else y)

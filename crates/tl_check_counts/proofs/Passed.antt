@@ -1,5 +1,5 @@
 -- A step of the sweep.
-use Rattle.std.proofs.Common.{◌≡◌, ℕ, ◌+◌, List, ◌++◌, append_assoc, refl, sym, ap, subst, ◌∙◌, arith}
+use Rattle.std.proofs.Common.{◌≡◌, ℕ, ◌+◌, List, ◌++◌, refl, sym, ap, subst, ◌∙◌, arith}
 use Rattle.tl_map_county.specs.TheMap.{MapChain}
 use Rattle.tl_tree_index.specs.Hits.{times}
 use Rattle.tl_tree_index.proofs.Times.{times-append}

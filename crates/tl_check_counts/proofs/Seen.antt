@@ -1,10 +1,8 @@
 -- A point that lies strictly between two neighbours of the list at its height, and the gap there.
-use Rattle.std.proofs.Common.{◌≡◌, ℕ, ◌+◌, ◌-◌, ◌<◌, ◌≤◌, ◌<ℤ◌, ◌+ℤ◌, ◌-ℤ◌, ℤ, pos, Bool, false, inl, inr, Some, List, [], ◌∷◌, ◌++◌, length, get_or, map, count_by, refl, sym, ap, ap₂, subst, ◌∙◌, arith}
+use Rattle.std.proofs.Common.{◌≡◌, ℕ, ◌-◌, ◌<◌, ◌≤◌, ◌<ℤ◌, ◌+ℤ◌, ℤ, pos, inl, inr, Some, List, [], ◌∷◌, ◌++◌, length, get_or, count_by, refl, sym, ap, ap₂, subst, arith}
 use Rattle.std.specs.Prelude.{slice_get}
 use Rattle.std.proofs.lemmas.Int.{ints}
 use Rattle.tl_geom.specs.declared.point.Point.{Point}
-use Rattle.tl_map_county.specs.declared.sides.Side.{Side}
-use Rattle.tl_map_county.specs.declared.sides.Side.TheVariants.{Outside}
 use Rattle.tl_map_county.specs.TheMap.{MapChain}
 use Rattle.tl_check_planar.proofs.ByHeight.Walking.{IsIn}
 use Rattle.tl_check_planar.specs.ByHeight.Heights.{height, widest}

@@ -1,18 +1,17 @@
 -- Polygons whose counts are taken back, one after the other.
-use Rattle.std.proofs.Common.{◌≡◌, ◌≢◌, inl, inr, ℕ, ◌+◌, ◌<◌, ◌≤◌, Bool, true, false, if◌then◌else◌, count_by, List, [], ◌∷◌, ◌++◌, length, get_or, set, drop, All, refl, sym, ap, subst, ◌∙◌, arith}
+use Rattle.std.proofs.Common.{◌≡◌, ◌≢◌, inl, inr, ℕ, ◌+◌, ◌<◌, ◌≤◌, Bool, true, false, if◌then◌else◌, count_by, List, [], ◌∷◌, length, get_or, set, drop, All, refl, sym, ap, subst, ◌∙◌, arith}
 use Rattle.std.specs.Prelude.{slice_index}
 use Rattle.std.proofs.lemmas.Bool.{cases_lt}
 use Rattle.std.proofs.lemmas.List.{drop_more, drop_all, get_or-set_other, get_or-set_same}
-use Rattle.tl_map_county.specs.declared.sides.Side.{Side}
 use Rattle.tl_map_county.specs.declared.sides.Side.TheVariants.{Outside, Polygon}
 use Rattle.tl_map_county.specs.Sides.{IsSideAmong}
 use Rattle.tl_tree_index.proofs.Times.{same_or}
 use Rattle.tl_check_active.proofs.Bits.{bit}
 use Rattle.tl_check_inside.specs.declared.flanks.Flanks.{Flanks}
 use Rattle.tl_check_inside.specs.Inside.{is_polygon}
-use Rattle.tl_check_inside.specs.Keeping.Tallies.{near_count, far_count, AreTallies, AreNone, AreClear}
+use Rattle.tl_check_inside.specs.Keeping.Tallies.{near_count, far_count, AreTallies, AreClear}
 use Rattle.tl_check_counts.specs.Keeping.Balances.{AreAmong, HaveOneBalance}
-use Rattle.tl_check_counts.specs.Keeping.Short.{IsLeft, AreSettled, IsSettled}
+use Rattle.tl_check_counts.specs.Keeping.Short.{AreSettled, IsSettled}
 use Rattle.tl_check_counts.proofs.Balances.{near_more, far_more}
 use Rattle.tl_check_counts.proofs.Weighed.{own_test, other_test, test_own, told_by_polygons}
 

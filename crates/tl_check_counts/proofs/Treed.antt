@@ -1,13 +1,12 @@
 -- Ways in the tree of gaps.
-use Rattle.std.proofs.Common.{◌≡◌, ℕ, zero, suc, ◌+◌, ◌<◌, ◌≤◌, Some, List, [], ◌∷◌, ◌++◌, length, refl, sym, ap, ap₂, subst, ◌∙◌, arith}
+use Rattle.std.proofs.Common.{◌≡◌, ℕ, zero, suc, ◌<◌, Some, List, [], ◌∷◌, ◌++◌, length, refl, sym, ap, ap₂, subst, ◌∙◌, arith}
 use Rattle.std.specs.Prelude.{slice_get}
-use Rattle.std.proofs.lemmas.Option.{slice_get_within}
 use Rattle.tl_check_planar.specs.Keeping.Apart.{one_found}
 use Rattle.tl_check_inside.specs.declared.flanks.Flanks.{Flanks}
 use Rattle.tl_check_counts.specs.declared.labels.Gap.{Gap}
 use Rattle.tl_check_counts.specs.Keeping.Balances.{AreAmong, HaveOneBalance}
-use Rattle.tl_check_counts.specs.Keeping.Ways.{IsGap, IsWay, TellGap, AreKept}
-use Rattle.tl_check_counts.proofs.Balances.{balance_by, balance_more, balance_back}
+use Rattle.tl_check_counts.specs.Keeping.Ways.{IsWay, TellGap, AreKept}
+use Rattle.tl_check_counts.proofs.Balances.{balance_by, balance_more}
 
 pub one_way : (n : ℕ) (gaps : List Gap) (g : ℕ) (one other : List Flanks) → IsWay n gaps g one → IsWay n gaps g other → one ≡ other
 one_way n gaps g [] [] a b = refl

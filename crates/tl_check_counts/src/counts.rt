@@ -1,5 +1,6 @@
 //! The counts of all polygons at many points.
-ghost use Rattle.std.specs.Prelude.{◌≡◌, ◌<◌, Some, None, All, IfOk, OnOk, MatchOption, length, slice_get, slice_set};
+ghost use Rattle.std.specs.Prelude.{◌≡◌, [], All, IfOk, OnOk, length};
+ghost use Rattle.tl_check_inside.specs.Keeping.Tallies.{AreClear};
 ghost use Rattle.tl_check_counts.specs.Counts.{AreCountsAt};
 ghost use Rattle.tl_check_counts.specs.Keeping.Visits.{IsVisit};
 
@@ -46,16 +47,20 @@ impl Model for PointCounts {
 }
 
 impl PointCounts {
-    ghost use Rattle.std.specs.Prelude.{◌≡◌, ◌<◌, ℕ, Some, None, OnOk, IfOk, MatchOption, length, slice_get, slice_set};
+    ghost use Rattle.std.specs.Prelude.{◌≡◌, ◌<◌, Some, None, All, OnOk, IfOk, MatchOption, length, slice_get, slice_set};
 
     /// Nothing is known of so many points.
     fn new(alloc: Global, points: usize) -> Result<PointCounts, AllocError>
         ensures long { IfOk result (λ counts. length counts ≡ points) }
-        ensures none { IfOk result (λ counts. (k : ℕ) → k < points → slice_get counts k ≡ Some None) }
+        ensures none { IfOk result (λ counts. All (λ known. known ≡ None) counts) }
     {
+        let mut parts = Vec::with_capacity(alloc, points)?;
+        for place in 0..points {
+            parts.push(None)?;
+        }
         Ok(PointCounts {
             flanks: Vec::new(alloc),
-            parts: vec![in alloc; None; points]?,
+            parts,
         })
     }
 
@@ -124,12 +129,46 @@ fn visit_all(
     let mut far = vec![in alloc; 0u64; polygons]?;
     let mut journal = Vec::new(alloc);
     let mut short = Vec::new(alloc);
+    visit_each(
+        map,
+        sites,
+        gaps,
+        visits,
+        &mut journal,
+        &mut short,
+        &mut near,
+        &mut far,
+        counts,
+    )
+}
+
+/// Does so with counts of each polygon that are 0, and lists of flanks of which the first is empty.
+fn visit_each(
+    map: &Map,
+    sites: &[Site],
+    gaps: &[Gap],
+    visits: &[Visit],
+    journal: &mut Vec<Flanks>,
+    short: &mut Vec<Flanks>,
+    near: &mut [u64],
+    far: &mut [u64],
+    counts: &mut PointCounts,
+) -> Result<(), AllocError>
+    requires visits { All (IsVisit (length map.now.polygons) map.now.chains sites.now gaps.now) visits.now }
+    requires none { journal.old.items ≡ [] }
+    requires clear { AreClear (length map.now.polygons) near.old far.old }
+    requires long { length counts.old ≡ length sites.now }
+    requires counts { AreCountsAt map.now.chains sites.now counts.old }
+    ensures long { OnOk result (length counts.new ≡ length sites.now) }
+    ensures counts { OnOk result (AreCountsAt map.now.chains sites.now counts.new) }
+{
     let mut gap = 0u32;
-    for visit in visits {
-        go(map, gaps, &mut journal, gap, visit.gap)?;
+    for place in 0..visits.len() {
+        let visit = visits[place];
+        go(map, gaps, journal, gap, visit.gap)?;
         gap = visit.gap;
-        shorten(&mut journal, &mut short, &mut near, &mut far)?;
-        counts.keep(visit.place as usize, &journal)?;
+        shorten(journal, short, near, far)?;
+        counts.keep(visit.place as usize, journal)?;
     }
     Ok(())
 }

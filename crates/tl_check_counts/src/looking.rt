@@ -87,7 +87,16 @@ impl Spots {
         while self.next < self.spots.len() && is_below(self.spots[self.next], events, from) {
             let place = self.spots[self.next].place;
             self.next += 1;
-            look_at(map, line, events, from, sites, labels, place, &mut self.visits)?;
+            look_at(
+                map,
+                line,
+                events,
+                from,
+                sites,
+                labels,
+                place,
+                &mut self.visits,
+            )?;
         }
         Ok(())
     }

@@ -24,7 +24,7 @@ pub fn label_vertex(
     ensures kept { IfOk result (λ done. AreKept (length map.now.polygons) labels.old.gaps.items labels.new.gaps.items) }
     ensures labelled { IfOk result (λ done. IsTrue done → (west : List ℕ) → line.now.front ≡ west ++ ins.now → IsOnce (list_of line.now) →
         AreLabelled (length map.now.polygons) (raised map.now.chains) labels.old.gaps.items labels.old.labels.items
-            (west ++ (outs.now ++ line.now.back)) →
+        (west ++ (outs.now ++ line.now.back)) →
         AreLabelled (length map.now.polygons) (raised map.now.chains) labels.new.gaps.items labels.new.labels.items (list_of line.now)) }
 {
     let east = labels.gap_at(line);

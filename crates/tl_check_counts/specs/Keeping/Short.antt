@@ -1,5 +1,5 @@
 -- Polygons that are near as often as far, once their counts are taken back.
-use Rattle.std.specs.Prelude.{◌≡◌, ◌⊎◌, ℕ, ◌+◌, ◌<◌, ◌≤◌, true, List, length, slice_index, drop}
+use Rattle.std.specs.Prelude.{◌≡◌, ℕ, ◌+◌, ◌<◌, ◌≤◌, true, List, length, slice_index, drop}
 use Rattle.tl_map_county.specs.declared.sides.Side.{Side}
 use Rattle.tl_check_inside.specs.declared.flanks.Flanks.{Flanks}
 use Rattle.tl_check_inside.specs.Inside.{is_polygon}

@@ -1,4 +1,4 @@
-use Rattle.std.proofs.Common.{refl, subst, ap, length}
+use Rattle.std.proofs.Common.{refl, subst}
 use Rattle.std.proofs.lemmas.List.{take_all}
 use Rattle.tl_check_inside.specs.Keeping.Tallies.{flanks_in}
 use Rattle.tl_check_sweep.specs.Keeping.Facing.{raised}

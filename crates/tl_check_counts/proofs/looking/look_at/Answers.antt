@@ -1,6 +1,5 @@
 use Rattle.std.proofs.Common.{◌<◌, length, All, refl, sym, subst}
 use Rattle.tl_check_active.proofs.Wide.{wide_by_range}
-use Rattle.tl_check_active.specs.Lined.{list_of}
 use Rattle.tl_check_sweep.specs.Keeping.Facing.{raised}
 use Rattle.std.proofs.lemmas.List.Elements.{All-push}
 use Rattle.std.proofs.lemmas.Option.{slice_get-get_or}

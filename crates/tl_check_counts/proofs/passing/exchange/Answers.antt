@@ -1,7 +1,3 @@
-use Rattle.std.proofs.Common.{◌++◌, refl, ap}
-use Rattle.tl_check_planar.specs.ByHeight.Heights.{widest}
-use Rattle.tl_check_planar.specs.ByHeight.Neighbours.{AreTested}
-use Rattle.tl_check_planar.proofs.ByHeight.Walking.{two_front, two_back}
 use Rattle.tl_check_counts.proofs.Passed.{exchanged}
 use Rattle.tl_check_counts.proofs.passing.exchange.Goals as goal
 

@@ -1,5 +1,3 @@
-use Rattle.std.proofs.Common.{ap, ◌∙◌}
-use Rattle.tl_tree_index.specs.Hits.{times}
 use Rattle.tl_check_active.specs.Lined.{list_of}
 use Rattle.tl_check_counts.proofs.Passed.{passed_from}
 use Rattle.tl_check_counts.proofs.passing.pass.Goals as goal

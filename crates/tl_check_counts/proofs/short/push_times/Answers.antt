@@ -1,4 +1,4 @@
-use Rattle.std.proofs.Common.{arith, ap, sym, subst, ◌∙◌, ◌∷◌, ◌++◌, [], All}
+use Rattle.std.proofs.Common.{sym, subst, All}
 use Rattle.std.proofs.lemmas.List.Elements.{All-push}
 use Rattle.tl_check_counts.specs.Keeping.Balances.{AreAmong}
 use Rattle.tl_check_counts.proofs.Shortening.{no_times, one_time}

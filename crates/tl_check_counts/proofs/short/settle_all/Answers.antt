@@ -1,6 +1,5 @@
-use Rattle.std.proofs.Common.{◌≡◌, ◌<◌, All, List, length, refl, sym, ap, subst, ◌∙◌, arith}
+use Rattle.std.proofs.Common.{All, length, refl, sym, subst, ◌∙◌}
 use Rattle.std.proofs.lemmas.List.Elements.{All-nil}
-use Rattle.tl_check_inside.specs.declared.flanks.Flanks.{Flanks}
 use Rattle.tl_check_counts.specs.Keeping.Balances.{AreAmong}
 use Rattle.tl_check_counts.proofs.Settling.{near_among, far_among, none_settled, one_settled, all_clear, one_balance}
 use Rattle.tl_check_counts.proofs.short.settle_all.Goals as goal

@@ -1,4 +1,4 @@
-use Rattle.std.proofs.Common.{◌≡◌, ◌++◌, length, List, append_assoc, sym, ap, subst, ◌∙◌}
+use Rattle.std.proofs.Common.{◌≡◌, ◌++◌, length, append_assoc, sym, ap, subst, ◌∙◌}
 use Rattle.tl_check_active.specs.Lined.{list_of}
 use Rattle.tl_check_sweep.specs.Keeping.Facing.{raised}
 use Rattle.tl_check_inside.specs.Keeping.Tallies.{flanks_in}

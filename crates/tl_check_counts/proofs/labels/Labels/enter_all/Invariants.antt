@@ -1,4 +1,3 @@
-use Rattle.tl_map_county.specs.TheMap.{MapChain}
 use Rattle.std.proofs.Common.{length}
 use Rattle.tl_check_sweep.specs.Keeping.Facing.{raised}
 use Rattle.tl_check_counts.proofs.Entering.{IsEntering}

@@ -1,4 +1,4 @@
-use Rattle.std.proofs.Common.{◌≡◌, ℕ, Some, List, [], ◌∷◌, sym, subst, ◌∙◌}
+use Rattle.std.proofs.Common.{sym, ◌∙◌}
 use Rattle.tl_check_counts.proofs.Gapped.{gap_some, gap_none}
 use Rattle.tl_check_counts.proofs.labels.Labels.gap_at.Goals as goal
 
