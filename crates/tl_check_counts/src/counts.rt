@@ -17,6 +17,9 @@ use tl_check_active::Events;
 use tl_check_inside::{Flanks, Site};
 use tl_map_county::Map;
 
+/// So few points take no sweep: as many rays take fewer passes over the map.
+const FEW: usize = 16;
+
 /// A part of a list, from one place up to another.
 #[derive(Clone, Copy)]
 struct Part {
@@ -89,14 +92,17 @@ impl PointCounts {
 }
 
 /// The counts of all polygons at these points, where they become known in one sweep over the map and one walk from gap to gap. As a rule
-/// all points are known that are on no chain and at the height of no chain's point, where segments don't meet but at ends. The error is that
-/// memory was refused.
+/// all points are known that are on no chain and at the height of no chain's point, where segments don't meet but at ends. Of a few points
+/// nothing is known: no sweep is made for them. The error is that memory was refused.
 pub fn count_at(alloc: Global, map: &Map, sites: &[Site]) -> Result<PointCounts, AllocError>
     ensures long { IfOk result (λ counts. length counts ≡ length sites.now) }
     // Where flanks are known of a point, it is on no chain, and they tell the counts of all sides there.
     ensures counts { IfOk result (AreCountsAt map.now.chains sites.now) }
 {
     let mut counts = PointCounts::new(alloc, sites.len())?;
+    if sites.len() <= FEW {
+        return Ok(counts);
+    }
     let mut events = Events::new(alloc, map)?;
     events.sort(alloc)?;
     if !are_rising(&events) {
