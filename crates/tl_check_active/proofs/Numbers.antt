@@ -2,7 +2,7 @@
 use Rattle.std.proofs.Common.{◌≡◌, ℕ, zero, suc, ◌+◌, ◌-◌, ◌<◌, ◌≤◌, ◌==◌, Bool, true, false, Some, List, [], ◌∷◌, ◌++◌, length, take, drop, set, get_or, append_assoc, append-nil, add-one, refl, sym, ap, ap₂, subst, ◌∙◌, arith, length-take}
 use Rattle.std.specs.Prelude.{Vec, slice_get, unwrap_or}
 use Rattle.std.specs.Global.{Global}
-use Rattle.std.proofs.Math.Seq.{take-add, drop-cons}
+use Rattle.std.proofs.Math.Seq.{take-add, take-suc, drop-cons}
 use Rattle.std.proofs.lemmas.List.{take-append-drop, take_rest, drop-append-le, drop-drop, drop-set-lt, set_split, take-set, take-take}
 use Rattle.std.proofs.lemmas.Bool.{eqb-true}
 use Rattle.std.proofs.lemmas.List.Elements.{All-nil, All-cons, All-head, All-tail, All-append}
@@ -136,6 +136,12 @@ some_tail block rest all = All-tail (λ (b : Vec ℕ Global). 0 < length b.items
 
 some_append : (xs ys : List (Vec ℕ Global)) → AreSome xs → AreSome ys → AreSome (xs ++ ys)
 some_append xs ys one other = All-append (λ (b : Vec ℕ Global). 0 < length b.items) xs ys one other
+
+-- the numbers of one block more
+pub numbers_more : (blocks : List (Vec ℕ Global)) (k : ℕ) (block : Vec ℕ Global) → k < length blocks → block ≡ get_or blocks k block →
+    numbers_of (take (k + 1) blocks) ≡ numbers_of (take k blocks) ++ block.items
+numbers_more blocks k block lt is =
+    rw (add-one, take-suc blocks k block) (numbers-push (take k blocks) (get_or blocks k block) ∙ ap (λ (b : Vec ℕ Global). numbers_of (take k blocks) ++ b.items) (sym is))
 
 -- a block gets its place
 pub closed_numbers : (old new : List (Vec ℕ Global)) (n : ℕ) (block : Vec ℕ Global) → n < length old → new ≡ set old n block → numbers_of new ≡ numbers_of (take n old) ++ (block.items ++ numbers_of (drop (n + 1) old))

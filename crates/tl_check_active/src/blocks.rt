@@ -32,6 +32,17 @@ pub fn first_number(blocks: &[Vec<u32>], next: usize) -> Option<u32>
     }
 }
 
+/// Lists the numbers of blocks, in the place of those that were listed.
+pub fn list_numbers(blocks: &[Vec<u32>], numbers: &mut Vec<u32>) -> Result<(), AllocError>
+    ensures { IfOk result (λ done. numbers.new.items ≡ numbers_of blocks.now) }
+{
+    numbers.clear();
+    for block in blocks {
+        numbers.extend_from_slice(block)?;
+    }
+    Ok(())
+}
+
 /// Takes off the first number of the blocks from one on, if there is one.
 pub fn take_first(blocks: &mut Vec<Vec<u32>>, next: usize)
     requires some { AreSome (drop next blocks.old.items) }

@@ -1,7 +1,7 @@
 //! The list of active segments, in blocks and parted at the place where the sweep is.
 ghost use Rattle.std.specs.Prelude.{◌≡◌, ◌≤◌, IfOk, IfErr, length, take, drop};
 
-use crate::blocks::{close, first_number, join, keep_place, last_number, lift, take_first};
+use crate::blocks::{close, first_number, join, keep_place, last_number, lift, list_numbers, take_first};
 use crate::search::find_first;
 use std::alloc::{AllocError, Global};
 use std::marker::Model;
@@ -194,6 +194,15 @@ impl Line {
         let place = self.find(s, end).unwrap_or(end);
         self.seek(place);
         Ok(())
+    }
+
+    /// Lists the numbers before the place, from west to east, in the place of those that were listed. The error is that memory was
+    /// refused.
+    pub fn list_front(&self, numbers: &mut Vec<u32>) -> Result<(), AllocError>
+        ensures { IfOk result (λ done. numbers.new.items ≡ self.now.front) }
+    {
+        list_numbers(&self.blocks[..self.opened], numbers)?;
+        numbers.extend_from_slice(&self.items[..self.place])
     }
 
     /// Takes off the first number behind the place, if there is one.

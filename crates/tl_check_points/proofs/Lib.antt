@@ -6,3 +6,4 @@ pub mod Upward
 pub mod Looking
 pub mod Ordering
 pub mod Suspecting
+pub mod Leaving

@@ -3,3 +3,4 @@ pub mod Laid
 pub mod Lent
 pub mod Spots
 pub mod Looking
+pub mod Known

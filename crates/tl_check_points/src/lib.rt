@@ -8,6 +8,7 @@
 mod boxes;
 mod darts;
 mod heights;
+mod known;
 mod laid;
 mod lent;
 mod look;
@@ -20,4 +21,5 @@ mod suspects;
 
 pub use misplaced::{find_among_suspects, find_misplaced};
 pub use rings::Rings;
+pub use sites::sites_of;
 pub use suspects::list_suspects;

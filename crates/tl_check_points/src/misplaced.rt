@@ -9,6 +9,7 @@ ghost use Rattle.tl_check_inside.specs.Placed.{ArePlaced, IsTrueMisplaced};
 ghost use Rattle.tl_check_inside.specs.Suspects.{AreSuspects};
 ghost use Rattle.tl_check_points.specs.Rings.{AreBoxed};
 
+use crate::known::find_by_counts;
 use crate::points::{Wrong, look_at_points};
 use crate::rings::Rings;
 use crate::sites::sites_of;
@@ -44,8 +45,8 @@ pub fn find_misplaced<X: BoxIndex>(
     }
 }
 
-/// Looks for such a polygon among these along the rays of their points, where the points of all others are known to lie where they
-/// have to. Nothing is asked of sides.
+/// Looks for such a polygon among these, where the points of all others are known to lie where they have to: by counts that become known
+/// in one sweep, or else along the rays of their points. Nothing is asked of sides.
 pub fn find_among_suspects<X: BoxIndex>(
     alloc: Global,
     map: &Map,
@@ -58,6 +59,10 @@ pub fn find_among_suspects<X: BoxIndex>(
     // other; what is found is true.
     ensures { IfOk result (λ found. MatchOption found (ArePlaced map.now) (IsTrueMisplaced map.now)) }
 {
-    let mut sites = sites_of(alloc, map, suspects)?;
-    find_among(alloc, map, index, &mut sites)
+    let sites = sites_of(alloc, map, suspects)?;
+    let mut others = Vec::new(alloc);
+    match find_by_counts(alloc, map, &sites, &mut others)? {
+        Some(found) => Ok(Some(found)),
+        None => find_among(alloc, map, index, &mut others),
+    }
 }

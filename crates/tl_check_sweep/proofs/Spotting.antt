@@ -38,13 +38,13 @@ use Rattle.tl_check_active.proofs.Tests.{low_height, high_height}
 module _ (chains : List MapChain) (events : List Event) (are : AreEvents chains events) (rising : AreRising events) (from : ℕ) (within : from ≤ length events) (h : ℤ)
     (below : (d : Event) → 0 < from → from ≤ length events → (get_or events (from - 1) d).height <ℤ h)
     (above : (d : Event) → from < length events → h <ℤ (get_or events from d).height) where
-  before : (k : ℕ) → k < from → (get_or events k no_event).height <ℤ h
+  pub before : (k : ℕ) → k < from → (get_or events k no_event).height <ℤ h
   before k lt =
       let up = rising k (from - 1) no_event (omega (arith, lt)) (omega (arith, lt, within)) in
       let under = below no_event (omega (arith, lt)) within in
       omega (arith, ints, up, under)
 
-  after : (k : ℕ) (d : Event) → from ≤ k → k < length events → h <ℤ (get_or events k d).height
+  pub after : (k : ℕ) (d : Event) → from ≤ k → k < length events → h <ℤ (get_or events k d).height
   after k d le lt =
       let up = rising from k d le lt in
       let over = above d (omega (arith, le, lt)) in
@@ -76,7 +76,7 @@ module _ (chains : List MapChain) (events : List Event) (are : AreEvents chains 
         let there = last.2 in
         none_at one.0 one.1 (omega (arith, ints, there, same, e, at))
 
-    no_vertex : AreInRange chains → IsInRange q → IsNoVertex widest chains q
+    pub no_vertex : AreInRange chains → IsInRange q → IsNoVertex widest chains q
     no_vertex ranges range = record {
       near_first = λ s u is. near_by_range q u.a range (ranges s u is).0;
       near_last = λ s u is. near_by_range q u.b range (ranges s u is).1;

@@ -34,6 +34,7 @@ mod watch;
 pub use answer::{SweepReport, Swept, sweep};
 pub use facing::flanks_of;
 pub use kept::lowest_of_each;
+pub use placing::{is_between, is_east_of, is_west_of};
 pub use remaining::{PlanarPart, planar_part};
 pub use telling::push_about;
 pub use watch::Gaps;

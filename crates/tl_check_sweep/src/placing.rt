@@ -55,7 +55,7 @@ fn are_facing(gaps: Option<u64>) -> bool
 }
 
 /// Whether a height is above the events before a place, and below those from it on.
-fn is_between(events: &Events, from: usize, h: i64) -> bool
+pub fn is_between(events: &Events, from: usize, h: i64) -> bool
     requires { from < length events.now }
     ensures below { IsTrue result → (d : Event) → 0 < before from events.now →
         (slice_index_or (joined events.now) (before from events.now - 1) d).height <ℤ h }
@@ -83,7 +83,7 @@ fn sees(map: &Map, line: &Line, p: Point, polygon: u32) -> bool
 }
 
 /// Whether a point lies strictly east of a segment, if there is one.
-fn is_east_of(map: &Map, s: Option<u32>, p: Point) -> bool
+pub fn is_east_of(map: &Map, s: Option<u32>, p: Point) -> bool
     ensures { IsTrue result → (t : ℕ) → s ≡ Some t → IsEastOf widest map.now.chains p t }
 {
     let Some(s) = s else {
@@ -97,7 +97,7 @@ fn is_east_of(map: &Map, s: Option<u32>, p: Point) -> bool
 }
 
 /// Whether a point lies strictly west of a segment, if there is one.
-fn is_west_of(map: &Map, s: Option<u32>, p: Point) -> bool
+pub fn is_west_of(map: &Map, s: Option<u32>, p: Point) -> bool
     ensures { IsTrue result → (t : ℕ) → s ≡ Some t → IsWestOfIt widest map.now.chains p t }
 {
     let Some(s) = s else {

@@ -8,3 +8,4 @@ pub mod Unique
 pub mod Crossing
 pub mod Placed
 pub mod Suspected
+pub mod Known

@@ -2,3 +2,4 @@
 pub mod Listed
 pub mod Odd
 pub mod Parts
+pub mod Known

@@ -1,22 +1,32 @@
 //! The same of some polygons.
 
-ghost use Rattle.std.specs.Prelude.{length, IfOk};
+ghost use Rattle.std.specs.Prelude.{◌<◌, length, All, IfOk, IfSome, OnOk};
+ghost use Rattle.std.specs.List.Sorted.{IsStrictlyIncreasing};
 ghost use Rattle.tl_map_county.specs.Segments.{segments_before};
 ghost use Rattle.tl_check_planar.specs.Rectangles.{segment_rect};
+ghost use Rattle.tl_check_inside.specs.Keeping.Probing.{ChainsAreInReach};
+ghost use Rattle.tl_check_inside.specs.Keeping.Tallies.{AreClear};
 ghost use Rattle.tl_list_map.specs.Points.AllMisplaced.{AreAllMisplaced};
+ghost use Rattle.tl_list_map.specs.Points.Keeping.Known.{TellAt};
+ghost use Rattle.tl_list_map.specs.Points.Keeping.Parts.{IsOfPolygon, IsOfAny, AreFaultsIn, HasPart};
 ghost use Rattle.tl_check_inside.specs.Suspects.{AreSuspects};
 
 use crate::points::listed::sort_once;
 use crate::points::misplaced::list_at;
+use crate::points::odd::list_odd;
 use crate::points::room::Room;
+use crate::points::telling::push_wrong;
 use std::alloc::Global;
-use tl_check_inside::{Misplaced, look_at_points};
+use tl_check_counts::count_at;
+use tl_check_inside::{Flanks, Misplaced, look_at_points};
+use tl_check_points::sites_of;
 use tl_map_county::Map;
 use tl_tree_index::{BoxIndex, Memory};
 
 /// All faults of the points of a map's polygons, as [`crate::points::all_misplaced`] lists them, where the points of all polygons but
-/// these are known to lie where they have to. These are given in any order, and are left sorted. It takes a search for each
-/// of them alone. An error says that memory was refused.
+/// these are known to lie where they have to. These are given in any order, and are left sorted. The counts at most of them become known
+/// in one sweep over the map, where there are more than a few; it takes a search for each of the others alone. An error says that memory
+/// was refused.
 pub fn all_misplaced_among<X: BoxIndex>(
     alloc: Global,
     index: &X,
@@ -30,10 +40,82 @@ pub fn all_misplaced_among<X: BoxIndex>(
 {
     look_at_points(map);
     sort_once(suspects);
+    list_each(alloc, index, map, suspects)
+}
+
+/// The faults of the points of these polygons, in their order.
+fn list_each<X: BoxIndex>(
+    alloc: Global,
+    index: &X,
+    map: &Map,
+    polygons: &[u32],
+) -> Result<Vec<Misplaced>, Memory>
+    requires fits { X.fits index.now (segments_before map.now.chains (length map.now.chains))
+        (segment_rect map.now.chains) }
+    requires reach { ChainsAreInReach map.now.chains }
+    requires known { All (λ p. p < length map.now.polygons) polygons.now }
+    requires rising { IsStrictlyIncreasing polygons.now }
+    ensures { IfOk result (λ found. AreFaultsIn map.now (IsOfAny polygons.now) found.items) }
+{
+    let sites = sites_of(alloc, map, polygons)?;
+    let Ok(counts) = count_at(alloc, map, &sites) else {
+        return Err(Memory);
+    };
     let mut room = Room::new(alloc, map.polygons() as usize)?;
     let mut found = Vec::new(alloc);
-    for place in 0..suspects.len() {
-        list_at(index, map, suspects[place], &mut room, &mut found)?;
+    for place in 0..polygons.len() {
+        list_one(
+            index,
+            map,
+            polygons[place],
+            counts.at(place),
+            &mut room,
+            &mut found,
+        )?;
     }
     Ok(found)
+}
+
+/// Appends all that is wrong with the point of polygon `p`, by flanks that tell the counts there, if they are known.
+fn list_one<X: BoxIndex>(
+    index: &X,
+    map: &Map,
+    p: u32,
+    known: Option<&[Flanks]>,
+    room: &mut Room,
+    found: &mut Vec<Misplaced>,
+) -> Result<(), Memory>
+    requires fits { X.fits index.now (segments_before map.now.chains (length map.now.chains))
+        (segment_rect map.now.chains) }
+    requires reach { ChainsAreInReach map.now.chains }
+    requires polygon { p < length map.now.polygons }
+    requires tell { IfSome known (λ flanks. TellAt map.now p flanks.now) }
+    requires clear { AreClear (length map.now.polygons) room.old.near.items room.old.far.items }
+    ensures part { OnOk result (HasPart map.now (IsOfPolygon p) found.old.items found.new.items) }
+    ensures clear { OnOk result (AreClear (length map.now.polygons) room.new.near.items room.new.far.items) }
+{
+    match known {
+        Some(flanks) => list_known(map, p, flanks, room, found),
+        None => list_at(index, map, p, room, found),
+    }
+}
+
+/// Does so by such flanks.
+fn list_known(
+    map: &Map,
+    p: u32,
+    flanks: &[Flanks],
+    room: &mut Room,
+    found: &mut Vec<Misplaced>,
+) -> Result<(), Memory>
+    requires known { p < length map.now.polygons }
+    requires tell { TellAt map.now p flanks.now }
+    requires clear { AreClear (length map.now.polygons) room.old.near.items room.old.far.items }
+    ensures part { OnOk result (HasPart map.now (IsOfPolygon p) found.old.items found.new.items) }
+    ensures clear { OnOk result (AreClear (length map.now.polygons) room.new.near.items room.new.far.items) }
+{
+    let polygon = map.polygon(p);
+    room.held.clear();
+    let outside = list_odd(map, p, flanks, &mut room.near, &mut room.far, &mut room.odd)?;
+    push_wrong(map, p, polygon, &room.held, outside, &room.odd, found)
 }

@@ -1,0 +1,46 @@
+use Rattle.std.proofs.Common.{◌++◌, length, sym, subst, ap, ◌∙◌}
+use Rattle.tl_check_active.specs.Lined.{list_of}
+use Rattle.tl_check_active.specs.Events.{before, joined}
+use Rattle.tl_check_sweep.specs.Keeping.Facing.{raised}
+use Rattle.tl_check_sweep.specs.Keeping.Swept.{IsSwept}
+use Rattle.tl_check_sweep.proofs.Slab.{begins}
+use Rattle.tl_check_sweep.proofs.Gone.{gone_on}
+use Rattle.tl_check_counts.specs.Keeping.Labels.{AreLabelled}
+use Rattle.tl_check_counts.proofs.Passed.{moved}
+use Rattle.tl_check_counts.proofs.Visiting.{once_swept, no_visits, visits_kept, none_labelled}
+use Rattle.tl_check_counts.proofs.sweeping.sweep_along.Goals as goal
+
+pub loop-from-init : goal.loop-from-init
+loop-from-init c = record {
+  swept = begins c.args.map.now.chains (joined c.args.events.now) (list_of c.args.line.now) c.requires.events c.requires.empty;
+  labelled = none_labelled (length c.args.map.now.polygons) (raised c.args.map.now.chains) c.args.labels.now.gaps.items c.args.labels.now.labels.items (list_of c.args.line.now) c.requires.empty;
+  visits = no_visits _ _ _ c.args.labels.now.gaps.items c.args.spots.now.visits.items c.requires.none;
+}
+
+pub loop-from-preserved : goal.loop-from-preserved
+loop-from-preserved c =
+    let n = length c.args.map.now.polygons in
+    let chains = c.args.map.now.chains in
+    let events = c.args.events.now in
+    let stays = sym c.in_ok-look.ensures.list in
+    let old = c.loop-from.labels in
+    let new = c.label_vertex.new.labels in
+    let swept : IsSwept chains (joined c.args.events.now) (before c.loop-from.from c.args.events.now) (list_of c.look.new.line) =
+    subst (IsSwept chains (joined events) (before c.loop-from.from events)) stays c.loop-from.invariant.swept in
+    let labelled : AreLabelled n (raised chains) c.loop-from.labels.gaps.items c.loop-from.labels.labels.items (list_of c.look.new.line) =
+    subst (AreLabelled n (raised chains) old.gaps.items old.labels.items) stays c.loop-from.invariant.labelled in
+    let to = c.in_ok-to.ensures in
+    let passed = c.in_ok-pass.ensures c.if-not-branch.false in
+    let further : IsSwept chains (joined c.args.events.now) (before c.in_ok-to.to c.args.events.now) (list_of c.pass.new.line) =
+    gone_on chains events c.loop-from.from c.in_ok-to.to (list_of c.look.new.line) (list_of c.pass.new.line) _ _ c.requires.events c.requires.rising swept to
+    (moved chains (list_of c.look.new.line) c.pass.new.line _ _ _ _ passed) (passed.tested swept.tested) in
+    record {
+      swept = further;
+      labelled =
+          c.in_ok-label_vertex.ensures.labelled c.if-not-branch-2.false passed.west
+          (passed.is ∙ ap (λ i. passed.west ++ i) (sym c.deref-in-loop-from.ensures.value))
+          (once_swept chains (joined events) (before c.in_ok-to.to events) (list_of c.pass.new.line) c.requires.events further)
+          (subst (AreLabelled n (raised chains) old.gaps.items old.labels.items)
+          (passed.was ∙ ap (λ o. passed.west ++ (o ++ c.pass.new.line.back)) (sym c.deref.ensures.value)) labelled);
+      visits = visits_kept n chains c.args.sites.now old.gaps.items new.gaps.items c.look.new.self.visits.items c.in_ok-label_vertex.ensures.kept c.in_ok-look.ensures.visits;
+    }

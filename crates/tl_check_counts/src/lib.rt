@@ -1,0 +1,28 @@
+//! The counts of all polygons at many points, in n log n for n segments and points.
+//!
+//! A sweep from south to north (`tl_check_active`) keeps the list of the segments that are active at the height that it has reached, and
+//! each of them has a label: the gap on the west of it. A gap is kept as a pair, the segment on the east of it and the gap behind that
+//! segment. So the gaps are a tree with the outside east of all as its root, and the way from a gap to the root has as many near and
+//! far sides of each polygon as all that stands east of the gap, or differs from it by as many of both. Where the sides of the segments
+//! that end at a vertex differ from those of the segments that begin there no more than that, labels west of the vertex stay as they are.
+//!
+//! A point that lies strictly between two neighbours at its height lies on no chain, and the ray that runs from it to the east crosses
+//! what stands east of its gap. [`count_at`] goes from point to point in an order in which their gaps are near in the tree, and writes
+//! down the flanks that are left where near sides and far ones of one polygon cancel.
+//!
+//! Nothing is asked of the chains or their sides. Where a test of the sweep fails nothing is known of the points above.
+#![tactic(auto)]
+
+mod agreeing;
+mod counts;
+mod labels;
+mod looking;
+mod order;
+mod passing;
+mod rising;
+mod short;
+mod sweeping;
+mod vertex;
+mod ways;
+
+pub use counts::{PointCounts, count_at};
