@@ -20,6 +20,7 @@ pub mod Agreeing
 pub mod Spotting
 pub mod Answered
 pub mod Unmarked
+pub mod Parted
 pub mod Turning
 pub mod FaceSearch
 pub mod Paired

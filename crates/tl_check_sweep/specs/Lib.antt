@@ -5,3 +5,4 @@ pub mod Deciding
 pub mod Telling
 pub mod Keeping
 pub mod FaceSearch
+pub mod Parts

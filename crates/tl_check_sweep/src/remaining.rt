@@ -1,7 +1,6 @@
 //! The part of a map whose chains are planar among themselves, where all of them aren't.
-ghost use Rattle.std.specs.Prelude.{◌≡◌, IfOk, IfSome};
-ghost use Rattle.tl_map_county.specs.Remaining.{map_without};
-ghost use Rattle.tl_check_planar.specs.Planar.{IsPlanar};
+ghost use Rattle.std.specs.Prelude.{◌≡◌, IfOk, length};
+ghost use Rattle.tl_check_sweep.specs.Parts.{IsPlanarPart};
 
 use crate::answer::{Swept, sweep};
 use crate::taking::take_out;
@@ -11,7 +10,7 @@ use tl_check_planar::Meet;
 use tl_map_county::Map;
 
 /// How often chains that remain are swept at most, where some of them meet after all.
-const TRIES: usize = 16;
+const TRIES: usize = 64;
 
 /// Which chains are taken out of a map, and the map of those that remain, which are planar.
 #[derive(Drop)]
@@ -23,24 +22,36 @@ pub struct PlanarPart {
 }
 
 /// Takes chains out of a map until those that remain are planar. A sweep finds which ones, and few more than have to go; another one over
-/// those that remain says that they are planar. Where it doesn't, no part is answered. The error is that memory was refused.
-pub fn planar_part(alloc: Global, map: &Map) -> Result<Option<PlanarPart>, AllocError>
-    ensures planar { IfOk result (λ found. IfSome found (λ part. IsPlanar part.map.chains)) }
-    ensures part { IfOk result (λ found. IfSome found (λ part. part.map ≡ map_without part.marks.items map.now)) }
+/// those that remain says that they are planar, or which of them meet, and these are taken out too. Where some meet time after time, all
+/// chains are taken out; no map is known of which that is so. The error is that memory was refused.
+pub fn planar_part(alloc: Global, map: &Map) -> Result<PlanarPart, AllocError>
+    ensures { IfOk result (IsPlanarPart map.now) }
 {
     let mut marks = take_out(alloc, map)?;
+    marks.resize(map.chains() as usize, false)?;
     for _ in 0..TRIES {
         let rest = map.without(alloc, &marks)?;
         match sweep(alloc, &rest, Gaps::First)?.swept {
-            Swept::Placed | Swept::Planar => return Ok(Some(PlanarPart { marks, map: rest })),
+            Swept::Placed | Swept::Planar => return Ok(PlanarPart { marks, map: rest }),
             Swept::Meet(meet) => mark_meet(&rest, meet, &mut marks),
         }
     }
-    Ok(None)
+    part_of_none(alloc, map)
+}
+
+/// The part of a map that has no chain.
+fn part_of_none(alloc: Global, map: &Map) -> Result<PlanarPart, AllocError>
+    ensures { IfOk result (IsPlanarPart map.now) }
+{
+    let marks = vec![in alloc; true; map.chains() as usize]?;
+    let rest = map.without(alloc, &marks)?;
+    Ok(PlanarPart { marks, map: rest })
 }
 
 /// Marks the chains of a meet among those that remain.
-fn mark_meet(rest: &Map, meet: Meet, marks: &mut [bool]) {
+fn mark_meet(rest: &Map, meet: Meet, marks: &mut [bool])
+    ensures { length marks.new ≡ length marks.old }
+{
     if meet.s >= rest.segments() || meet.t >= rest.segments() {
         return;
     }
@@ -53,7 +64,9 @@ fn mark_meet(rest: &Map, meet: Meet, marks: &mut [bool]) {
 }
 
 /// Marks the chain that has this number among those that aren't marked.
-fn mark_remaining(marks: &mut [bool], number: u32) {
+fn mark_remaining(marks: &mut [bool], number: u32)
+    ensures { length marks.new ≡ length marks.old }
+{
     let mut before = 0u32;
     for place in 0..marks.len() {
         if marks[place] {
