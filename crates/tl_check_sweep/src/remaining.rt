@@ -22,7 +22,7 @@ pub struct PlanarPart {
     pub map: Map,
 }
 
-/// Takes chains out of a map until those that remain are planar. A sweep finds which ones, and few more than have to go; another one over
+/// Takes chains out of a map until those that remain are planar. Which ones is found by a sweep on which nothing rests, and another one over
 /// those that remain says that they are planar. Where it doesn't, no part is answered. The error is that memory was refused.
 pub fn planar_part(alloc: Global, map: &Map) -> Result<Option<PlanarPart>, AllocError>
     ensures planar { IfOk result (λ found. IfSome found (λ part. IsPlanar part.map.chains)) }
