@@ -14,8 +14,7 @@ use tl_tree_index::{BoxIndex, Conflict, Items, Memory};
 /// memory was refused.
 ///
 /// Each item is tested with the items of higher numbers whose rectangles meet its own, until one conflicts with it, and those
-/// that conflict with one are tested again with all of these. Beside the conflicts that are listed it keeps a mark of
-/// each item.
+/// that conflict with one are marked, and searched for again.
 pub fn all_conflicts<I: ConsistentItems, X: BoxIndex>(
     alloc: Global,
     index: &X,

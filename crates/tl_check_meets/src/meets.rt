@@ -30,8 +30,8 @@ pub fn all_meets<X: BoxIndex>(alloc: Global, index: &X, map: &Map) -> Result<Vec
     meets_of(alloc, map, &conflicts)
 }
 
-/// The same where the chains that aren't marked are planar among themselves. One search is made for each segment of a chain that is
-/// marked, and none for the others. A chain that has no mark isn't marked.
+/// All meets of a map's segments, in the same order, where the chains that aren't marked are planar among themselves. One search is made
+/// for each segment of a chain that is marked, and none for the others. A chain that has no mark isn't marked.
 pub fn all_meets_by_marks<X: BoxIndex>(
     alloc: Global,
     index: &X,

@@ -11,6 +11,8 @@
 //! ([`Gaps`]): `specs/Gaps` says which list is of all. It counts the places along the list where sides differ. Only where there are such
 //! does it look, at each vertex, at the gaps before, between and behind the segments that begin there: each other gap of the new list
 //! stood in the list before. Where a test fails on planar chains, slabs are listed one by one.
+//!
+//! Of a map whose chains aren't planar, [`planar_part`] takes chains out until those that remain are.
 #![tactic(auto)]
 
 mod answer;

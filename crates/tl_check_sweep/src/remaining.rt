@@ -21,7 +21,7 @@ pub struct PlanarPart {
     pub map: Map,
 }
 
-/// Takes chains out of a map until those that remain are planar. A sweep finds which ones, and few more than have to go; another one over
+/// Takes chains out of a map until those that remain are planar. Which ones is found by a sweep on which nothing rests; another one over
 /// those that remain says that they are planar, or which of them meet, and these are taken out too. Where some meet time after time, all
 /// chains are taken out; no map is known of which that is so. The error is that memory was refused.
 pub fn planar_part(alloc: Global, map: &Map) -> Result<PlanarPart, AllocError>

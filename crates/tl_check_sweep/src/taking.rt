@@ -6,7 +6,9 @@
 
 use crate::meets::may_meet;
 use std::alloc::{AllocError, Global};
-use tl_check_active::{Event, Events, Line, Places, are_tested, ends, gather, go_to_first, order};
+use tl_check_active::{
+    Event, Events, Line, Places, are_tested, bend, ends, gather, go_to_first, order,
+};
 use tl_geom::Point;
 use tl_map_county::Map;
 
@@ -182,13 +184,24 @@ impl<'a> Taking<'a> {
         order(self.map, outs);
         order(self.map, ins);
         go_to_first(self.map, p, &mut self.line, &self.places, outs)?;
-        self.leave(p);
-        for s in &*ins {
-            self.enter(*s)?;
+        if !self.is_bent(outs, ins)? {
+            self.leave(p);
+            for s in &*ins {
+                self.enter(*s)?;
+            }
         }
         self.close()?;
         self.places.keep(&self.line, ins);
         Ok(())
+    }
+
+    /// Puts a segment in the stead of another one, where one ends and one begins and that can be: so it is at most vertices.
+    fn is_bent(&mut self, outs: &[u32], ins: &[u32]) -> Result<bool, AllocError> {
+        if outs.len() != 1 || ins.len() != 1 {
+            return Ok(false);
+        }
+        // Where the test with the one behind fails, it stands there nevertheless.
+        Ok(bend(self.map, &mut self.line, outs[0], ins[0])? || self.line.previous() == Some(ins[0]))
     }
 
     /// Takes segments off the list behind the place that end at a point, and those of chains that are taken out.

@@ -3,7 +3,8 @@
 //! Where `tl_build` names one fault of a county, [`list_faults`] lists them all: every line that is refused; where none is,
 //! every fault of the records; and where they have none, every fault of their map. The text is read once. Each record
 //! goes to both what tells the records' faults (`tl_list_records`) and what draws the map (`tl_map`). A sweep over the map
-//! tells whether chains meet (`tl_check_sweep`), and where they do, a search lists all their meets.
+//! tells whether chains meet (`tl_check_sweep`). Where they do, chains are taken out until the others are planar, and their meets are
+//! searched for (`tl_check_meets`).
 #![tactic(auto)]
 
 pub mod laws;
