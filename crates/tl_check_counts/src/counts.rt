@@ -53,7 +53,7 @@ impl PointCounts {
     ghost use Rattle.std.specs.Prelude.{◌≡◌, ◌<◌, Some, None, All, OnOk, IfOk, MatchOption, length, slice_get, slice_set};
 
     /// Nothing is known of so many points.
-    fn new(alloc: Global, points: usize) -> Result<PointCounts, AllocError>
+    pub fn new(alloc: Global, points: usize) -> Result<PointCounts, AllocError>
         ensures long { IfOk result (λ counts. length counts ≡ points) }
         ensures none { IfOk result (λ counts. All (λ known. known ≡ None) counts) }
     {
@@ -78,8 +78,8 @@ impl PointCounts {
         Some(&self.flanks[part.from..part.to])
     }
 
-    /// Keeps flanks that tell them.
-    fn keep(&mut self, place: usize, flanks: &[Flanks]) -> Result<(), AllocError>
+    /// Keeps flanks that tell those of the point at a place. The error is that memory was refused.
+    pub fn keep(&mut self, place: usize, flanks: &[Flanks]) -> Result<(), AllocError>
         requires { place < length self.old }
         ensures { OnOk result (self.new ≡ slice_set self.old place (Some flanks.now)) }
     {

@@ -98,3 +98,13 @@ tell_both marks chains q one other proper few first second S none =
     let parts = parted_weight q S marks chains few in
     let both = balance_both S one other in
     subst (λ z. IsCount chains q S z) (let is : whole.0 ≡ balance S (one ++ other) = omega (arith, ints, all, rest, taken, parts, both) in is) whole.1
+
+-- and in the other order
+pub tell_turned : (marks : List Bool) (chains : List MapChain) (q : Point) (one other : List Flanks) → AreProper chains → length chains ≤ length marks
+    → TellCounts (remaining marks chains) q one → TellCounts (remaining (others marks) chains) q other → TellCounts chains q (other ++ one)
+tell_turned marks chains q one other proper few first second S none =
+    let is : balance S (one ++ other) ≡ balance S (other ++ one) =
+    let here = balance_both S one other in
+    let there = balance_both S other one in
+    omega (arith, ints, here, there) in
+    subst (λ z. IsCount chains q S z) is (tell_both marks chains q one other proper few first second S none)

@@ -140,8 +140,3 @@ meet_is_fault m (meet ∷ meets) all some = (fault.Meet meet, all.true_ones 0 me
 pub all_agreeing : (m : TheMap) (old cells faults : List MapFault) → IsPlanar m.chains → old ≡ [] → SidesAgree m.chains → AddsCells m old cells
     → AddsPoints m false cells faults → AreMapFaults m faults false
 all_agreeing m old cells faults planar none agree told points = all_told m [] false old cells faults (no_meets m.chains planar) none (agreeing m old cells agree told) points
-
--- where sides differ nowhere, they agree
-pub sides_agree : (m : TheMap) (old new : List MapFault) → ((chains : List MapChain) (found : List Disagreement) → AreAllDisagreements chains found → SidesAgree chains ↔ (found ≡ []))
-    → AddsAgreement m false old new → SidesAgree m.chains
-sides_agree m old new law told = (law m.chains told.sides told.all_sides).1 told.is

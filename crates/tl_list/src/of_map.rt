@@ -7,20 +7,20 @@ ghost use Rattle.tl_check_planar.specs.Rectangles.{segment_rect};
 ghost use Rattle.tl_check_inside.specs.Placed.{ArePlaced};
 ghost use Rattle.tl_check_planar.specs.ByHeight.Heights.{widest};
 ghost use Rattle.tl_check_sweep.specs.Gaps.{AreAllOddGaps};
-ghost use Rattle.tl_check_meets.specs.Meets.{AreAllMeets};
 ghost use Rattle.tl_check_inside.specs.Suspects.{AreSuspects};
 ghost use Rattle.tl_check_verdict.specs.Sound.{IsSound};
 ghost use Rattle.tl_check_verdict.specs.Verdicts.{IsReport};
-ghost use Rattle.tl_list.specs.Keeping.OfMap.{IsListingOfMap, IsListingFor, IsPlanarPart};
+ghost use Rattle.tl_check_sweep.specs.Parts.{IsPlanarPart};
+ghost use Rattle.tl_list.specs.Keeping.OfMap.{IsListingOfMap, IsListingFor};
 
 use crate::met::list_met;
 use crate::planar::list_planar;
 use crate::tell::push_faces;
 use std::alloc::Global;
 use tl_check_faces::OddGap;
+use tl_check_meets::all_meets_by_marks;
 use tl_check_meets::laws::planar_where_no_meet_is_listed;
-use tl_check_meets::{all_meets, all_meets_by_marks};
-use tl_check_planar::{Meet, Segments};
+use tl_check_planar::Segments;
 use tl_check_sweep::face_search::all_face_faults;
 use tl_check_sweep::{Gaps, PlanarPart, SweepReport, Swept, planar_part, sweep};
 use tl_check_verdict::Report;
@@ -142,52 +142,33 @@ fn list_by_search(alloc: Global, map: &Map, suspects: Vec<u32>) -> Result<Listin
         return Err(Memory);
     };
     match FlatTree::from_nodes(alloc, &nodes) {
-        Ok(tree) => list_by(alloc, &tree, map, part, suspects),
+        Ok(tree) => list_by(alloc, &tree, map, &part, suspects),
         Err(TreeStop::Memory) => Err(Memory),
         // A tree that is packed is never so deep.
         Err(TreeStop::TooDeep) => unreachable!(),
     }
 }
 
-/// The same by an index that fits the map's segments, and by the planar part of the map, where one was found.
+/// The same by an index that fits the map's segments, and by the planar part of the map.
 fn list_by<X: BoxIndex>(
     alloc: Global,
     index: &X,
     map: &Map,
-    part: Option<PlanarPart>,
+    part: &PlanarPart,
     suspects: Vec<u32>,
 ) -> Result<Listing, Memory>
     requires fits { X.fits index.now (segments_before map.now.chains (length map.now.chains))
         (segment_rect map.now.chains) }
-    requires part { IfSome part (IsPlanarPart map.now) }
+    requires part { IsPlanarPart map.now part.now }
     requires suspects { AreSuspects map.now suspects.items }
     ensures { IfOk result (IsListingOfMap map.now) }
 {
-    let meets = meets_by(alloc, index, map, &part)?;
-    drop(part);
+    let meets = all_meets_by_marks(alloc, index, map, &part.marks)?;
     // So the chains are planar where there is none.
     planar_where_no_meet_is_listed();
     if meets.is_empty() {
         list_planar(alloc, map, suspects)
     } else {
-        list_met(alloc, index, map, meets, suspects)
-    }
-}
-
-/// All meets of a map, by its planar part where one was found.
-fn meets_by<X: BoxIndex>(
-    alloc: Global,
-    index: &X,
-    map: &Map,
-    part: &Option<PlanarPart>,
-) -> Result<Vec<Meet>, Memory>
-    requires fits { X.fits index.now (segments_before map.now.chains (length map.now.chains))
-        (segment_rect map.now.chains) }
-    requires part { IfSome part.now (IsPlanarPart map.now) }
-    ensures { IfOk result (λ meets. AreAllMeets map.now.chains meets.items) }
-{
-    match part {
-        Some(part) => all_meets_by_marks(alloc, index, map, &part.marks),
-        None => all_meets(alloc, index, map),
+        list_met(alloc, index, map, part, meets, suspects)
     }
 }

@@ -1,13 +1,15 @@
 //! What is wrong with a map, found and told one kind behind the other.
 
-ghost use Rattle.std.specs.Prelude.{false, IfOk, OnOk, length};
+ghost use Rattle.std.specs.Prelude.{false, IfOk, IfSome, OnOk, length};
 ghost use Rattle.tl_map_county.specs.Segments.{segments_before};
 ghost use Rattle.tl_check_planar.specs.Rectangles.{segment_rect};
 ghost use Rattle.tl_check_inside.specs.Suspects.{AreSuspects};
+ghost use Rattle.tl_check_sweep.specs.Parts.{IsPlanarPart};
 ghost use Rattle.tl_list.specs.Keeping.OfMap.{AddsAgreement, AddsCells, AddsPoints};
 
 use crate::tell::{push_cells, push_points, push_sides};
 use std::alloc::Global;
+use tl_check_sweep::PlanarPart;
 use tl_check_verdict::MapFault;
 use tl_list_map::nodes::{all_cells_at_odds, all_disagreements};
 use tl_list_map::points::all_misplaced_among;
@@ -38,20 +40,22 @@ pub fn push_all_cells(alloc: Global, map: &Map, faults: &mut Vec<MapFault>) -> R
     push_cells(faults, &cells)
 }
 
-/// Appends what is wrong with where polygons' points lie, by an index that fits the map's segments, where the points of all
-/// polygons but these are known to lie where they have to.
+/// Appends what is wrong with where polygons' points lie, by an index that fits the map's segments and, where chains meet, a part of
+/// the map that is planar, where the points of all polygons but these are known to lie where they have to.
 pub fn push_misplaced<X: BoxIndex>(
     alloc: Global,
     index: &X,
     map: &Map,
+    part: Option<&PlanarPart>,
     mut suspects: Vec<u32>,
     faults: &mut Vec<MapFault>,
 ) -> Result<(), Memory>
     requires fits { X.fits index.now (segments_before map.now.chains (length map.now.chains))
         (segment_rect map.now.chains) }
+    requires part { IfSome part (λ part. IsPlanarPart map.now part.now) }
     requires suspects { AreSuspects map.now suspects.items }
     ensures { OnOk result (AddsPoints map.now false faults.old.items faults.new.items) }
 {
-    let points = all_misplaced_among(alloc, index, map, &mut suspects)?;
+    let points = all_misplaced_among(alloc, index, map, part, &mut suspects)?;
     push_points(faults, &points)
 }

@@ -137,7 +137,7 @@ fn push_by_new_tree(
         return Err(Memory);
     };
     match FlatTree::from_nodes(alloc, &nodes) {
-        Ok(tree) => push_misplaced(alloc, &tree, map, suspects, faults),
+        Ok(tree) => push_misplaced(alloc, &tree, map, None, suspects, faults),
         Err(TreeStop::Memory) => Err(Memory),
         // A tree that is packed is never so deep.
         Err(TreeStop::TooDeep) => unreachable!(),

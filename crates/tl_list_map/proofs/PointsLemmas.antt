@@ -9,3 +9,4 @@ pub mod Crossing
 pub mod Placed
 pub mod Suspected
 pub mod Known
+pub mod Joined

@@ -9,6 +9,7 @@ pub mod laws;
 mod listed;
 mod misplaced;
 mod odd;
+mod parted;
 mod room;
 mod telling;
 

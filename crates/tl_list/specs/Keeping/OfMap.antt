@@ -1,9 +1,6 @@
 -- What is told of a map.
 use Rattle.std.specs.Prelude.{◌≡◌, ◌≢◌, ℕ, Bool, true, false, List, [], ◌++◌, map, length}
 use Rattle.tl_map_county.specs.TheMap.{TheMap}
-use Rattle.tl_map_county.specs.Remaining.{map_without}
-use Rattle.tl_check_planar.specs.Planar.{IsPlanar}
-use Rattle.tl_check_sweep.specs.declared.remaining.PlanarPart.{PlanarPart}
 use Rattle.tl_check_sides.specs.declared.fault.Disagreement.{Disagreement}
 use Rattle.tl_check_sides.specs.Sides.{SidesAgree}
 use Rattle.tl_check_sides.specs.Walks.{AreWalks}
@@ -32,11 +29,6 @@ abbrev pub IsListingFor : (faces : Bool) → TheMap → Listing → Type 0
 IsListingFor faces m (Sound report) = IsSoundFor faces m × IsReport m report
 IsListingFor faces m (Refused list) = ⊥
 IsListingFor faces m (Faults faults points_left) = (faults.items ≢ []) × AreFaultsFor faces m faults.items points_left
-
--- the part's chains are those of the map that it doesn't mark, and they are planar
-pub record IsPlanarPart (m : TheMap) (part : PlanarPart) : Type 0 where
-  pub is : part.map ≡ map_without part.marks.items m
-  pub planar : IsPlanar part.map.chains
 
 -- some fault is true of the map
 abbrev pub IsFaulty : TheMap → Type 0

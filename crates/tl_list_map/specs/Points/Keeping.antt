@@ -3,3 +3,4 @@ pub mod Listed
 pub mod Odd
 pub mod Parts
 pub mod Known
+pub mod Joined

@@ -1,11 +1,13 @@
 //! The same of some polygons.
 
-ghost use Rattle.std.specs.Prelude.{◌<◌, length, All, IfOk, IfSome, OnOk};
+ghost use Rattle.std.specs.Prelude.{◌≡◌, ◌<◌, length, All, IfOk, IfSome, OnOk};
 ghost use Rattle.std.specs.List.Sorted.{IsStrictlyIncreasing};
 ghost use Rattle.tl_map_county.specs.Segments.{segments_before};
 ghost use Rattle.tl_check_planar.specs.Rectangles.{segment_rect};
 ghost use Rattle.tl_check_inside.specs.Keeping.Probing.{ChainsAreInReach};
 ghost use Rattle.tl_check_inside.specs.Keeping.Tallies.{AreClear};
+ghost use Rattle.tl_check_counts.specs.Counts.{AreCountsAt};
+ghost use Rattle.tl_check_sweep.specs.Parts.{IsPlanarPart};
 ghost use Rattle.tl_list_map.specs.Points.AllMisplaced.{AreAllMisplaced};
 ghost use Rattle.tl_list_map.specs.Points.Keeping.Known.{TellAt};
 ghost use Rattle.tl_list_map.specs.Points.Keeping.Parts.{IsOfPolygon, IsOfAny, AreFaultsIn, HasPart};
@@ -14,33 +16,57 @@ ghost use Rattle.tl_check_inside.specs.Suspects.{AreSuspects};
 use crate::points::listed::sort_once;
 use crate::points::misplaced::list_at;
 use crate::points::odd::list_odd;
+use crate::points::parted::count_by_parts;
 use crate::points::room::Room;
 use crate::points::telling::push_wrong;
 use std::alloc::Global;
-use tl_check_counts::count_at;
-use tl_check_inside::{Flanks, Misplaced, look_at_points};
+use tl_check_counts::{PointCounts, count_at};
+use tl_check_inside::{Flanks, Misplaced, Site, look_at_points};
 use tl_check_points::sites_of;
+use tl_check_sweep::PlanarPart;
 use tl_map_county::Map;
 use tl_tree_index::{BoxIndex, Memory};
 
 /// All faults of the points of a map's polygons, as [`crate::points::all_misplaced`] lists them, where the points of all polygons but
 /// these are known to lie where they have to. These are given in any order, and are left sorted. The counts at most of them become known
-/// in one sweep over the map, where there are more than a few; it takes a search for each of the others alone. An error says that memory
-/// was refused.
+/// in one sweep over the map or, where its chains meet, over a part of it that is planar; it takes a search for each of the others alone.
+/// An error says that memory was refused.
 pub fn all_misplaced_among<X: BoxIndex>(
     alloc: Global,
     index: &X,
     map: &Map,
+    part: Option<&PlanarPart>,
     suspects: &mut Vec<u32>,
 ) -> Result<Vec<Misplaced>, Memory>
     requires fits { X.fits index.now (segments_before map.now.chains (length map.now.chains))
         (segment_rect map.now.chains) }
+    requires part { IfSome part (λ part. IsPlanarPart map.now part.now) }
     requires suspects { AreSuspects map.now suspects.old.items }
     ensures { IfOk result (λ found. AreAllMisplaced map.now found.items) }
 {
     look_at_points(map);
     sort_once(suspects);
-    list_each(alloc, index, map, suspects)
+    list_each(alloc, index, map, part, suspects)
+}
+
+/// The counts of all polygons at these points, in one sweep over the map or by such a part.
+fn counts_of(
+    alloc: Global,
+    map: &Map,
+    part: Option<&PlanarPart>,
+    sites: &[Site],
+) -> Result<PointCounts, Memory>
+    requires { IfSome part (λ part. IsPlanarPart map.now part.now) }
+    ensures long { IfOk result (λ counts. length counts ≡ length sites.now) }
+    ensures counts { IfOk result (AreCountsAt map.now.chains sites.now) }
+{
+    if let Some(part) = part {
+        return count_by_parts(alloc, map, part, sites);
+    }
+    match count_at(alloc, map, sites) {
+        Ok(counts) => Ok(counts),
+        Err(_) => Err(Memory),
+    }
 }
 
 /// The faults of the points of these polygons, in their order.
@@ -48,19 +74,19 @@ fn list_each<X: BoxIndex>(
     alloc: Global,
     index: &X,
     map: &Map,
+    part: Option<&PlanarPart>,
     polygons: &[u32],
 ) -> Result<Vec<Misplaced>, Memory>
     requires fits { X.fits index.now (segments_before map.now.chains (length map.now.chains))
         (segment_rect map.now.chains) }
+    requires part { IfSome part (λ part. IsPlanarPart map.now part.now) }
     requires reach { ChainsAreInReach map.now.chains }
     requires known { All (λ p. p < length map.now.polygons) polygons.now }
     requires rising { IsStrictlyIncreasing polygons.now }
     ensures { IfOk result (λ found. AreFaultsIn map.now (IsOfAny polygons.now) found.items) }
 {
     let sites = sites_of(alloc, map, polygons)?;
-    let Ok(counts) = count_at(alloc, map, &sites) else {
-        return Err(Memory);
-    };
+    let counts = counts_of(alloc, map, part, &sites)?;
     let mut room = Room::new(alloc, map.polygons() as usize)?;
     let mut found = Vec::new(alloc);
     for place in 0..polygons.len() {

@@ -85,7 +85,7 @@ pub fn list_at<X: BoxIndex>(
 
 /// Lists the chains that hold a point, by rising number, and the flanks of the segments that its ray crosses, in the place
 /// of what was listed.
-fn look_about<X: BoxIndex>(
+pub fn look_about<X: BoxIndex>(
     index: &X,
     map: &Map,
     site: Site,

@@ -1,13 +1,8 @@
 use Rattle.std.proofs.Common.{subst}
 use Rattle.std.proofs.lemmas.Result.{err_from_is_err_and}
 use Rattle.tl_list.specs.Keeping.OfMap.{AddsAgreement}
-use Rattle.tl_list.proofs.OfMap.{points_left, sides_agree}
+use Rattle.tl_list.proofs.OfMap.{points_left}
 use Rattle.tl_list.proofs.met.push_rest.Goals as goal
-
-pub push_points_by_rings-requires-clause-agree : goal.push_points_by_rings-requires-clause-agree
-push_points_by_rings-requires-clause-agree g c =
-    sides_agree c.args.map.now c.args.faults.now.items c.push_disagreements.new.faults.items c.sides_agree_where_no_disagreement_is_listed.ensures
-    (subst (λ left. AddsAgreement c.args.map.now left c.args.faults.now.items c.push_disagreements.new.faults.items) c.if-left.false c.in_ok-left.ensures)
 
 pub returns-then-left : goal.returns-then-left
 returns-then-left g c = record {
@@ -20,11 +15,11 @@ pub returns : goal.returns
 returns g c = record {
   between = c.push_disagreements.new.faults.items;
   agreement = subst (λ left. AddsAgreement c.args.map.now left c.args.faults.now.items c.push_disagreements.new.faults.items) c.if-left.false c.in_ok-left.ensures;
-  points = c.in_ok-push_points_by_rings.ensures;
+  points = c.in_ok-push_misplaced.ensures;
 }
 
 pub returns-in_err-left : goal.returns-in_err-left
 returns-in_err-left g c = let p = err_from_is_err_and c.from_residual.result c.from_residual.ensures.1 in rw p.1 tt
 
-pub returns-in_err-push_points_by_rings : goal.returns-in_err-push_points_by_rings
-returns-in_err-push_points_by_rings g c = let p = err_from_is_err_and c.from_residual-in_err-push_points_by_rings.result c.from_residual-in_err-push_points_by_rings.ensures.1 in rw p.1 tt
+pub returns-in_err-push_misplaced : goal.returns-in_err-push_misplaced
+returns-in_err-push_misplaced g c = let p = err_from_is_err_and c.from_residual-in_err-push_misplaced.result c.from_residual-in_err-push_misplaced.ensures.1 in rw p.1 tt

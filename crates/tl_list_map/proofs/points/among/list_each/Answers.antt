@@ -20,11 +20,11 @@ pub list_one-requires-clause-tell : goal.list_one-requires-clause-tell
 list_one-requires-clause-tell g c =
     let m = c.args.map.now in
     let k = c.loop-place.place in
-    some_more {X = Bor (List Flanks)} c.at.result (slice_get c.in-Ok.counts k ≡ Some None) (λ flanks. slice_get c.in-Ok.counts k ≡ Some (Some flanks.now))
+    some_more {X = Bor (List Flanks)} c.at.result (slice_get c.in_ok-counts.counts k ≡ Some None) (λ flanks. slice_get c.in_ok-counts.counts k ≡ Some (Some flanks.now))
     (λ flanks. TellAt m (get_or c.args.polygons.now k 0) flanks.now)
     (λ flanks.
     tell_at m c.deref.result.now c.args.polygons.now (subst (All (IsSiteOf m)) (sym c.deref.ensures.value) c.in_ok-sites.ensures.sites)
-    (ap numbers c.deref.ensures.value ∙ c.in_ok-sites.ensures.polygons) c.in-Ok.counts c.in-Ok.ensures.counts k 0 c.loop-place-test.true flanks.now)
+    (ap numbers c.deref.ensures.value ∙ c.in_ok-sites.ensures.polygons) c.in_ok-counts.counts c.in_ok-counts.ensures.counts k 0 c.loop-place-test.true flanks.now)
     c.at.ensures
 
 pub list_one-requires-clause-clear : goal.list_one-requires-clause-clear
