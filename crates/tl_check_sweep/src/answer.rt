@@ -47,7 +47,7 @@ pub enum Swept {
 #[derive(Drop)]
 pub struct SweepReport {
     pub swept: Swept,
-    /// Polygons by their numbers: the point of each other one lies where it has to. Where the chains aren't found to be planar, these are all.
+    /// Polygons by their numbers: the point of each other one lies where it has to. Where a test of the sweep failed, these are all.
     pub suspects: Vec<u32>,
     /// Gaps whose facing sides differ, those that were asked for; none where segments meet.
     pub gaps: Vec<OddGap>,
