@@ -12,7 +12,8 @@ use Rattle.tl_check_counts.specs.declared.labels.Labels.{Labels}
 use Rattle.tl_check_counts.specs.Keeping.Balances.{HaveOneBalance}
 use Rattle.tl_check_counts.specs.Keeping.Ways.{TellGap, AreKept}
 use Rattle.tl_check_counts.specs.Keeping.Labels.{AreLabelled, IsOnce, HasEntered}
-use Rattle.tl_check_counts.proofs.Treed.{kept_none, kept_on}
+use Rattle.tl_check_counts.proofs.Treed.{kept_none, kept_on, still_told}
+use Rattle.tl_check_counts.proofs.Balances.{same_balance}
 use Rattle.tl_check_counts.proofs.Labelled.{still_labelled, labelled_behind, labelled_within}
 
 -- those from a place on have entered
@@ -121,3 +122,30 @@ module _ (n : ℕ) (chains : List MapChain) where
 
       once_behind : IsOnce (ins ++ back)
       once_behind t = let a = counts t in let few = once t in let b = times-append t ins back in omega (arith, a, few, b)
+
+  -- where a segment stands in the stead of another of the same sides, and has its label
+  pub handed_on : (old new : Labels) (west : List ℕ) (out s : ℕ) (back : List ℕ) → IsOnce ((west ++ s ∷ []) ++ back) →
+      new.gaps.items ≡ old.gaps.items → flanks_at chains out ≡ flanks_at chains s →
+      slice_index new.labels.items s ≡ slice_index old.labels.items out →
+      ((t : ℕ) → t ≢ s → slice_index new.labels.items t ≡ slice_index old.labels.items t) →
+      AreLabelled n chains old.gaps.items old.labels.items (west ++ ((out ∷ []) ++ back)) →
+      AreLabelled n chains new.gaps.items new.labels.items (west ++ ((s ∷ []) ++ back))
+  handed_on old new west out s back once gaps alike label others all =
+      labelled_within n chains old.gaps.items new.gaps.items old.labels.items new.labels.items west (out ∷ []) (s ∷ []) back
+      (subst (λ f. HaveOneBalance (flanks_at chains out ∷ []) (f ∷ [])) alike (same_balance (flanks_at chains out ∷ []))) kept all
+      (λ t some. others t (λ e. let a = counts t in let b = times-same t s [] e in let few = once t in omega (arith, a, b, few, some))) (
+        subst (λ g. TellGap n new.gaps.items g (flanks_in chains (s ∷ back))) (sym label)
+            (still_told n old.gaps.items new.gaps.items (slice_index old.labels.items out) (flanks_in chains (s ∷ back)) kept
+            (subst (λ f. TellGap n old.gaps.items (slice_index old.labels.items out) (f ∷ flanks_in chains back)) alike here.0)),
+        still_labelled n chains old.gaps.items new.gaps.items old.labels.items new.labels.items back kept
+            (λ t some. others t (λ e. let a = counts t in let b = times-same t s [] e in let few = once t in omega (arith, a, b, few, some))) here.1,
+      )
+    where
+      kept : AreKept n old.gaps.items new.gaps.items
+      kept = subst (AreKept n old.gaps.items) (sym gaps) (kept_none n old.gaps.items)
+
+      here : AreLabelled n chains old.gaps.items old.labels.items (out ∷ back)
+      here = labelled_behind n chains old.gaps.items old.labels.items west (out ∷ back) all
+
+      counts : (t : ℕ) → times t ((west ++ s ∷ []) ++ back) ≡ times t west + times t (s ∷ []) + times t back
+      counts t = let a = times-append t (west ++ s ∷ []) back in let b = times-append t west (s ∷ []) in omega (arith, a, b)

@@ -28,6 +28,24 @@ fn are_same(one: Side, other: Side) -> bool
     one == other
 }
 
+/// Whether there are both segments, and both have the same sides.
+pub fn are_alike(map: &Map, one: u32, other: u32) -> bool
+    ensures { IsTrue result → flanks_at (raised map.now.chains) one ≡ flanks_at (raised map.now.chains) other }
+{
+    match (find_flanks(map, one), find_flanks(map, other)) {
+        (Some(sides), Some(others)) => have_same_sides(sides, others),
+        (None, _) => false,
+        (Some(_), None) => false,
+    }
+}
+
+/// Whether both sides are the same.
+fn have_same_sides(one: Flanks, other: Flanks) -> bool
+    ensures { IsTrue result → one ≡ other }
+{
+    are_same(one.near, other.near) && are_same(one.far, other.far)
+}
+
 /// The side that is come to from another one over these segments, if each has the side before it on its near side.
 fn walk(map: &Map, from: Side, list: &[u32]) -> Option<Side>
     ensures { IfSome result (LeadsTo (flanks_in (raised map.now.chains) list.now) from) }

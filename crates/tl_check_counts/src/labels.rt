@@ -1,5 +1,5 @@
 //! The gaps between neighbours of the list of active segments, and the segments' labels.
-ghost use Rattle.std.specs.Prelude.{◌≡◌, ◌≢◌, ℕ, List, ◌∷◌, [], Some, IfOk, length, slice_index};
+ghost use Rattle.std.specs.Prelude.{◌≡◌, ◌≢◌, ℕ, List, ◌∷◌, [], Some, IfOk, IsTrue, length, slice_index};
 ghost use Rattle.tl_map_county.specs.TheMap.{MapChain};
 ghost use Rattle.tl_check_inside.specs.declared.flanks.Flanks.{Flanks as TheFlanks};
 ghost use Rattle.tl_check_inside.specs.Inside.{flanks_at};
@@ -103,7 +103,22 @@ impl Labels {
         Ok(Some(number))
     }
 
-    /// Does so for each of these segments, from the last one, which stands west of a gap, to the first.
+    /// Labels a segment by the label of another one, in the stead of which it stands. It answers no where there is no such segment.
+    pub fn hand_on(&mut self, out: u32, s: u32) -> bool
+        ensures gaps { self.new.gaps.items ≡ self.old.gaps.items }
+        ensures label { IsTrue result → slice_index self.new.labels.items s ≡ slice_index self.old.labels.items out }
+        ensures others { (t : ℕ) → t ≢ s → slice_index self.new.labels.items t ≡ slice_index self.old.labels.items t }
+    {
+        if s as usize >= self.labels.len() {
+            return false;
+        }
+        let label = self.label(out);
+        self.labels[s as usize] = label;
+        true
+    }
+
+    /// Makes gaps for each of these segments and labels them, from the last one, which stands west of a gap, to the first. It answers the
+    /// number of the last gap that was made.
     pub fn enter_all(
         &mut self,
         map: &Map,
