@@ -10,5 +10,4 @@ pub mod MarkFacts
 pub mod Holding
 pub mod Packed
 pub mod SideLemmas
-pub mod ApartLemmas
 pub mod Soundness

@@ -97,32 +97,6 @@ pub fn propose_walks(alloc: Global, map: &Map) -> Result<Vec<Vec<u32>>, AllocErr
     walks_of(alloc, map, starts)
 }
 
-/// The walks of a map whose darts head apart about each node, planar or not; none where two of a node head in one direction.
-pub fn propose_walks_apart(alloc: Global, map: &Map) -> Result<Option<Vec<Vec<u32>>>, AllocError>
-    // Walks are given only where darts head apart, and none only where they don't.
-    ensures apart { IfOk result (λ found. MatchOption found (¬ HeadApart map.now.chains) (λ walks. HeadApart map.now.chains)) }
-    // They are the map's, where each chain has two points or more, of which neighbours differ.
-    ensures are_walks { IfOk result (λ found. IfSome found (λ walks. AreProper map.now.chains →
-        AreWalks map.now.chains (lists_in walks.items))) }
-    ensures counted { IfOk result (λ found. IfSome found (λ walks. AreDartLists (lists_in walks.items))) }
-{
-    let starts = sort_starts(alloc, map)?;
-    if !head_apart(map, &starts) {
-        return Ok(None);
-    }
-    Ok(Some(walks_of(alloc, map, starts)?))
-}
-
-/// Whether the darts of a map head apart about each node, by the sorted darts.
-fn head_apart(map: &Map, starts: &[HeadedDart]) -> bool
-    requires { AreStarts map.now.chains starts.now }
-    ensures { IsTrue result ↔ HeadApart map.now.chains }
-{
-    // that the nodes of a map are one list
-    let _nodes = map.nodes();
-    have_no_ties(starts)
-}
-
 /// The rounds of a map, by its sorted darts.
 fn rounds_of(alloc: Global, map: &Map, starts: &[HeadedDart]) -> Result<Vec<Vec<u32>>, AllocError>
     requires { AreStarts map.now.chains starts.now }

@@ -5,10 +5,10 @@ ghost use Rattle.std.specs.Prelude.{length, map, All, IfOk, IsTrue, slice_index_
 ghost use Rattle.std.specs.List.{concat};
 ghost use Rattle.tl_check_sides.specs.declared.headed.HeadedDart.{HeadedDart};
 ghost use Rattle.tl_build_propose.specs.Keeping.Lists.{darts_in, lists_in};
-ghost use Rattle.tl_build_propose.specs.Keeping.Sorting.{AreSorted, HaveNoTies, AreStarts, AreCut};
+ghost use Rattle.tl_build_propose.specs.Keeping.Sorting.{AreSorted, AreStarts, AreCut};
 
 use std::alloc::{AllocError, Global};
-use tl_check_sides::{HeadedDart, head_together, sort_darts};
+use tl_check_sides::{HeadedDart, sort_darts};
 use tl_map_county::{Keyed, Map, run_end};
 
 /// The darts of a map, those of each node together and counter-clockwise from east.
@@ -16,18 +16,6 @@ pub fn sort_starts(alloc: Global, map: &Map) -> Result<Vec<HeadedDart>, AllocErr
     ensures { IfOk result (λ starts. AreStarts map.now.chains starts.items) }
 {
     sort_darts(alloc, map)
-}
-
-/// Whether no two of some darts that follow one another start at one node and head in one direction.
-pub fn have_no_ties(starts: &[HeadedDart]) -> bool
-    ensures { IsTrue result ↔ HaveNoTies starts.now }
-{
-    for place in 1..starts.len() {
-        if head_together(&starts[place - 1], &starts[place]) {
-            return false;
-        }
-    }
-    true
 }
 
 /// The rounds of darts that stand together by their nodes.

@@ -8,5 +8,4 @@ mod Planar
 mod Conflicting
 mod Ordering
 mod Remaining
-mod Doubting
 mod Pairing

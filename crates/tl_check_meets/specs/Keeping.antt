@@ -4,4 +4,3 @@ pub mod Reaching
 pub mod Telling
 pub mod Pairing
 pub mod Marking
-pub mod Doubting

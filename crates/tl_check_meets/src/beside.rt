@@ -4,7 +4,7 @@ ghost use Rattle.tl_tree_index.specs.Hits.{AreHits};
 ghost use Rattle.tl_check_meets.specs.Keeping.Pairing.{IsFoundFrom, IsHitFrom};
 
 use crate::ConsistentItems;
-use crate::doubtful::is_marked;
+use crate::marks::is_marked;
 use tl_geom::Rect;
 use tl_tree_index::{BoxIndex, Items, Memory, Probe};
 

@@ -5,33 +5,13 @@ ghost use Rattle.tl_check_meets.specs.Keeping.Listing.{IsListed};
 ghost use Rattle.tl_check_meets.specs.Keeping.Pairing.{AreAllPairs, AreInOrder, IsConflictOf};
 
 use crate::ConsistentItems;
-use crate::doubtful::mark_doubtful;
 use crate::pairs::{Pair, all_pairs};
 use std::alloc::Global;
 use tl_tree_index::{BoxIndex, Conflict, Items, Memory};
 
-/// All conflicts of items, by an index that fits them, by rising `i` and of one `i` by rising `j`. An error says that
-/// memory was refused.
-///
-/// Each item is tested with the items of higher numbers whose rectangles meet its own, until one conflicts with it, and those
-/// that conflict with one are marked, and searched for again.
+/// All conflicts of items, by an index that fits them, by rising `i` and of one `i` by rising `j`, where of each two that conflict one is
+/// marked. For each item that is marked one search is made, and none for the others. An error says that memory was refused.
 pub fn all_conflicts<I: ConsistentItems, X: BoxIndex>(
-    alloc: Global,
-    index: &X,
-    items: &I,
-) -> Result<Vec<Conflict<I::C>>, Memory>
-where
-    I::C: Drop,
-    requires { X.fits index.now (I.count items.now) (I.bounds_of items.now) }
-    ensures { IfOk result (λ found. AreAllConflicts (I.count items.now) (I.tells items.now) found.items) }
-{
-    let marks = mark_doubtful(alloc, index, items)?;
-    all_conflicts_by_marks(alloc, index, items, &marks)
-}
-
-/// All conflicts of items, in the same order, where of each two that conflict one is marked. For each item that is marked one search
-/// is made, and none for the others. An error says that memory was refused.
-pub fn all_conflicts_by_marks<I: ConsistentItems, X: BoxIndex>(
     alloc: Global,
     index: &X,
     items: &I,

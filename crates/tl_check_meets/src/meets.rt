@@ -11,28 +11,18 @@ ghost use Rattle.tl_check_meets.specs.Meets.{AreAllMeets};
 ghost use Rattle.tl_check_meets.specs.Keeping.Marking.{AreMarkedSegments};
 ghost use Rattle.tl_check_meets.specs.Keeping.Telling.{IsMeetOf};
 
-use crate::conflicts::{all_conflicts, all_conflicts_by_marks};
-use crate::doubtful::is_marked;
+use crate::conflicts::all_conflicts;
+use crate::marks::is_marked;
 use std::alloc::Global;
 use tl_check_planar::{Meet, Segments};
 use tl_geom::Rational;
 use tl_map_county::Map;
 use tl_tree_index::{BoxIndex, Conflict, Memory};
 
-/// All meets of a map's segments, by an index that fits them, by rising `s` and of one `s` by rising `t`. An error says
-/// that memory was refused.
-pub fn all_meets<X: BoxIndex>(alloc: Global, index: &X, map: &Map) -> Result<Vec<Meet>, Memory>
-    requires { X.fits index.now (segments_before map.now.chains (length map.now.chains))
-        (segment_rect map.now.chains) }
-    ensures { IfOk result (λ meets. AreAllMeets map.now.chains meets.items) }
-{
-    let conflicts = all_conflicts(alloc, index, &Segments::new(map))?;
-    meets_of(alloc, map, &conflicts)
-}
-
-/// All meets of a map's segments, in the same order, where the chains that aren't marked are planar among themselves. One search is made
-/// for each segment of a chain that is marked, and none for the others. A chain that has no mark isn't marked.
-pub fn all_meets_by_marks<X: BoxIndex>(
+/// All meets of a map's segments, by an index that fits them, by rising `s` and of one `s` by rising `t`, where the chains that aren't
+/// marked are planar among themselves. One search is made for each segment of a chain that is marked, and none for the others. A chain
+/// that has no mark isn't marked. An error says that memory was refused.
+pub fn all_meets<X: BoxIndex>(
     alloc: Global,
     index: &X,
     map: &Map,
@@ -44,7 +34,7 @@ pub fn all_meets_by_marks<X: BoxIndex>(
     ensures { IfOk result (λ meets. AreAllMeets map.now.chains meets.items) }
 {
     let segments = mark_segments(alloc, map, marks)?;
-    let conflicts = all_conflicts_by_marks(alloc, index, &Segments::new(map), &segments)?;
+    let conflicts = all_conflicts(alloc, index, &Segments::new(map), &segments)?;
     drop(segments);
     meets_of(alloc, map, &conflicts)
 }

@@ -6,7 +6,7 @@ ghost use Rattle.tl_check_meets.specs.Keeping.Pairing.{pair_of, AreAllPairs, Are
 
 use crate::ConsistentItems;
 use crate::beside::list_beside;
-use crate::doubtful::is_marked;
+use crate::marks::is_marked;
 use std::alloc::Global;
 use tl_tree_index::{BoxIndex, Items, Memory};
 

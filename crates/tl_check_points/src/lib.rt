@@ -17,9 +17,7 @@ mod points;
 mod rings;
 mod sites;
 mod spot;
-mod suspects;
 
 pub use misplaced::{find_among_suspects, find_misplaced};
 pub use rings::Rings;
 pub use sites::sites_of;
-pub use suspects::list_suspects;

@@ -10,7 +10,7 @@ ghost use Rattle.tl_check_inside.specs.Suspects.{AreSuspects};
 ghost use Rattle.tl_check_points.specs.Rings.{AreBoxed};
 
 use crate::known::find_by_counts;
-use crate::points::{Wrong, look_at_points};
+use crate::points::look_at_points;
 use crate::rings::Rings;
 use crate::sites::sites_of;
 use std::alloc::Global;
@@ -38,7 +38,7 @@ pub fn find_misplaced<X: BoxIndex>(
     ensures { IfOk result (λ found. MatchOption found (ArePlaced map.now) (IsTrueMisplaced map.now)) }
 {
     let mut suspects = Vec::new(alloc);
-    match look_at_points(alloc, map, index, rings, Wrong::First, &mut suspects) {
+    match look_at_points(alloc, map, index, rings, &mut suspects) {
         Ok(None) => find_among_suspects(alloc, map, index, &suspects),
         Ok(Some(found)) => Ok(Some(found)),
         Err(refused) => Err(refused),

@@ -1,6 +1,6 @@
 //! The points of all polygons of a map, by its rings.
 
-ghost use Rattle.std.specs.Prelude.{◌≡◌, ◌↔◌, ℕ, ◌<◌, ◌^◌, None, Some, IsTrue, [], ◌∷◌, ◌++◌};
+ghost use Rattle.std.specs.Prelude.{◌≡◌, ◌↔◌, ℕ, ◌<◌, ◌^◌, Some, IsTrue, [], ◌∷◌, ◌++◌};
 ghost use Rattle.std.specs.Prelude.{length, All, IfOk, OnOk, MatchOption};
 ghost use Rattle.tl_map_county.specs.Segments.{segments_before};
 ghost use Rattle.tl_check_planar.specs.Rectangles.{segment_rect};
@@ -24,24 +24,13 @@ use tl_tree::FlatTree;
 use tl_tree_index::{BoxIndex, Memory, TreeStop};
 use tl_tree_pack::pack;
 
-/// Which of the points are asked for that are found not to lie where they have to.
-#[derive(Clone, Copy, PartialEq, Eq)]
-pub enum Wrong {
-    /// The first that is found.
-    First,
-    /// All of them.
-    All,
-}
-
 /// Looks at the points of all polygons by the rings of a map, where sides agree, and any index that fits its segments. It stops
-/// at the first that doesn't lie where it has to, if that is asked for, and appends it else, as it does each about which the
-/// rings have more darts than a ray has chains to look at.
+/// at the first that doesn't lie where it has to, and appends each about which the rings have more darts than a ray has chains to look at.
 pub fn look_at_points<X: BoxIndex>(
     alloc: Global,
     map: &Map,
     index: &X,
     rings: &Rings,
-    asked: Wrong,
     suspects: &mut Vec<u32>,
 ) -> Result<Option<Misplaced>, Memory>
     requires fits { X.fits index.now (segments_before map.now.chains (length map.now.chains)) (segment_rect map.now.chains) }
@@ -53,13 +42,12 @@ pub fn look_at_points<X: BoxIndex>(
     ensures found { IfOk result (λ found. MatchOption found
         ((p : ℕ) → p < length map.now.polygons → IsPlacedOrIn map.now suspects.new.items p) (IsTrueMisplaced map.now)) }
     ensures known { OnOk result (All (λ p. p < length map.now.polygons) suspects.new.items) }
-    ensures all { asked ≡ Wrong.All → IfOk result (λ found. found ≡ None) }
 {
     let Ok(nodes) = pack(alloc, rings) else {
         return Err(Memory);
     };
     match FlatTree::from_nodes(alloc, &nodes) {
-        Ok(tree) => look_by(alloc, map, index, rings, &tree, asked, suspects),
+        Ok(tree) => look_by(alloc, map, index, rings, &tree, suspects),
         Err(TreeStop::Memory) => Err(Memory),
         Err(TreeStop::TooDeep) => unreachable!(),
     }
@@ -72,7 +60,6 @@ fn look_by<X: BoxIndex, Y: BoxIndex>(
     index: &X,
     rings: &Rings,
     tree: &Y,
-    asked: Wrong,
     suspects: &mut Vec<u32>,
 ) -> Result<Option<Misplaced>, Memory>
     requires fits { X.fits index.now (segments_before map.now.chains (length map.now.chains)) (segment_rect map.now.chains) }
@@ -85,7 +72,6 @@ fn look_by<X: BoxIndex, Y: BoxIndex>(
     ensures found { IfOk result (λ found. MatchOption found
         ((p : ℕ) → p < length map.now.polygons → IsPlacedOrIn map.now suspects.new.items p) (IsTrueMisplaced map.now)) }
     ensures known { OnOk result (All (λ p. p < length map.now.polygons) suspects.new.items) }
-    ensures all { asked ≡ Wrong.All → IfOk result (λ found. found ≡ None) }
 {
     map.has_proper_chains();
     let Ok(heights) = Heights::of(alloc, map) else {
@@ -101,7 +87,7 @@ fn look_by<X: BoxIndex, Y: BoxIndex>(
         tree,
         heights: &heights,
     };
-    look_along(alloc, &by, &order, asked, suspects)
+    look_along(alloc, &by, &order, suspects)
 }
 
 /// The same by the polygons in an order, and the chains at each height.
@@ -109,7 +95,6 @@ fn look_along<X: BoxIndex, Y: BoxIndex>(
     alloc: Global,
     by: &Grounds<'_, X, Y>,
     order: &[u32],
-    asked: Wrong,
     suspects: &mut Vec<u32>,
 ) -> Result<Option<Misplaced>, Memory>
     requires sound { AreSound X.fits Y.fits by.now }
@@ -118,7 +103,6 @@ fn look_along<X: BoxIndex, Y: BoxIndex>(
     ensures found { IfOk result (λ found. MatchOption found
         (All (IsPlacedOrIn by.now.map.now suspects.new.items) order.now) (IsTrueMisplaced by.now.map.now)) }
     ensures known { OnOk result (All (λ p. p < length by.now.map.now.polygons) suspects.new.items) }
-    ensures all { asked ≡ Wrong.All → IfOk result (λ found. found ≡ None) }
 {
     let polygons = by.map.polygons() as usize;
     let mut near = no_counts(alloc, polygons)?;
@@ -128,7 +112,6 @@ fn look_along<X: BoxIndex, Y: BoxIndex>(
     look_at_each(
         by,
         order,
-        asked,
         suspects,
         &mut hits,
         &mut flanks,
@@ -141,7 +124,6 @@ fn look_along<X: BoxIndex, Y: BoxIndex>(
 fn look_at_each<X: BoxIndex, Y: BoxIndex>(
     by: &Grounds<'_, X, Y>,
     order: &[u32],
-    asked: Wrong,
     suspects: &mut Vec<u32>,
     hits: &mut Vec<u32>,
     flanks: &mut Vec<Flanks>,
@@ -155,7 +137,6 @@ fn look_at_each<X: BoxIndex, Y: BoxIndex>(
     ensures found { IfOk result (λ found. MatchOption found
         (All (IsPlacedOrIn by.now.map.now suspects.new.items) order.now) (IsTrueMisplaced by.now.map.now)) }
     ensures known { OnOk result (All (λ p. p < length by.now.map.now.polygons) suspects.new.items) }
-    ensures all { asked ≡ Wrong.All → IfOk result (λ found. found ≡ None) }
 {
     for k in 0..order.len() {
         let site = site_of(by.map, order[k]);
@@ -163,7 +144,7 @@ fn look_at_each<X: BoxIndex, Y: BoxIndex>(
         if is_right(look) {
             continue;
         }
-        if let Some(fault) = asked_of(look, asked) {
+        if let Some(fault) = wrong_of(look) {
             return Ok(Some(fault));
         }
         push_suspect(suspects, order[k])?;
@@ -181,15 +162,13 @@ fn is_right(look: Look) -> bool
     }
 }
 
-/// What was found to be wrong with a polygon's point, where the first such point is asked for.
-fn asked_of(look: Look, asked: Wrong) -> Option<Misplaced>
-    ensures wrong { (fault : Misplaced) → result ≡ Some fault → look ≡ Look.Wrong fault }
-    ensures all { asked ≡ Wrong.All → result ≡ None }
+/// What was found to be wrong with a polygon's point, if something was.
+fn wrong_of(look: Look) -> Option<Misplaced>
+    ensures { (fault : Misplaced) → result ≡ Some fault → look ≡ Look.Wrong fault }
 {
-    match (asked, look) {
-        (Wrong::First, Look::Wrong(fault)) => Some(fault),
-        (Wrong::First, _) => None,
-        (Wrong::All, _) => None,
+    match look {
+        Look::Wrong(fault) => Some(fault),
+        Look::Right | Look::Costly => None,
     }
 }
 

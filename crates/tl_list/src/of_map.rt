@@ -18,7 +18,7 @@ use crate::planar::list_planar;
 use crate::tell::push_faces;
 use std::alloc::Global;
 use tl_check_faces::OddGap;
-use tl_check_meets::all_meets_by_marks;
+use tl_check_meets::all_meets;
 use tl_check_meets::laws::planar_where_no_meet_is_listed;
 use tl_check_planar::Segments;
 use tl_check_sweep::face_search::all_face_faults;
@@ -163,7 +163,7 @@ fn list_by<X: BoxIndex>(
     requires suspects { AreSuspects map.now suspects.items }
     ensures { IfOk result (IsListingOfMap map.now) }
 {
-    let meets = all_meets_by_marks(alloc, index, map, &part.marks)?;
+    let meets = all_meets(alloc, index, map, &part.marks)?;
     // So the chains are planar where there is none.
     planar_where_no_meet_is_listed();
     if meets.is_empty() {

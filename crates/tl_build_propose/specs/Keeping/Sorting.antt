@@ -8,7 +8,6 @@ use Rattle.tl_map_county.specs.Nodes.{AreNodes}
 use Rattle.tl_geom.specs.Turning.{IsBelow}
 use Rattle.tl_tree_pack.specs.Lists.{HoldsAll}
 use Rattle.tl_check_sides.specs.declared.headed.HeadedDart.{HeadedDart}
-use Rattle.tl_check_sides.specs.Headed.{HeadTogether}
 use Rattle.tl_build_propose.specs.Keeping.Lists.{darts_in}
 
 -- the first comes before the other: its node has the lesser number, or both have one node and it heads before the other
@@ -18,10 +17,6 @@ ComesBefore s t = (s.node < t.node) ⊎ ((s.node ≡ t.node) × IsBelow s.headin
 -- none comes before the one in front of it
 abbrev pub AreSorted : List HeadedDart → Type 0
 AreSorted starts = (k : ℕ) (d : HeadedDart) → k + 1 < length starts → ¬ ComesBefore (slice_index_or starts (k + 1) d) (slice_index_or starts k d)
-
--- none ties with the one in front of it
-abbrev pub HaveNoTies : List HeadedDart → Type 0
-HaveNoTies starts = (k : ℕ) (d : HeadedDart) → k + 1 < length starts → ¬ HeadTogether (slice_index_or starts k d) (slice_index_or starts (k + 1) d)
 
 -- what is said of a dart is true: the number of its node, and its heading
 pub record IsStartOf (chains : List MapChain) (s : HeadedDart) : Type 0 where

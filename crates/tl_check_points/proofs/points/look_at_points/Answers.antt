@@ -23,6 +23,3 @@ returns-in-Ok-from_nodes-clause-found g c = c.look_by.ensures.found
 
 pub returns-in-Ok-from_nodes-clause-known : goal.returns-in-Ok-from_nodes-clause-known
 returns-in-Ok-from_nodes-clause-known g c = c.look_by.ensures.known
-
-pub returns-in-Ok-from_nodes-clause-all : goal.returns-in-Ok-from_nodes-clause-all
-returns-in-Ok-from_nodes-clause-all g c = c.look_by.ensures.all

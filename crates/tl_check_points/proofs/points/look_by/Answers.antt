@@ -29,6 +29,3 @@ returns-clause-found g c = placed_answer (IsTrueMisplaced c.args.map.now) c.look
 
 pub returns-clause-known : goal.returns-clause-known
 returns-clause-known g c = c.look_along.ensures.known
-
-pub returns-clause-all : goal.returns-clause-all
-returns-clause-all g c = c.look_along.ensures.all
