@@ -1,6 +1,6 @@
 //! The certificate that is proposed for a map.
 
-ghost use Rattle.std.specs.Prelude.{◌*◌, ◌≤◌, ◌↔◌, length, All, IfOk, IfSome, IsTrue, MatchOption};
+ghost use Rattle.std.specs.Prelude.{◌*◌, ◌≤◌, length, All, IfOk};
 ghost use Rattle.tl_tree_index.specs.Preorder.{IsPreorder};
 ghost use Rattle.tl_tree_index.specs.Trees.{depth, tree_of};
 ghost use Rattle.tl_tree_pack.specs.Packed.{IsEvenlySplit};
@@ -15,7 +15,7 @@ ghost use Rattle.tl_build_propose.specs.Keeping.Lists.{lists_in};
 ghost use Rattle.tl_build_propose.specs.Keeping.Proposed.{IsProposal};
 ghost use Rattle.tl_build_propose.specs.Keeping.Sorting.{AreStarts};
 
-use crate::rounds::{cut_rounds, have_no_ties, sort_starts};
+use crate::rounds::{cut_rounds, sort_starts};
 use crate::walks::{link_darts, trace_walks};
 use std::alloc::{AllocError, Global};
 use tl_cert::{Certificate, Counts};
