@@ -1,7 +1,9 @@
 //! The list of active segments, in blocks and parted at the place where the sweep is.
 ghost use Rattle.std.specs.Prelude.{◌≡◌, ◌≤◌, IfOk, IfErr, length, take, drop};
 
-use crate::blocks::{close, first_number, join, keep_place, last_number, lift, list_numbers, take_first};
+use crate::blocks::{
+    close, first_number, join, keep_place, last_number, lift, list_numbers, take_first,
+};
 use crate::search::find_first;
 use std::alloc::{AllocError, Global};
 use std::marker::Model;
