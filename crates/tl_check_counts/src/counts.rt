@@ -20,6 +20,10 @@ use tl_map_county::Map;
 /// So few points take no sweep: as many rays take fewer passes over the map.
 const FEW: usize = 16;
 
+/// So many flanks are kept for each gap and each point, all points together. As a rule a point has fewer; where most rings name polygons
+/// that lie elsewhere, lists are as long as there are rings about a point.
+const FLANKS_EACH: usize = 64;
+
 /// A part of a list, from one place up to another.
 #[derive(Clone, Copy)]
 struct Part {
@@ -93,7 +97,8 @@ impl PointCounts {
 
 /// The counts of all polygons at these points, where they become known in one sweep over the map and one walk from gap to gap. As a rule
 /// all points are known that are on no chain and at the height of no chain's point, where segments don't meet but at ends. Of a few points
-/// nothing is known: no sweep is made for them. The error is that memory was refused.
+/// nothing is known: no sweep is made for them. Nor is anything known of the rest where lists have become long. The error is that memory was
+/// refused.
 pub fn count_at(alloc: Global, map: &Map, sites: &[Site]) -> Result<PointCounts, AllocError>
     ensures long { IfOk result (λ counts. length counts ≡ length sites.now) }
     // Where flanks are known of a point, it is on no chain, and they tell the counts of all sides there.
@@ -168,12 +173,18 @@ fn visit_each(
     ensures long { OnOk result (length counts.new ≡ length sites.now) }
     ensures counts { OnOk result (AreCountsAt map.now.chains sites.now counts.new) }
 {
+    let most = FLANKS_EACH.saturating_mul(gaps.len().saturating_add(visits.len()));
+    let mut kept = 0usize;
     let mut gap = 0u32;
     for place in 0..visits.len() {
+        if kept > most {
+            return Ok(());
+        }
         let visit = visits[place];
         go(map, gaps, journal, gap, visit.gap)?;
         gap = visit.gap;
         shorten(journal, short, near, far)?;
+        kept = kept.saturating_add(journal.len());
         counts.keep(visit.place as usize, journal)?;
     }
     Ok(())
