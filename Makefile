@@ -21,6 +21,8 @@
 # make pictures            reads what `draw` makes, and shows it by a browser where one is there
 # make pages               looks at the manual page and the completions, which are made of the program's help, and at what
 #                          `--progress` shows
+# make real-maps           fetches Debian's r-cran-maps, audits its maps, and prints the table of docs/real-maps.md, with what GEOS
+#                          says of the same lines where python3-shapely is there
 # make promises            makes docs/promises.md anew behind its first page, from the contracts and their comments
 # make install PREFIX=..   installs the program as PREFIX/bin/tigertopo, its manual page and its completions
 # make uninstall PREFIX=.. takes these away
@@ -28,7 +30,7 @@
 PREFIX = /usr/local
 PROGRAM = crates/tigertopo/out/tigertopo
 
-.PHONY: build check wrong-bodies rows certificates judge full-size limits memory devices examples counties bench ways speed geojson pictures pages promises install uninstall
+.PHONY: build check wrong-bodies rows certificates judge full-size limits memory devices examples counties bench ways speed geojson pictures pages real-maps promises install uninstall
 
 build:
 	python3 proving/prove.py
@@ -94,6 +96,9 @@ geojson: build
 
 pictures: build
 	python3 tests/formats/pictures.py
+
+real-maps: build
+	/usr/bin/python3 real-maps/run.py
 
 pages: build
 	python3 tests/installed/installed.py
