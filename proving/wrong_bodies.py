@@ -3,34 +3,36 @@
 
 An edit in a crate's `must-fail` turns what a contract promises to a user, or to who calls the libraries: the gate tries it.
 One in `wrong-bodies` turns a body of a crate whose contracts serve the proofs of the crates above it. Where a contract there
-lets it through, it breaks no promise above. Behind a gate on the same machine nothing is proved again but what the
-edits need.
+lets it through, it breaks no promise above. The libraries below these crates are built first, where their sources have changed.
 
 usage: wrong_bodies.py [CRATE..]     with no CRATE, each crate that has such edits
 """
 
 import os
-import shutil
-import subprocess
 import sys
-import tempfile
-from pathlib import Path
+from concurrent.futures import ThreadPoolExecutor
 
 from gate import TOP, lanes
+from prove import kit
+
+FLAGS = ["--jobs", "1"]
+
+
+def edits_of(crate):
+    return sorted(str(it) for it in (TOP / "crates" / crate / "wrong-bodies").glob("*.edit"))
 
 
 def crates_with_some():
     return sorted(folder.parent.name for folder in TOP.glob("crates/*/wrong-bodies"))
 
 
-def copy_with_edits(to, names):
-    """A copy of the sources in which these crates' wrong bodies stand where `rt ci` looks for edits."""
-    shutil.copytree(TOP / "crates", to / "crates", ignore=shutil.ignore_patterns("out"))
-    for name in ("crates.txt", "HANDLES"):
-        shutil.copy(TOP / name, to / name)
-    for name in names:
-        crate = to / "crates" / name
-        shutil.copytree(crate / "wrong-bodies", crate / "must-fail", dirs_exist_ok=True)
+def tried(rt, crate):
+    """Tries the edits of a crate in turn, prints what the prover says of each, and gives how many it doesn't refuse."""
+    failed = 0
+    for is_refused, text in rt.must_fail_all(crate, edits_of(crate.name), FLAGS):
+        print(text.replace("must-fail ", "wrong-bodies ", 1), flush=True)
+        failed += not is_refused
+    return failed
 
 
 def main():
@@ -39,9 +41,17 @@ def main():
     lacking = [it for it in names if it not in some]
     if lacking:
         sys.exit(f"wrong_bodies.py: {lacking[0]} has no folder wrong-bodies")
-    with tempfile.TemporaryDirectory() as room:
-        copy_with_edits(Path(room), names)
-        return subprocess.run(["rt", "ci", *names], cwd=room, env={**os.environ, "RT_JOBS": str(lanes())}).returncode
+    rt = kit()
+    rt.rtlib.guarded()
+    os.chdir(TOP)
+    crates = [it for it in rt.rtlib.crates_below(os.getcwd()) if it.name in names]
+    for crate in crates:
+        if any(below.build_rlib(FLAGS, anew=False) for below in crate.below()):
+            sys.exit(f"wrong_bodies.py: a library below {crate.name} isn't proved")
+    with ThreadPoolExecutor(lanes()) as several:
+        failed = sum(several.map(lambda it: tried(rt, it), crates))
+    print(f"{sum(len(edits_of(it)) for it in names) - failed} refused, {failed} not refused")
+    return 1 if failed else 0
 
 
 if __name__ == "__main__":
