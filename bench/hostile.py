@@ -17,6 +17,7 @@ import math
 import shutil
 import statistics
 import subprocess
+import threading
 import time
 
 from run import BENCH, LONG, OF_SIDES, PROGRAM, SEEN, SIDED, SOUND, numbers, print_table, records_of
@@ -45,11 +46,13 @@ def is_sound(kind):
 def once(words, most):
     """The seconds of a run, or nothing where it takes longer than allowed."""
     begun = time.perf_counter()
-    try:
-        subprocess.run(words, stdout=subprocess.DEVNULL, stderr=subprocess.DEVNULL, timeout=most)
-    except subprocess.TimeoutExpired:
-        return None
-    return time.perf_counter() - begun
+    with subprocess.Popen(words, stdout=subprocess.DEVNULL, stderr=subprocess.DEVNULL) as ran:
+        ended = threading.Timer(most, ran.kill)
+        ended.start()
+        ran.wait()
+        ended.cancel()
+    taken = time.perf_counter() - begun
+    return taken if taken < most else None
 
 
 def seconds(words, runs, most):

@@ -35,7 +35,7 @@ run = bench_run()
 SWEEPS, SEARCHES, SLOW = "sweeps", "searches of all segments", "slabs listed one by one"
 COUNTED = {
     SWEEPS: ["tl_check_sweep::answer::sweep"],
-    SEARCHES: ["tl_check_sweep::pairs::find_in_pairs", "tl_check::search::search_tree", "tl_list::of_map::list_by_search"],
+    SEARCHES: ["tl_check_sweep::pairs::find_in_pairs", "tl_tree::search::search_within", "tl_list::of_map::list_by_search"],
     SLOW: ["tl_check_sweep::slabs::gaps::push_above"],
 }
 WANTED = {SWEEPS: 1, SEARCHES: 0, SLOW: 0}
