@@ -2,6 +2,7 @@
 use Rattle.std.proofs.Common.{◌≡◌, ℕ, zero, suc, ◌+◌, ◌-◌, ◌^◌, ◌≤◌, ◌<◌, true, false, List, [], ◌∷◌, Option, None, Some, Result, Ok, Err, length, drop, slice_get, refl, sym, ap, ◌∙◌, arith, inl, inr}
 use Rattle.std.proofs.lemmas.Bool.{cases_Bool}
 use Rattle.std.proofs.lemmas.Option.{slice_get_past}
+use Rattle.std.specs.Io.KnownBytes.{Keeps, prepend_known}
 use Rattle.memchr.specs.Find.{is_byte}
 use Rattle.tl_record.specs.declared.refusal.RefusalStop.{RefusalStop}
 use Rattle.tl_record.specs.declared.refusal.RefusalStop.TheVariants.{Device, Endless}
@@ -10,17 +11,16 @@ use Rattle.tl_record.proofs.LineLemmas.{raw_lines-first}
 use Rattle.tigertopo_where.specs.declared.lines.Found.{Found}
 use Rattle.tigertopo_where.specs.declared.lines.Found.TheVariants.{Missing}
 use Rattle.tigertopo_where.specs.LinePlaces.{line_count}
-use Rattle.tigertopo_where.specs.Finding.{Answers, IsCount, IsFound, Passes}
-
--- so many lines were taken off a text
-abbrev pub PassesTo : ℕ → Option (List ℕ) → Option (List ℕ) → Type 0
-PassesTo count None now = Unit {0}
-PassesTo count (Some text) None = ⊥
-PassesTo count (Some text) (Some rest) = (raw_lines rest ≡ drop count (raw_lines text)) × (count ≤ line_count text) × (count + length rest ≤ length text)
+use Rattle.tigertopo_where.specs.Finding.{Answers, IsCount, IsFound, Passes, PassesTo}
 
 pub passes_none : (text : Option (List ℕ)) → PassesTo 0 text text
 passes_none None = tt
 passes_none (Some text) = (refl, omega arith, omega arith)
+
+-- nothing was passed where a buffer is empty
+pub passes_fresh : (buffer : List ℕ) (text : Option (List ℕ)) → buffer ≡ [] → PassesTo 0 text (prepend_known buffer text)
+passes_fresh buffer None none = tt
+passes_fresh buffer (Some text) none = rw none (refl, omega arith, omega arith)
 
 -- what follows a first line is shorter
 shorter : (byte : ℕ) (text : List ℕ) → length (after_first_line (byte ∷ text)) ≤ length text
@@ -66,7 +66,7 @@ pub counts_whole : (count : ℕ) (first old new : Option (List ℕ)) → PassesT
 counts_whole count None old new so_far passes = tt
 counts_whole count (Some text) None new so_far passes = absurd so_far
 counts_whole count (Some text) (Some rest) new so_far passes =
-    let none = drop_none (raw_lines text) count (sym (ap raw_lines passes) ∙ so_far.0) in omega (arith, none, so_far.1)
+    let none = drop_none (raw_lines text) count (sym (ap raw_lines passes.0) ∙ so_far.0) in omega (arith, none, so_far.1)
 
 pub finds_none : (buffer : List ℕ) (count number : ℕ) (first old new : Option (List ℕ)) → count < number → PassesTo count first old → Answers old (Passes new) (Ok false)
     → Answers first (IsFound number buffer) (Ok Missing)
@@ -74,7 +74,7 @@ finds_none buffer count number None old new less so_far passes = tt
 finds_none buffer count number (Some text) None new less so_far passes = absurd so_far
 finds_none buffer count zero (Some text) (Some rest) new less so_far passes = absurd (omega arith)
 finds_none buffer count (suc before) (Some text) (Some rest) new less so_far passes =
-    let none = drop_none (raw_lines text) count (sym (ap raw_lines passes) ∙ so_far.0) in
+    let none = drop_none (raw_lines text) count (sym (ap raw_lines passes.0) ∙ so_far.0) in
     let past : slice_get (raw_lines text) before ≡ None = slice_get_past (raw_lines text) before (omega (arith, none)) in
     rw past refl
 
@@ -111,3 +111,16 @@ pub finds_shown : (buffer : List ℕ) (count number : ℕ) (first old : Option (
     → Answers old (IsFound 1 buffer) result → Answers first (IsFound number buffer) result
 finds_shown buffer count number first old (Ok found) next so_far shown = finds_behind buffer count number first old found next so_far shown
 finds_shown buffer count number first old (Err stop) next so_far shown = stops (IsFound 1 buffer) (IsFound number buffer) count first old stop so_far shown
+
+-- no line is left, and so many were passed
+pub passes_ended : (count : ℕ) (first old new : Option (List ℕ)) → PassesTo count first old → Answers old (Passes new) (Ok false) → PassesTo count first new
+passes_ended count None old new so_far passes = tt
+passes_ended count (Some text) None new so_far passes = absurd so_far
+passes_ended count (Some text) (Some rest) new so_far passes = rw passes.1 (sym (ap raw_lines passes.0) ∙ so_far.0, so_far.1, omega (arith, so_far.2))
+
+-- nothing more was passed
+pub passes_still : (count : ℕ) (first old new : Option (List ℕ)) → PassesTo count first old → Keeps old new → PassesTo count first new
+passes_still count None old new so_far kept = tt
+passes_still count (Some text) None new so_far kept = absurd so_far
+passes_still count (Some text) (Some rest) None so_far kept = absurd kept
+passes_still count (Some text) (Some rest) (Some same) so_far kept = rw kept so_far

@@ -3,3 +3,4 @@ pub mod FindingLemmas
 pub mod ShownLemmas
 pub mod DegreeLemmas
 pub mod HintLemmas
+pub mod PlacedLemmas

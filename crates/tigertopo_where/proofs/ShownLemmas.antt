@@ -100,7 +100,7 @@ pub passes_last : (old left : Option (List ℕ)) (bytes : List ℕ) (is_line : B
     → line_feeds bytes ≡ 0 → IsAtEnd left → Answers old (Passes (prepend_known [] left)) (Ok is_line)
 passes_last None left bytes is_line is kept none ended = tt
 passes_last (Some text) None bytes is_line is kept none ended = absurd kept
-passes_last (Some text) (Some xs) [] is_line is kept none ended = rw is (sym kept ∙ ended)
+passes_last (Some text) (Some xs) [] is_line is kept none ended = rw is (sym kept ∙ ended, ap (λ (l : List ℕ). Some l) ended)
 passes_last (Some text) (Some xs) (byte ∷ bytes) is_line is kept none ended =
     let last = last_taken (Some text) (Some xs) (byte ∷ bytes) text refl kept none ended in
     let some : (length (byte ∷ bytes) == 0) ≡ false = ne_eqb (length (byte ∷ bytes)) 0 (λ none. absurd (omega arith)) in

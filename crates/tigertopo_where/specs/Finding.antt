@@ -1,5 +1,5 @@
 -- What counting the lines of a text and looking for one of them answer.
-use Rattle.std.specs.Prelude.{◌≡◌, ◌≢◌, ℕ, ◌+◌, ◌≤◌, ◌^◌, nat_lt, Bool, true, false, List, [], length, take, Option, None, Some, Result, Ok, Err, ⊤}
+use Rattle.std.specs.Prelude.{◌≡◌, ◌≢◌, ℕ, ◌+◌, ◌≤◌, ◌^◌, nat_lt, Bool, true, false, List, [], length, take, drop, Option, None, Some, Result, Ok, Err, ⊤}
 use Rattle.tl_record.specs.declared.refusal.RefusalStop.{RefusalStop}
 use Rattle.tl_record.specs.declared.refusal.RefusalStop.TheVariants.{Device, Endless}
 use Rattle.tl_record.specs.Limits.{most_line_bytes}
@@ -35,10 +35,16 @@ abbrev pub IsWithin : List ℕ → Found → Type 0
 IsWithin bytes Missing = ⊤
 IsWithin bytes (Line len goes_on) = len ≤ length bytes
 
--- the first line of a text was taken off, and whether there was one is said
+-- the first line of a text was taken off, and whether there was one is said; where there was none, nothing is left
 abbrev pub Passes : Option (List ℕ) → List ℕ → Bool → Type 0
 Passes new text true = (text ≢ []) × (new ≡ Some (after_first_line text))
-Passes new text false = text ≡ []
+Passes new text false = (text ≡ []) × (new ≡ Some [])
+
+-- so many lines were taken off a text, where it is known
+abbrev pub PassesTo : ℕ → Option (List ℕ) → Option (List ℕ) → Type 0
+PassesTo count None now = ⊤
+PassesTo count (Some text) None = ⊥
+PassesTo count (Some text) (Some rest) = (raw_lines rest ≡ drop count (raw_lines text)) × (count ≤ line_count text) × (count + length rest ≤ length text)
 
 -- the first line of a text was taken off
 abbrev pub Skips : {T : Type 0} → Option (List ℕ) → List ℕ → T → Type 0

@@ -3,3 +3,5 @@ pub mod Shown
 pub mod Hints
 pub mod Telling
 pub mod Again
+pub mod Placed
+pub mod Placing

@@ -4,8 +4,10 @@
 //! columns, and what it holds there; or which file can't be read, and why.
 
 mod again;
+mod placed;
 mod shown;
 mod tell;
 
 pub use again::count_all;
+pub use placed::place_refusals;
 pub use tell::say_hint;

@@ -1,11 +1,11 @@
 //! Lines of a source, by their numbers.
 
-ghost use Rattle.std.specs.Prelude.{◌≡◌, [], IfOk, min, nat_lt};
-ghost use Rattle.std.specs.Io.KnownBytes.{prepend_known};
+ghost use Rattle.std.specs.Prelude.{◌≡◌, ◌<◌, ℕ, List, Option, [], IfOk, OnOk, min, nat_lt};
+ghost use Rattle.std.specs.Io.KnownBytes.{Keeps, prepend_known};
 ghost use Rattle.tl_record.specs.Searching.{CountsSkip};
 ghost use Rattle.tl_record.specs.Limits.{most_line_bytes};
 ghost use Rattle.tigertopo_where.specs.declared.lines.Found.TheVariants.{Line};
-ghost use Rattle.tigertopo_where.specs.Finding.{Answers, IsCount, IsFound, IsWithin, Passes};
+ghost use Rattle.tigertopo_where.specs.Finding.{Answers, IsCount, IsFound, IsWithin, Passes, PassesTo};
 
 use tl_record::{Fetched, LineBuffer, MAX_LINE_BYTES, RefusalStop, Source, fetch_line, skip_line};
 
@@ -57,9 +57,31 @@ pub fn find_line<R: Source>(
     if number == 0 {
         return Ok(Found::Missing);
     }
-    'lines: for _ in 1..number {
+    let mut passed = 0;
+    find_ahead(buffer, source, &mut passed, number)
+}
+
+// Looks for the line with this number of a text of which so many lines were passed, and what follows them is in the buffer and
+// left in the source. It is left at the front of the buffer, and the lines before it are passed.
+pub(crate) fn find_ahead<R: Source>(
+    buffer: &mut LineBuffer<BLOCK>,
+    source: &mut R,
+    passed: &mut u64,
+    number: u64,
+) -> Result<Found, RefusalStop>
+    requires { passed.old < number }
+    ensures found { (text : Option (List ℕ)) → PassesTo passed.old text (prepend_known buffer.old (R.remaining source.old))
+        → Answers text (IsFound number buffer.new) result }
+    ensures passed { (text : Option (List ℕ)) → PassesTo passed.old text (prepend_known buffer.old (R.remaining source.old))
+        → OnOk result (PassesTo passed.new text (prepend_known buffer.new (R.remaining source.new))) }
+    ensures before { passed.new < number }
+    ensures within { IfOk result (IsWithin buffer.new) }
+    ensures failures { CountsSkip (R.failure_count source.old) (R.failure_count source.new) result }
+{
+    let first = *passed + 1;
+    'lines: for line in first..number {
         match pass_line(buffer, source) {
-            Ok(true) => {}
+            Ok(true) => *passed = line,
             Ok(false) => return Ok(Found::Missing),
             Err(stop) => return Err(stop),
         }
@@ -73,6 +95,8 @@ fn show_line<R: Source>(
     source: &mut R,
 ) -> Result<Found, RefusalStop>
     ensures found { Answers (prepend_known buffer.old (R.remaining source.old)) (IsFound 1 buffer.new) result }
+    ensures stays { Keeps (prepend_known buffer.old (R.remaining source.old))
+        (prepend_known buffer.new (R.remaining source.new)) }
     ensures within { IfOk result (IsWithin buffer.new) }
     ensures failures { CountsSkip (R.failure_count source.old) (R.failure_count source.new) result }
 {

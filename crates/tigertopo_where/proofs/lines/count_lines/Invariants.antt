@@ -1,6 +1,6 @@
 use Rattle.std.proofs.Common.{◌≡◌}
 use Rattle.std.specs.Io.KnownBytes.{prepend_known}
-use Rattle.tigertopo_where.proofs.FindingLemmas.{PassesTo}
+use Rattle.tigertopo_where.specs.Finding.{PassesTo}
 use Rattle.tigertopo_where.proofs.lines.count_lines.Given as goal
 
 abbrev pub invariant-lines : goal.invariant-lines

@@ -1,0 +1,8 @@
+use Rattle.std.proofs.Common.{◌∙◌, ap, List, ℕ, ◌++◌}
+use Rattle.tigertopo_where.specs.Hint.Placed.{refused_text}
+use Rattle.tigertopo_where.proofs.PlacedLemmas.{plain_one_more, same_got}
+use Rattle.tigertopo_where.proofs.hint.placed.plain_lines.Goals as goal
+
+pub loop-refusal-preserved : goal.loop-refusal-preserved
+loop-refusal-preserved c =
+    plain_one_more c.args.refusals.now c.loop-refusal.refusal-index _ _ _ c.loop-refusal-test.true (same_got c.args.refusals.now c.loop-refusal.refusal-index _ _ c.loop-refusal-test.true) c.loop-refusal.invariant c.in_ok-push_refusal.ensures

@@ -1,0 +1,39 @@
+-- What is told of refused lines one after the other, each with where it stands.
+use Rattle.std.specs.Prelude.{◌≡◌, ⊤, ℕ, ◌<◌, List, [], ◌∷◌, ◌++◌, map}
+use Rattle.tl_record.specs.declared.layout.Layout.{Layout}
+use Rattle.tl_record.specs.declared.refusal.Refusal.{Refusal}
+use Rattle.tl_record.specs.Messages.{refusal_text}
+use Rattle.tl_record.specs.Searching.{pair_of}
+use Rattle.tl_cert_output.specs.Writing.{line_of}
+use Rattle.tigertopo_files.specs.Files.{Under}
+use Rattle.tigertopo_where.specs.Hint.Hints.{refusal_at}
+use Rattle.tigertopo_where.specs.Hint.Telling.{HaveTexts}
+
+-- the line of a refused line
+abbrev pub refused_text : Refusal → List ℕ
+refused_text refusal = line_of (refusal_text refusal.line refusal.cause)
+
+-- refused lines one after the other, each with what is told of its place, as far as that is told
+abbrev pub placed_text : List Refusal → List (List ℕ) → List ℕ
+placed_text [] told = []
+placed_text (refusal ∷ rest) [] = refused_text refusal ++ placed_text rest []
+placed_text (refusal ∷ rest) (place ∷ told) = refused_text refusal ++ place ++ placed_text rest told
+
+-- where each of these refused lines stands among the texts of these names
+abbrev pub places_of : Layout → List (List ℕ) → List (List ℕ) → List Refusal → List (List ℕ)
+places_of layout names texts refusals = map (λ refusal. refusal_at layout names texts (pair_of refusal)) refusals
+
+-- each of these lines comes behind the one before, and the first behind so many
+abbrev pub RiseFrom : ℕ → List Refusal → Type 0
+RiseFrom before [] = ⊤
+RiseFrom before (refusal ∷ rest) = (before < refusal.line) × RiseFrom refusal.line rest
+
+-- where the text of each file is known, it is told of each where it stands, if they are told in the order of their lines
+abbrev pub TellsPlaces : Layout → Under → List (List ℕ) → List Refusal → List (List ℕ) → Type 0
+TellsPlaces layout under names refusals told =
+    (texts : List (List ℕ)) → HaveTexts under names texts → RiseFrom 0 refusals → told ≡ places_of layout names texts refusals
+
+-- a text of refused lines, each with where it stands
+abbrev pub IsPlaced : Layout → Under → List (List ℕ) → List Refusal → List ℕ → Type 0
+IsPlaced layout under names refusals text =
+    (told : List (List ℕ)) × (text ≡ placed_text refusals told) × TellsPlaces layout under names refusals told
