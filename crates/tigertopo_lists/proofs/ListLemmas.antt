@@ -1,6 +1,7 @@
 -- What is answered of what was found.
-use Rattle.std.proofs.Common.{◌≡◌, ◌⊎◌, inl, inr, ℕ, ◌+◌, Bool, true, List, [], ◌∷◌, ◌++◌, map, Some, None, Option, Result, Ok, Err, refl, sym, ap, subst, ◌∙◌, arith, append-nil}
-use Rattle.std.specs.Prelude.{slice_get, Vec}
+use Rattle.std.proofs.Common.{◌≡◌, ◌⊎◌, inl, inr, ℕ, zero, suc, ◌+◌, ◌≤◌, take, Bool, true, List, [], ◌∷◌, ◌++◌, map, Some, None, Option, Result, Ok, Err, refl, sym, ap, subst, ◌∙◌, arith, append-nil}
+use Rattle.std.specs.Prelude.{slice_get, Vec, IfOk, IfErr}
+use Rattle.std.specs.List.{filter_map, enumerate_from}
 use Rattle.std.specs.Global.{Global}
 use Rattle.std.specs.Option.{IfSome}
 use Rattle.std.specs.Result.{IsErrAnd}
@@ -9,7 +10,12 @@ use Rattle.tl_record.specs.declared.layout.Layout.{Layout}
 use Rattle.tl_record.specs.declared.options.Options.{Options}
 use Rattle.tl_record.specs.declared.refusal.Refusal.{Refusal}
 use Rattle.tl_record.specs.Layout.{layout_with}
-use Rattle.tl_record.specs.Records.{records_of, judgements}
+use Rattle.tl_record.specs.declared.stop.Cause.{Cause}
+use Rattle.tl_record.specs.declared.judge.Judgement.{Judgement}
+use Rattle.tl_record.specs.declared.judge.Judgement.TheVariants.{PassedOver, Read}
+use Rattle.tl_record.specs.declared.judge.Judgement.TheVariants.{Refused as RefusedLine}
+use Rattle.tl_record.specs.Judgement.{judgement}
+use Rattle.tl_record.specs.Records.{records_of, judgements, refusal_of}
 use Rattle.tl_record.specs.Lines.{raw_lines}
 use Rattle.tl_record.specs.Refusals.{refusals_of}
 use Rattle.tl_record.specs.Searching.{pair_of}
@@ -19,12 +25,16 @@ use Rattle.tigertopo_files.specs.Files.{Under}
 use Rattle.tigertopo_files.specs.Log.{Log, LogsAgain}
 use Rattle.tigertopo_files.specs.World.{World, Does, Failed, MayStop, Made}
 use Rattle.tigertopo_where.specs.Hint.Again.{FailsAgain, SomeUnread}
-use Rattle.tigertopo_files.proofs.WorldLemmas.{all_kept, none_made, unmade_from, may_stop, does_then}
+use Rattle.tigertopo_files.proofs.WorldLemmas.{all_kept, none_made, unmade_from, may_stop, does_so, does_then}
 use Rattle.tigertopo_words.specs.declared.budget.Told.{Told}
 use Rattle.tigertopo_words.specs.declared.budget.Told.TheVariants.{One, All}
 use Rattle.tl_cert_output.specs.declared.stop.Stop.{Stop}
 use Rattle.tl_cert_output.specs.declared.stop.Stop.TheVariants.{Record, Memory, Device, Budget}
 use Rattle.tl_cert_output.specs.Stops.{StopsFor}
+use Rattle.tl_cert_output.proofs.StopLemmas.{stops_for}
+use Rattle.tl_list_text.specs.Texts.{lines, printed, told_refusal}
+use Rattle.tigertopo_where.specs.Hint.Placed.{placed_text, refused_text, RiseFrom}
+use Rattle.tigertopo_where.specs.Hint.Telling.{HaveTexts}
 use Rattle.tl_check_verdict.specs.declared.fault.MapFault.{MapFault}
 use Rattle.tl_check_verdict.specs.declared.verdict.Report.{Report}
 use Rattle.tl_check_verdict.proofs.OneMap.{weaker}
@@ -41,7 +51,7 @@ use Rattle.tigertopo_outcome.specs.Records.{StopsNever}
 use Rattle.tigertopo_outcome.specs.declared.said.Answer.{Answer}
 use Rattle.tigertopo_lists.specs.declared.listed.Listed.{Listed}
 use Rattle.tigertopo_lists.specs.Listed.{Asked, ListAnswers, IsSoundList, IsFaultList, StopsList, StopsAgain, listed_text, told_text, featured, reads_again}
-use Rattle.tigertopo_lists.specs.Keeping.{IsPrepared, first_stop, refused_list, faults_answer}
+use Rattle.tigertopo_lists.specs.Keeping.{IsPrepared, IsRefusedList, first_stop, faults_answer}
 
 -- ---- what is done with files
 
@@ -117,6 +127,49 @@ made_behind u v after l m q k asked same logs text r makes =
 
 -- ---- what is answered of what was found
 
+reads_where_placed : (places : Bool) (made : Option (List ℕ)) → places ≡ true → reads_again places made ≡ true
+reads_where_placed places None asks = asks
+reads_where_placed places (Some name) asks = refl
+
+-- each refused line comes behind the one before, and the first is of this number or a greater one
+abbrev RiseUp : ℕ → List (ℕ × Cause) → Type 0
+RiseUp n [] = Unit {0}
+RiseUp n (refusal ∷ rest) = (n ≤ refusal.0) × RiseUp (refusal.0 + 1) rest
+
+rise_later : (n m : ℕ) (refusals : List (ℕ × Cause)) → n ≤ m → RiseUp m refusals → RiseUp n refusals
+rise_later n m [] less rise = tt
+rise_later n m (refusal ∷ rest) less rise = (omega (arith, less, rise.0), rise.1)
+
+rise_one : (n : ℕ) (judged : Judgement) (more : List (ℕ × Judgement)) → RiseUp (n + 1) (filter_map refusal_of more) → RiseUp n (filter_map refusal_of ((n, judged) ∷ more))
+rise_one n PassedOver more rise = rise_later n (n + 1) (filter_map refusal_of more) (omega arith) rise
+rise_one n (Read r) more rise = rise_later n (n + 1) (filter_map refusal_of more) (omega arith) rise
+rise_one n (RefusedLine cause) more rise = (omega arith, rise)
+
+rise_up : (layout : Layout) (n : ℕ) (text : List (List ℕ)) → RiseUp n (filter_map refusal_of (map (λ line. (line.0, judgement layout line.0 line.1)) (enumerate_from n text)))
+rise_up layout n [] = tt
+rise_up layout n (line ∷ rest) = rise_one n (judgement layout n line) _ (rise_up layout (n + 1) rest)
+
+rise_behind : (n : ℕ) (list : List Refusal) → RiseUp (n + 1) (map pair_of list) → RiseFrom n list
+rise_behind n [] rise = tt
+rise_behind n (refusal ∷ rest) rise = (omega (arith, rise.0), rise_behind refusal.line rest rise.1)
+
+rise_listed : (layout : Layout) (text : List ℕ) (list : List Refusal) → map pair_of list ≡ refusals_of layout text → RiseFrom 0 list
+rise_listed layout text list is = rise_behind 0 list (subst (RiseUp 1) (sym is) (rise_up layout 1 (raw_lines text)))
+
+rise_taken : (count n : ℕ) (list : List Refusal) → RiseFrom n list → RiseFrom n (take count list)
+rise_taken zero n list rise = tt
+rise_taken (suc count) n [] rise = tt
+rise_taken (suc count) n (refusal ∷ rest) rise = (rise.0, rise_taken count refusal.line rest rise.1)
+
+rise_printed : (most : Option ℕ) (n : ℕ) (list : List Refusal) → RiseFrom n list → RiseFrom n (printed most list)
+rise_printed None n list rise = rise
+rise_printed (Some count) n list rise = rise_taken count n list rise
+
+-- with no places they are printed as they are listed
+pub plain_lines_are : (refusals : List Refusal) → placed_text refusals [] ≡ lines told_refusal refusals
+plain_lines_are [] = refl
+plain_lines_are (refusal ∷ rest) = ap (λ t. refused_text refusal ++ t) (plain_lines_are rest)
+
 first_is : (layout : Layout) (text : List ℕ) → slice_get (refusals_of layout text) 0 ≡ (records_of layout text).refusal
 first_is layout text = first_of_judged (judgements layout 0 (raw_lines text))
 
@@ -168,18 +221,36 @@ module _ (options : Options) (known : Option (List ℕ)) (asked : Asked) where
     no_device [] is = absurd (cc)
     no_device (refusal ∷ rest) is = absurd (cc)
 
-    pub refused_answers : (same : w.after ≡ w.before) (logs : w.knows ≡ true → w.logged ≡ w.log) (told : Told) → asked.told ≡ told
-        → Does w [] asked.made (λ answer. ListAnswers w options known asked answer.status (listed_text answer.text)) (StopsList w options known asked) (refused_list told list)
-    refused_answers same logs One is = stops_still w same logs asked.made _ (StopsList w options known asked) (first_stop list.items) (first_stops list.items is refl) (no_device list.items)
-    refused_answers same logs (All most) is = does_nothing w same logs asked.made _ (StopsList w options known asked) _ (inr (inr (record {
+    -- one alone is a stop
+    pub first_refused : (same : w.after ≡ w.before) (logs : w.knows ≡ true → w.logged ≡ w.log) → asked.told ≡ One
+        → Does w [] asked.made (λ answer. ListAnswers w options known asked answer.status (listed_text answer.text)) (StopsList w options known asked) (Err (first_stop list.items))
+    first_refused same logs one = stops_still w same logs asked.made _ (StopsList w options known asked) (first_stop list.items) (first_stops list.items one refl) (no_device list.items)
+
+    refused_answer : (same : w.after ≡ w.before) (most : Option ℕ) → asked.told ≡ All most → (answer : Answer Listed)
+        → IsRefusedList (layout_with options) w.before asked.names asked.places most list answer → ListAnswers w options known asked answer.status (listed_text answer.text)
+    refused_answer same most all answer so = inr (inr (record {
       most = most;
-      all = is;
+      all = all;
       list = list;
       are_all = are;
       unmade = none_made w asked.made same;
-      is = refl;
-      lines = refl;
-    })))
+      is = so.is;
+      told = so.told;
+      places = IfSome_then known are (λ text lists asks texts have. so.stand asks texts have (rise_printed most 0 list.items (rise_listed (layout_with options) text list.items lists.1)));
+      plain = so.plain;
+      lines = so.lines;
+    }))
+
+    -- or all are answered
+    pub refused_answers : (same : w.after ≡ w.before) (most : Option ℕ) → asked.told ≡ All most → (r : Result (Answer Listed) Stop)
+        → IfOk r (IsRefusedList (layout_with options) w.before asked.names asked.places most list)
+        → IfErr r (StopsFor ((asked.places ≡ true) × FailsAgain w asked.names)) → (w.knows ≡ true → LogsAgain w.log w.logged r)
+        → Does w [] asked.made (λ answer. ListAnswers w options known asked answer.status (listed_text answer.text)) (StopsList w options known asked) r
+    refused_answers same most all (Ok answer) so stops logs = does_nothing w same logs asked.made _ (StopsList w options known asked) answer (refused_answer same most all answer so)
+    refused_answers same most all (Err stop) so stops logs =
+        does_so w [] asked.made _ _ (StopsAgain w asked) (StopsList w options known asked) (λ t is. is) (fault_stops w) (Err stop)
+        (stops_behind (Answer Listed) w asked same (λ answer. ListAnswers w options known asked answer.status (listed_text answer.text)) stop
+        (stops_for _ _ stop (λ why. (reads_where_placed asked.places asked.made why.0, why.1)) stops) logs)
 
 -- ---- the same behind reading
 
@@ -207,6 +278,9 @@ answers_from u v after l m q k options known asked status text same (inr (inr re
   are_all = refused.are_all;
   unmade = unmade_from u v after m q k asked.made same refused.unmade l;
   is = refused.is;
+  told = refused.told;
+  places = IfSome_then known refused.places (λ text stand asks texts have. stand asks texts (subst (λ x. HaveTexts x asked.names texts) (sym same) have));
+  plain = refused.plain;
   lines = refused.lines;
 }))
 

@@ -1,7 +1,7 @@
 -- What is answered where all that is wrong is asked for, or the records that faults speak of, or a file that is made of them.
 --
 -- `w` is what became of files, `known` the text of the records, where it is known, and `asked` what is asked.
-use Rattle.std.specs.Prelude.{◌≡◌, ◌⊎◌, ℕ, Bool, true, false, List, [], ◌++◌, length, take, Option, Some, None, IfSome, option_map, string_bytes, Vec}
+use Rattle.std.specs.Prelude.{◌≡◌, ◌⊎◌, ℕ, Bool, true, false, List, [], ◌++◌, codes, length, take, Option, Some, None, IfSome, option_map, string_bytes, Vec}
 use Rattle.std.specs.Global.{Global}
 use Rattle.tl_record.specs.declared.options.Options.{Options}
 use Rattle.tl_record.specs.declared.layout.Layout.{Layout}
@@ -11,6 +11,9 @@ use Rattle.tl_record.specs.Records.{records_of}
 use Rattle.tl_map_county.specs.TheMap.{TheMap, MapChain}
 use Rattle.tigertopo_files.specs.World.{World, Made, Unmade}
 use Rattle.tigertopo_where.specs.Hint.Again.{SomeUnread}
+use Rattle.tigertopo_where.specs.Hint.Telling.{HaveTexts}
+use Rattle.tigertopo_where.specs.Hint.Placed.{places_of}
+use Rattle.tigertopo_where.specs.Hint.Placed.{placed_text as refusals_placed}
 use Rattle.tigertopo_words.specs.declared.budget.Told.{Told}
 use Rattle.tigertopo_words.specs.declared.budget.Told.TheVariants.{One, All}
 use Rattle.tl_cert_output.specs.declared.stop.Stop.{Stop}
@@ -22,7 +25,7 @@ use Rattle.tl_check_verdict.specs.Records.{HaveMap}
 use Rattle.tl_check_verdict.specs.Sound.{IsSoundFor}
 use Rattle.tl_list_text.specs.declared.listing.Listing.TheVariants as listing
 use Rattle.tl_list_text.specs.Listings.{IsListingOf}
-use Rattle.tl_list_text.specs.Texts.{lines, listing_text}
+use Rattle.tl_list_text.specs.Texts.{lines, listing_text, printed, count_line}
 use Rattle.tl_list.specs.Findings.{AreFindingsOf}
 use Rattle.tigertopo_faults.specs.Records.SpokenOf.{chains_of}
 use Rattle.tigertopo_faults.specs.Records.Keeping.{held}
@@ -62,6 +65,10 @@ abbrev pub told_text : List (List ℕ) → List MapChain → Spoken → Bool →
 told_text names chains spoken false told faults points_left = plain_text told faults points_left
 told_text names chains spoken true told faults points_left =
     placed_text names spoken.counts.items chains (held spoken.lines) told faults points_left
+
+-- what is printed of refused lines, all or so many from the front, each with what is told of its place; and how many there are
+abbrev pub refusals_text : Option ℕ → List Refusal → List (List ℕ) → List ℕ
+refusals_text most refusals told = refusals_placed (printed most refusals) told ++ count_line (codes "refused=") most (length refusals)
 
 -- the faults that the file is made of: the first, or all, however many are printed
 abbrev pub featured : Told → List MapFault → List MapFault
@@ -123,7 +130,8 @@ pub record TellsFaults (w : World) (options : Options) (known : Option (List ℕ
   pub is : status ≡ 1
   pub lines : text ≡ told_text asked.names (chains_of map) spoken asked.places asked.told faults.items points_left
 
--- with the status 3 lines that are refused, where all that is wrong is asked for: each of the records', and no other; no file is made
+-- with the status 3 lines that are refused, where all that is wrong is asked for: each of the records', and no other; and where places are
+-- asked for and the text of each file is known, where each stands; no file is made
 pub record TellsRefusals (w : World) (options : Options) (known : Option (List ℕ)) (asked : Asked) (status : ℕ) (text : List ℕ) : Type 0 where
   pub most : Option ℕ
   pub all : asked.told ≡ All most
@@ -131,7 +139,11 @@ pub record TellsRefusals (w : World) (options : Options) (known : Option (List �
   pub are_all : IfSome known (λ held. IsListingOf options held (listing.Refused list))
   pub unmade : Unmade w asked.made
   pub is : status ≡ 3
-  pub lines : text ≡ listing_text most (listing.Refused list)
+  pub told : List (List ℕ)
+  pub places : IfSome known (λ held. asked.places ≡ true → (texts : List (List ℕ)) → HaveTexts w.before asked.names texts
+      → told ≡ places_of (layout_with options) asked.names texts (printed most list.items))
+  pub plain : asked.places ≡ false → told ≡ []
+  pub lines : text ≡ refusals_text most list.items told
 
 -- what a list answers
 abbrev pub ListAnswers : World → Options → (known : Option (List ℕ)) → Asked → ℕ → List ℕ → Type 0

@@ -5,8 +5,9 @@
 //! faults speak of where these are asked for (`tigertopo_faults::lines`), makes the file (`tigertopo_faults::geojson`), and answers what was found.
 //!
 //! Where one fault is asked for a refused line is a stop. Where all are asked for, all refused lines are answered, or
-//! so many from the front, and no file is made. Beside a file that failed, a device is said to have failed only where
-//! files are read again for the records of faults, and one of them may not be read.
+//! so many from the front, with where they stand if that is asked for (`tigertopo_where::hint`), and no file is made. Beside a file that
+//! failed, a device is said to have failed only where files are read again for the records of faults or for refused lines, and one of
+//! them may not be read.
 #![tactic(auto)]
 
 mod collection;

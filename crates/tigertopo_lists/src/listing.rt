@@ -1,15 +1,20 @@
 //! Lists over files: what is found is answered, and the file is made.
 
-ghost use Rattle.std.specs.Prelude.{◌≡◌, [], ℕ, List, Option, true, IfSome, map as map_list, option_map, string_bytes};
+ghost use Rattle.std.specs.Prelude.{◌≡◌, [], ℕ, List, Option, true, IfOk, IfErr, IfSome, map as map_list, option_map, string_bytes};
 ghost use Rattle.tl_record.specs.declared.options.Options.{Options};
 ghost use Rattle.tl_record.specs.Layout.{layout_with};
+ghost use Rattle.tl_cert_output.specs.Stops.{StopsFor};
+ghost use Rattle.tl_list_text.specs.Listings.{IsListingOf};
+ghost use Rattle.tl_list_text.specs.declared.listing.Listing.TheVariants.{Refused as RefusedLines};
 ghost use Rattle.tl_list.specs.Findings.{AreFindingsOf};
+ghost use Rattle.tigertopo_files.specs.Log.{LogsAgain};
+ghost use Rattle.tigertopo_where.specs.Hint.Again.{FailsAgain};
 ghost use Rattle.tigertopo_files.specs.World.{Does, MayMake, world};
 ghost use Rattle.tigertopo_files.specs.declared.beginning.FileKind.TheVariants.{Collection};
 ghost use Rattle.tigertopo_files.specs.Reading.{text_under};
 ghost use Rattle.tigertopo_outcome.specs.Records.{StopsNever};
 ghost use Rattle.tigertopo_lists.specs.Listed.{ListAnswers, IsSoundList, IsFaultList, StopsList, StopsAgain, listed_text, reads_again, wanted_of};
-ghost use Rattle.tigertopo_lists.specs.Keeping.{first_stop, faults_answer, most_of, refused_list};
+ghost use Rattle.tigertopo_lists.specs.Keeping.{ArePlaced, IsRefusedList, first_stop, faults_answer, most_of};
 
 use crate::collection::make_collection;
 use crate::found::FindingsIn;
@@ -23,11 +28,12 @@ use tigertopo_files::FileSystem;
 use tigertopo_outcome::reading::over_records;
 use tigertopo_outcome::said::Answer;
 use tigertopo_outcome::stop::{DONE, MAP_FAULT, REFUSED};
+use tigertopo_where::hint::place_refusals;
 use tigertopo_words::Told;
 use tl_cert_output::Stop;
 use tl_check_verdict::{MapFault, Report};
 use tl_list::Findings;
-use tl_list_text::Listing;
+use tl_list_text::{Listing, first_of, text_of_end};
 use tl_map_county::Map;
 use tl_record::{Options, Refusal};
 
@@ -81,7 +87,7 @@ fn tell_found<F: FileSystem>(
     let Findings { listing, map } = found;
     match listing {
         Listing::Sound(report) => tell_sound(files, alloc, hasher, names, wanted, report),
-        Listing::Refused(list) => tell_refused(wanted.told, list),
+        Listing::Refused(list) => tell_refused(files, alloc, options, names, wanted, list),
         Listing::Faults {
             faults,
             points_left,
@@ -124,20 +130,77 @@ fn tell_sound<F: FileSystem>(
     })
 }
 
-// Answers lines that are refused: all, or so many from the front, or the first as a stop. No file is made.
-fn tell_refused(told: Told, list: Vec<Refusal>) -> Result<Answer<Listed>, Stop>
-    ensures { result ≡ refused_list told list }
+// Answers lines that are refused: all, or so many from the front, with where they stand if that is asked for; or the first as a stop.
+// No file is made.
+fn tell_refused<F: FileSystem>(
+    files: &mut F,
+    alloc: Global,
+    options: Options,
+    names: &[String],
+    wanted: Wanted<'_>,
+    list: Vec<Refusal>,
+) -> Result<Answer<Listed>, Stop>
+    ensures { (known : Option (List ℕ)) → IfSome known (λ text. IsListingOf options text (RefusedLines list)) →
+        let w = world F.under F.log F.knows files.old files.new in
+        let asked = wanted_of (map_list string_bytes names.now) wanted.entry in
+        Does w [] asked.made (λ answer. ListAnswers w options known asked answer.status (listed_text answer.text))
+        (StopsList w options known asked) result }
 {
-    match told {
-        Told::All(most) => Ok(Answer {
-            status: REFUSED,
-            text: Listed::Listing {
-                listing: Listing::Refused(list),
-                most,
-            },
-        }),
+    match wanted.told {
         Told::One => Err(first_stop(list.as_slice())),
+        Told::All(most) => tell_all_refused(files, alloc, options, names, wanted.places, most, list),
     }
+}
+
+// Answers lines that are refused: all, or so many from the front, with where they stand if that is asked for.
+fn tell_all_refused<F: FileSystem>(
+    files: &mut F,
+    alloc: Global,
+    options: Options,
+    names: &[String],
+    places: bool,
+    most: Option<u64>,
+    list: Vec<Refusal>,
+) -> Result<Answer<Listed>, Stop>
+    ensures answered { IfOk result (IsRefusedList (layout_with options) (F.under files.old) (map_list string_bytes names.now) places most list) }
+    ensures stops { IfErr result (StopsFor ((places ≡ true)
+        × FailsAgain (world F.under F.log F.knows files.old files.new) (map_list string_bytes names.now))) }
+    ensures stays { F.under files.new ≡ F.under files.old }
+    ensures logged { F.knows ≡ true → LogsAgain (F.log files.old) (F.log files.new) result }
+{
+    let text = if places {
+        Listed::Lines(placed_list(files, alloc, options, names, list.as_slice(), most)?)
+    } else {
+        Listed::Listing {
+            listing: Listing::Refused(list),
+            most,
+        }
+    };
+    Ok(Answer {
+        status: REFUSED,
+        text,
+    })
+}
+
+// Lines that are refused, all or so many from the front, each with where it stands, and how many there are.
+fn placed_list<F: FileSystem>(
+    files: &mut F,
+    alloc: Global,
+    options: Options,
+    names: &[String],
+    list: &[Refusal],
+    most: Option<u64>,
+) -> Result<Vec<u8>, Stop>
+    ensures placed { IfOk result (λ text. ArePlaced (layout_with options) (F.under files.old) (map_list string_bytes names.now)
+        most list.now text.items) }
+    ensures stops { IfErr result (StopsFor (FailsAgain (world F.under F.log F.knows files.old files.new) (map_list string_bytes names.now))) }
+    ensures stays { F.under files.new ≡ F.under files.old }
+    ensures logged { F.knows ≡ true → LogsAgain (F.log files.old) (F.log files.new) result }
+{
+    let mut text = place_refusals(files, alloc, names, options, first_of(list, most))?;
+    let end = text_of_end(false, "refused=", most, list.len() as u64);
+    text.extend_from_slice(end.as_str().as_bytes())?;
+    Ok(text)
 }
 
 // Why there is no answer, where these lines are refused: the first of them. There is one.

@@ -5,7 +5,7 @@ use Rattle.tigertopo_files.specs.World.{world}
 use Rattle.tigertopo_files.proofs.WorldLemmas.{does_so}
 use Rattle.tigertopo_outcome.specs.Records.{StopsNever}
 use Rattle.tigertopo_lists.specs.Listed.{wanted_of}
-use Rattle.tigertopo_lists.proofs.ListLemmas.{sound_answers, fault_answers, fault_stops, refused_answers}
+use Rattle.tigertopo_lists.proofs.ListLemmas.{sound_answers, fault_answers, fault_stops}
 use Rattle.tigertopo_lists.proofs.listing.tell_found.Goals as goal
 
 pub returns-in-Sound : goal.returns-in-Sound
@@ -16,10 +16,7 @@ returns-in-Sound g c = λ known are.
 
 pub returns-in-Refused : goal.returns-in-Refused
 returns-in-Refused g c = λ known are.
-    let asked = wanted_of (map string_bytes c.args.names.now) c.args.wanted in
-    let w = world g.F.FileSystem.under g.F.FileSystem.log g.F.FileSystem.knows c.args.files.now c.args.files.now in
-    rw c.tell_refused.ensures (refused_answers c.args.options known asked w c.in-Refused.list
-    (IfSome_then known are (λ text is. subst (IsListingOf c.args.options text) c.in-Refused.is is.told)) refl (λ knows. refl) c.args.wanted.told refl)
+    c.tell_refused.ensures known (IfSome_then known are (λ text is. subst (IsListingOf c.args.options text) c.in-Refused.is is.told))
 
 pub returns-in-Faults : goal.returns-in-Faults
 returns-in-Faults g c = λ known are.
