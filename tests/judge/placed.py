@@ -133,9 +133,15 @@ class Fault:
         return [degrees(Fraction(it, scale), places) for it in (x, y)]
 
     @property
+    def is_whole(self):
+        """Whether it lies at whole millionths of a degree."""
+        x, y, scale = self.at
+        return x % scale == y % scale == 0
+
+    @property
     def record_lines(self):
         """The lines that stand behind its own."""
-        at = ", at " + " ".join(self.place(10)) if self.at else ""
+        at = ", at " + ",".join(self.place(6 if self.is_whole else 10)) if self.at else ""
         return [it.told + at for it in self.records]
 
     @property

@@ -2,4 +2,5 @@ pub mod PlaceLemmas
 pub mod FindingLemmas
 pub mod ShownLemmas
 pub mod DegreeLemmas
+pub mod LocationLemmas
 pub mod HintLemmas

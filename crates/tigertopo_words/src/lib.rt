@@ -6,6 +6,7 @@ mod asked;
 mod asking;
 mod budget;
 mod command_line;
+mod degrees;
 mod first_word;
 mod help;
 mod point;

@@ -14,7 +14,7 @@ use Rattle.tl_check_verdict.specs.declared.fault.MapFault.{MapFault}
 use Rattle.tl_check_verdict.specs.declared.fault.MapFault.TheVariants.{Records, Meet, Side, PolygonPoint, Cell, Face}
 use Rattle.tl_check_verdict.specs.Messages.{map_fault_text}
 use Rattle.tigertopo_where.specs.LinePlaces.{place_of}
-use Rattle.tigertopo_where.specs.Degrees.{degrees_text, is_in_reach}
+use Rattle.tigertopo_where.specs.Degrees.{is_in_reach, location_text}
 use Rattle.tigertopo_faults.specs.declared.records.line.RecordLine.{RecordLine}
 use Rattle.tigertopo_faults.specs.declared.records.subject.Subject.{Subject}
 use Rattle.tigertopo_faults.specs.Records.SpokenOf.{subjects_of, subjects_of_point}
@@ -31,11 +31,10 @@ record_text (PolyPoint key point) = codes ", type P, polygon " ++ key_text key
 record_text (Landmark land point) = codes ", type 7, land " ++ decimal land
 record_text (AreaLink key land) = codes ", type 8, polygon " ++ key_text key ++ codes " land " ++ decimal land
 
--- a place in decimal degrees with ten places, where it can be printed
+-- a place in decimal degrees, where it can be printed
 abbrev pub at_text : Option Rational → List ℕ
 at_text None = []
-at_text (Some at) =
-    if is_in_reach at then codes ", at " ++ degrees_text 10 at.x at.d ++ codes " " ++ degrees_text 10 at.y at.d else []
+at_text (Some at) = if is_in_reach at then codes ", at " ++ location_text at else []
 
 -- a line of all files as one text, by its number in that text
 abbrev pub number_text : ℕ → List ℕ

@@ -8,13 +8,10 @@ use crate::records::RecordLine;
 use arrayvec::ArrayString;
 use itoa::Buffer;
 use std::alloc::AllocError;
-use tigertopo_where::{TextLine, is_in_reach, place_of, push_degrees};
+use tigertopo_where::{TextLine, is_in_reach, place_of, push_location};
 use tl_geom::Rational;
 use tl_list_text::{LINE_ROOM, push_key, push_number};
 use tl_record::Record;
-
-// How many decimal places of a degree are printed.
-const PLACES: u32 = 10;
 
 /// Adds the lines of records that a fault at this place speaks of, of files with these names and so many lines each.
 pub(crate) fn push_record_lines(
@@ -129,9 +126,7 @@ fn at_words(at: Option<Rational>) -> ArrayString<LINE_ROOM>
     if let Some(at) = at {
         if is_in_reach(&at) {
             words.push_str(", at ");
-            push_degrees(&mut words, at.x, at.d, PLACES);
-            words.push_str(" ");
-            push_degrees(&mut words, at.y, at.d, PLACES);
+            push_location(&mut words, &at);
         }
     }
     words
