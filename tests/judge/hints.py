@@ -47,6 +47,12 @@ def shown(data):
     return b"".join(bytes([it]) if 32 <= it <= 126 and it not in b"`\\" else b"\\x%02x" % it for it in data)
 
 
+def shown_name(name):
+    """A file's name as it is shown: control characters and the backslash are escaped, and stand on one line."""
+    data = name.encode(errors="surrogateescape")
+    return b"".join(b"\\x%02x" % it if it < 32 or it in b"\x7f\\" else bytes([it]) for it in data)
+
+
 def columns_of(line, field, released):
     """The columns of the field of a line of this type."""
     kind = line[:1].decode("latin-1")
@@ -61,7 +67,7 @@ def of_refusal(names, texts, number, field, released):
         if number > len(lines):
             number -= len(lines)
             continue
-        said = b"  " + name.encode(errors="surrogateescape") + b" line %d" % number
+        said = b"  " + shown_name(name) + b" line %d" % number
         if field:
             line = lines[number - 1].removesuffix(b"\r")
             first, last = columns_of(line, field, released)
@@ -78,7 +84,7 @@ def of_trouble(folder, names):
             with open(Path(folder, name) if name else "", "rb") as file:
                 file.read()
         except OSError as error:
-            return f"  {name}: {error.strerror}\n".encode(errors="surrogateescape")
+            return b"  " + shown_name(name) + f": {error.strerror}\n".encode()
     return b""
 
 

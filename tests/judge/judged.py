@@ -66,7 +66,7 @@ def row_agrees(row, words):
     if not is_front and any(status == 64 or err.startswith(unheard) for status, _, err in row.wanted):
         return None
     try:
-        opinion = judge.asked(words, row.files.__getitem__)
+        opinion = judge.asked([rows.bytes_of(it).decode(errors="surrogateescape") for it in words], row.files.__getitem__)
     except KeyError:
         return None
     if opinion is None:

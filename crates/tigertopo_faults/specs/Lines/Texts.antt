@@ -18,6 +18,7 @@ use Rattle.tigertopo_where.specs.Degrees.{is_in_reach, location_text}
 use Rattle.tigertopo_faults.specs.declared.records.line.RecordLine.{RecordLine}
 use Rattle.tigertopo_faults.specs.declared.records.subject.Subject.{Subject}
 use Rattle.tigertopo_faults.specs.Records.SpokenOf.{subjects_of, subjects_of_point}
+use Rattle.tigertopo_words.specs.Escapes.{shown_name}
 use Rattle.tigertopo_words.specs.declared.budget.Told.{Told}
 use Rattle.tigertopo_words.specs.declared.budget.Told.TheVariants.{One, All}
 use Rattle.tl_list_text.specs.Texts.{printed, left_text, count_line}
@@ -42,7 +43,7 @@ number_text number = codes "line " ++ decimal number ++ codes " of all files"
 
 -- a line's file and its number there, of a place among files with these names
 abbrev pub named_text : List (List ℕ) → ℕ → ℕ × ℕ → List ℕ
-named_text names number place = option_map_or (λ name. name ++ codes " line " ++ decimal place.1) (slice_get names place.0) (number_text number)
+named_text names number place = option_map_or (λ name. shown_name name ++ codes " line " ++ decimal place.1) (slice_get names place.0) (number_text number)
 
 -- a line of all files as one text, by its file and its number there, where the files have so many lines
 abbrev pub where_text : List (List ℕ) → List ℕ → ℕ → List ℕ

@@ -9,6 +9,7 @@ use arrayvec::ArrayString;
 use itoa::Buffer;
 use std::alloc::AllocError;
 use tigertopo_where::{TextLine, is_in_reach, place_of, push_location};
+use tigertopo_words::push_name;
 use tl_geom::Rational;
 use tl_list_text::{LINE_ROOM, push_key, push_number};
 use tl_record::Record;
@@ -76,7 +77,7 @@ fn push_place(
     if place.text >= names.len() {
         return push_whole(text, number);
     }
-    text.extend_from_slice(names[place.text].as_str().as_bytes())?;
+    push_name(text, names[place.text].as_str())?;
     push_count(text, b" line ", place.line)
 }
 

@@ -9,6 +9,7 @@ use Rattle.tl_record.specs.Range.{Range}
 use Rattle.tl_record.specs.Limits.{most_line_bytes}
 use Rattle.tl_record.specs.Lines.{content, raw_lines}
 use Rattle.tl_cert_output.specs.Writing.{line_of}
+use Rattle.tigertopo_words.specs.Escapes.{shown_name}
 use Rattle.tigertopo_where.specs.LinePlaces.{line_at, line_count, place_of}
 use Rattle.tigertopo_where.specs.FieldColumns.{columns_of}
 use Rattle.tigertopo_where.specs.Hint.Shown.{shown_bytes, bytes_at}
@@ -33,7 +34,7 @@ columns_text line columns =
 -- a file, one of its lines, and the columns of the field that it is refused for
 abbrev pub place_text : Layout → List ℕ → ℕ → List ℕ → Cause → List ℕ
 place_text layout name number line cause =
-    codes "  " ++ name ++ codes " line " ++ decimal number ++ option_map_or (columns_text (content line)) (columns_for layout (content line) cause) []
+    codes "  " ++ shown_name name ++ codes " line " ++ decimal number ++ option_map_or (columns_text (content line)) (columns_for layout (content line) cause) []
 
 -- a line of a text, where it has so many, with the first bytes that it holds, as many as a line that is read may have
 abbrev pub hint_in : Layout → List ℕ → List ℕ → Cause → ℕ → List ℕ
@@ -51,4 +52,4 @@ refusal_at layout names texts refusal = option_map_or (hint_at layout names text
 
 -- a file, and why it can't be opened or read
 abbrev pub trouble_text : List ℕ → List ℕ → List ℕ
-trouble_text name words = codes "  " ++ name ++ codes ": " ++ words
+trouble_text name words = codes "  " ++ shown_name name ++ codes ": " ++ words

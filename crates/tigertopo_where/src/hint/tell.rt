@@ -18,6 +18,7 @@ use crate::hint::shown::push_place;
 use crate::{Found, TextLine, find_line, place_of};
 use std::alloc::{AllocError, Global};
 use tigertopo_files::{FileSystem, Reading};
+use tigertopo_words::push_name;
 use tl_cert_output::{Stop, write_all};
 use tl_record::{Cause, LineBuffer, Options, Sink, Source};
 
@@ -90,7 +91,7 @@ fn trouble_line(alloc: Global, name: &str, words: &str) -> Result<Vec<u8>, Alloc
     ensures { IfOk result (λ text. text.items ≡ line_of (trouble_text name.now words.now)) }
 {
     let mut text = Vec::from_slice(alloc, b"  ")?;
-    text.extend_from_slice(name.as_bytes())?;
+    push_name(&mut text, name)?;
     text.extend_from_slice(b": ")?;
     text.extend_from_slice(words.as_bytes())?;
     text.extend_from_slice(b"\n")?;
