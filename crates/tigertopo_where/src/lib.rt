@@ -16,5 +16,5 @@ mod place;
 pub use columns::columns_of;
 pub use degrees::{COORDINATE_ROOM, LOCATION_ROOM, is_in_reach, push_degrees, push_location};
 pub use field_columns::FieldColumns;
-pub use lines::{BLOCK, Found, count_lines, find_line};
+pub use lines::{BLOCK, Found, count_lines, find_line, show_line};
 pub use place::{TextLine, place_of};

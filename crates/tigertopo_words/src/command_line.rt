@@ -160,8 +160,8 @@ pub fn subcommand<'a>(alloc: Global, named: &Named) -> Result<Command<'a>, Alloc
     }
 }
 
-// The command's name.
-fn word_of<'a>(named: &Named) -> &'a str
+/// The command's name.
+pub fn word_of<'a>(named: &Named) -> &'a str
     ensures { result.now ≡ name_of named.now }
 {
     match named {

@@ -58,8 +58,8 @@ fn columns_for(options: Options, line: &[u8], cause: Cause) -> Option<FieldColum
     }
 }
 
-// The field that a line is refused for, if it is for one.
-fn field_of(cause: Cause) -> Option<Field>
+/// The field that a line is refused for, if it is for one.
+pub fn field_of(cause: Cause) -> Option<Field>
     ensures { result ≡ field_of cause }
 {
     match cause {
