@@ -1,11 +1,13 @@
-"""The line that the program says behind `refused ..` and behind `stopped Device`, by the files' bytes: in which file the line
-stands, in which of its lines and columns, and what it holds there; or which file can't be read, and why.
+"""The lines that the program says behind `refused ..` and behind `stopped Device`, by the files' bytes: in which file the line
+stands, in which of its lines and columns, and what it holds there, whether the other columns of type I would take it, and what
+the file is where it holds no records; or which file can't be read, and why.
 
 It is said here once more, by docs/records.md, and compared wherever the program is played."""
 
 import re
 from pathlib import Path
 
+from judge import Line, Refused, record_of
 from layout import COLUMNS
 
 REFUSED = re.compile(rb"refused line (\d+) L\d \w+ ?(\w+)?\n")
@@ -47,26 +49,55 @@ def shown(data):
     return b"".join(bytes([it]) if 32 <= it <= 126 and it not in b"`\\" else b"\\x%02x" % it for it in data)
 
 
+def shown_name(name):
+    """A file's name as it is shown: control characters and the backslash are escaped, and stand on one line."""
+    data = name.encode(errors="surrogateescape")
+    return b"".join(b"\\x%02x" % it if it < 32 or it in b"\x7f\\" else bytes([it]) for it in data)
+
+
 def columns_of(line, field, released):
     """The columns of the field of a line of this type."""
     kind = line[:1].decode("latin-1")
     return COLUMNS["released" if kind == "I" and released else kind][field]
 
 
-def of_refusal(names, texts, number, field, released):
-    """Where line so and so of these texts, read as one, stands."""
+def of_columns(line, zero_cells, released):
+    """That the columns of type I that weren't asked for take the line, where they do."""
+    if not line.startswith(b"I"):
+        return b""
+    try:
+        record_of(Line(line), zero_cells, not released)
+    except Refused:
+        return b""
+    return b"  these type I lines read %s --released\n" % (b"without" if released else b"with")
+
+
+def of_form(name, text, command):
+    """What a file is that begins as no records do, and what to type then."""
+    unpacked = {b"PK": b"an archive: unzip -p", b"\x1f\x8b": b"compressed: gzip -dc"}.get(text[:2])
+    if unpacked:
+        return b"  %s is %s %s | tigertopo %s --released /dev/stdin\n" % (name, unpacked, name, command.encode())
+    if text.startswith(b"\x00\x00\x27\x0a"):
+        return b"  %s is a shapefile, which isn't read: tigertopo reads record files\n" % name
+    return b""
+
+
+def of_refusal(asked, texts, number, field):
+    """Where line so and so of these texts, read as one, stands, and what helps."""
+    names, released = asked.names, "--released" in asked.switches
     for name, text in zip(names, texts):
         lines = text.split(b"\n")
         lines = lines[:-1] if not lines[-1] else lines
         if number > len(lines):
             number -= len(lines)
             continue
-        said = b"  " + name.encode(errors="surrogateescape") + b" line %d" % number
+        said, more = b"  " + shown_name(name) + b" line %d" % number, b""
         if field:
             line = lines[number - 1].removesuffix(b"\r")
             first, last = columns_of(line, field, released)
             said += b", columns %d to %d: `" % (first, last) + shown(line[first - 1:last]) + b"`"
-        return said + b"\n"
+            more = of_columns(line, "--zero-cells" in asked.switches, released)
+        return said + b"\n" + more + of_form(shown_name(name), text, asked.command)
     return b""
 
 
@@ -78,7 +109,7 @@ def of_trouble(folder, names):
             with open(Path(folder, name) if name else "", "rb") as file:
                 file.read()
         except OSError as error:
-            return f"  {name}: {error.strerror}\n".encode(errors="surrogateescape")
+            return b"  " + shown_name(name) + f": {error.strerror}\n".encode()
     return b""
 
 
@@ -92,7 +123,7 @@ def wanted(told, words, folder):
         return b""
     texts = [Path(folder, name).read_bytes() for name in asked.names]
     field = refused[2] and refused[2].decode()
-    return of_refusal(asked.names, texts, int(refused[1]), field, "--released" in asked.switches)
+    return of_refusal(asked, texts, int(refused[1]), field)
 
 
 def without(told, words, folder):

@@ -1144,6 +1144,15 @@ class County:
 # The command.
 
 
+def point_of(word):
+    """The point that a word spells, in whole millionths of a degree or in degrees, or None."""
+    found = re.fullmatch(r"@(-?\d+),(-?\d+)|@(-?\d+\.\d{1,6}),(-?\d+\.\d{1,6})", word, re.ASCII)
+    if not found:
+        return None
+    x, y, east, north = found.groups()
+    return Point(int(x), int(y)) if x else Point(*(int(Fraction(it) * 10**6) for it in (east, north)))
+
+
 def asked(words, text_of):
     """The opinion on a command line, where `text_of` gives the bytes of a file; None where it isn't one of the commands
     that the judge knows."""
@@ -1157,7 +1166,7 @@ def asked(words, text_of):
             switches.add(word)
         elif word != "--":
             names.append(word)
-    point = re.fullmatch(r"@(-?\d+),(-?\d+)", names.pop(0)) if command == "locate" and names else None
+    point = point_of(names.pop(0)) if command == "locate" and names else None
     if not names or command not in ("audit", "build", "check", "locate", "landmarks", "show"):
         return None
     if (command == "check" and "--cert" not in values) or (command == "locate" and not point):
@@ -1173,7 +1182,7 @@ def asked(words, text_of):
     if is_more:
         told = county.audit_all(None if most is None else int(most)) if is_all else county.audit_first()
         return Placed(told, county.drawn_faults(names, texts)) if "--where" in switches else told
-    return county.locate(Point(*map(int, point.groups()))) if point else getattr(county, command)()
+    return county.locate(point) if point else getattr(county, command)()
 
 
 if __name__ == "__main__":

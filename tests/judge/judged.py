@@ -66,7 +66,7 @@ def row_agrees(row, words):
     if not is_front and any(status == 64 or err.startswith(unheard) for status, _, err in row.wanted):
         return None
     try:
-        opinion = judge.asked(words, row.files.__getitem__)
+        opinion = judge.asked([rows.bytes_of(it).decode(errors="surrogateescape") for it in words], row.files.__getitem__)
     except KeyError:
         return None
     if opinion is None:
@@ -145,7 +145,11 @@ def complaints(table, case, chance):
         for it in wrong(county.check(certificate, budget), "check", "--cert", "cert", *tests, *switches, *names):
             yield f"{it}\n  the certificate, {change}: {certificate.decode('latin-1')}"
     for x, y in case.points[: chance.choice((0, 1, 1, 2))]:
-        yield from wrong(others.locate(judge.Point(x, y)), "locate", *reading, f"@{x},{y}", *names)
+        # Each of the two units, and of degrees no more decimals than are wanted at times.
+        degrees = [placed.degrees(it, 6) for it in (x, y)]
+        shortest = [it.rstrip("0") + "0" * it.rstrip("0").endswith(".") for it in degrees]
+        word = "@" + ",".join(chance.choice(((str(x), str(y)), degrees, shortest)))
+        yield from wrong(others.locate(judge.Point(x, y)), "locate", *reading, word, *names)
     if chance.random() < 0.1:
         yield from wrong(others.show(), "show", *reading, *names)
         yield from wrong(others.landmarks(), "landmarks", *reading, *names)

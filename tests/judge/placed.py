@@ -46,7 +46,12 @@ class Line:
         """The line's place, its type and what it is of."""
         numbers = (("tlid", self.tlid), ("polygon", self.key), ("land", self.land))
         of = " ".join(f"{word} {number}" for word, number in numbers if number is not None)
-        return f"  {self.file} line {self.number}, type {self.kind}, {of}"
+        return f"  {shown_name(self.file)} line {self.number}, type {self.kind}, {of}"
+
+
+def shown_name(name):
+    """A file's name as it is shown: control characters and the backslash by their numbers."""
+    return "".join(f"\\x{ord(it):02x}" if it < " " or it in "\x7f\\" else it for it in name)
 
 
 def line_of(file, number, raw, released):
@@ -133,9 +138,15 @@ class Fault:
         return [degrees(Fraction(it, scale), places) for it in (x, y)]
 
     @property
+    def is_whole(self):
+        """Whether it lies at whole millionths of a degree."""
+        x, y, scale = self.at
+        return x % scale == y % scale == 0
+
+    @property
     def record_lines(self):
         """The lines that stand behind its own."""
-        at = ", at " + " ".join(self.place(10)) if self.at else ""
+        at = ", at " + ",".join(self.place(6 if self.is_whole else 10)) if self.at else ""
         return [it.told + at for it in self.records]
 
     @property

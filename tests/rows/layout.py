@@ -102,7 +102,7 @@ def line_of(text):
     """The bytes of the line that the words stand for, with its end."""
     kind, _, rest = text.strip().partition(" ")
     if kind == "raw":
-        return rest.encode() + b"\n"
+        return bytes_of(rest) + b"\n"
     if kind == "fill":
         count, byte, *changes = rest.split()
         record, values, line = "", {}, bytearray(byte.encode() * int(count))

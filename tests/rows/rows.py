@@ -7,7 +7,7 @@ usage: rows.py [PROGRAM]
 A row begins with a line `== TITLE`. Then come its files:
 
     like TITLE      the files of an earlier row
-    file NAME       its lines follow indented; layout.py says how a line is written; behind `for A..B:` a line is
+    file NAME       its lines follow indented, and `\\xNN` in its name is a byte; layout.py says how a line is written; behind `for A..B:` a line is
                     written for each number from A to B, which stands for `{}`
     text NAME       its lines follow indented as they stand, several of them with ` / ` between two, or so for each number
     swap NAME A -> B    the file with the lines B in place of the lines A, which stand in it once, each written as in `text`
@@ -225,7 +225,7 @@ def rows_of(path):
             word, _, rest = line.partition(" ")
             row, into = rows[-1], None
             if word == "file":
-                name = shlex.split(rest)[0]
+                name = bytes_of(words_of(rest)[0]).decode()
                 row.files[name] = b""
                 into = (row.files, name, records_of)
             elif word == "text":

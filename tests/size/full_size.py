@@ -224,7 +224,7 @@ def play_checks(plays):
     checked("two streets that meet", [plays.file("tree", head), touched], 1, f"map fault G1 Meet {meet}\n")
     plays.decide("two streets that meet", touched, 1, "", f"map fault G1 Meet {meet}\n")
     # Each street has two lines.
-    at = " ".join(placed.degrees(it, 10) for it in (x, y))
+    at = ",".join(placed.degrees(it, 6) for it in (x, y))
     lines = [f"  {touched} line {2 * k - 1}, type 1, tlid {k}, at {at}\n" for k in (CHAIN_LIMIT - 1, CHAIN_LIMIT)]
     told = f"map fault G1 Meet {meet}\n{''.join(lines)}"
     plays.play("two streets that meet, and where", ["--where", touched], 1, told, command="audit")
@@ -296,7 +296,7 @@ def play_squares(plays):
     fault = f"map fault G4 PointOutside polygon A0001/{across**2}\n"
     plays.play("a point west of the most squares", [plays.file("strayed", strayed)], 1, fault, command="audit")
     number = text[: text.index(POINT % (last, y, y))].count(b"\n") + 1
-    where = f"  strayed line {number}, type P, polygon A0001/{across**2}, at {placed.degrees(-1, 10)} {placed.degrees(y, 10)}\n"
+    where = f"  strayed line {number}, type P, polygon A0001/{across**2}, at {placed.degrees(-1, 6)},{placed.degrees(y, 6)}\n"
     plays.play("a point west of the most squares, and where", ["--where", "strayed"], 1, fault + where, command="audit")
     plays.play("a point west of the most squares, as a file", ["--all", "--geojson", made.name, "strayed"], 1, f"{fault}faults=1\n", command="audit")
     lines = placed.lines_of(["strayed"], [strayed])

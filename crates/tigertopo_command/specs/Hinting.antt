@@ -1,12 +1,14 @@
 -- What is said behind a stop of a command.
 use Rattle.std.specs.Prelude.{◌≡◌, true, Option, Some, None, Result, Ok, Err}
-use Rattle.tl_record.specs.Layout.{layout_with}
 use Rattle.tl_cert_output.specs.declared.stop.Stop.{Stop}
 use Rattle.tl_cert_output.specs.Stops.{StopsFor}
 use Rattle.tigertopo_words.specs.declared.asked.Command.{Command}
+use Rattle.tigertopo_words.specs.Commands.{name_of}
+use Rattle.tigertopo_words.specs.Asked.{named_of}
 use Rattle.tigertopo_files.specs.Log.{LogsAgain}
 use Rattle.tigertopo_files.specs.World.{World}
 use Rattle.tigertopo_where.specs.Hint.Again.{FailsAgain}
+use Rattle.tigertopo_where.specs.Hint.Hints.{Asker, asker}
 use Rattle.tigertopo_where.specs.Hint.Telling.{TellsHint}
 use Rattle.tl_cert_output.specs.Streams.{Stream, Tries}
 use Rattle.tigertopo_command.specs.declared.run.Outcome.{Outcome}
@@ -26,12 +28,16 @@ pub record NothingBehind (b : Behind) : Type 0 where
   pub same : b.err.same
   pub untouched : Untouched b.files
 
+-- who asks: the command's name, and how it reads records
+abbrev pub asker_of : Command → Asker
+asker_of command = asker (name_of (named_of command.asked)) command.options
+
 -- what helps was said behind a stop, of the files as they stand; or nothing was, since memory was refused for it or a file can't be read
 -- again. Where there is no stop nothing is said
 abbrev pub Says : Behind → Command → Option Stop → Result (Unit {0}) Stop → Type 0
 Says b command None (Ok done) = b.err.same
 Says b command None (Err why) = ⊥
-Says b command (Some stop) (Ok done) = TellsHint stop (layout_with command.options) b.files.before (names_read command) (Tries b.err)
+Says b command (Some stop) (Ok done) = TellsHint stop (asker_of command) b.files.before (names_read command) (Tries b.err)
 Says b command (Some stop) (Err why) = b.err.same × StopsFor (FailsAgain b.files (names_read command)) why
 
 -- the same, and files were read for it at most

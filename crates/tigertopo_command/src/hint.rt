@@ -29,7 +29,15 @@ pub fn hint<F: FileSystem, E: Sink>(
         return Ok(());
     };
     let names = names_of(alloc, command)?;
-    say_hint(files, alloc, names.as_slice(), command.options, stop, err)
+    say_hint(
+        files,
+        alloc,
+        names.as_slice(),
+        command.options,
+        command.name(),
+        stop,
+        err,
+    )
 }
 
 // The names of the files that are read.

@@ -1,7 +1,8 @@
 -- Powers of ten, and digits.
 use Rattle.std.proofs.Common.{◌≡◌, ℕ, zero, suc, ◌+◌, ◌-◌, ◌*◌, ◌/◌, ◌%◌, ◌^◌, ◌≤◌, List, [], ◌∷◌, ◌++◌, refl, arith, append_assoc}
 use Rattle.std.specs.Prelude.{ℤ, codes, decimal, unsigned_abs}
-use Rattle.tigertopo_where.specs.Degrees.{degrees_text, digits_below, nearest, sign_of, units_of}
+use Rattle.tl_geom.specs.declared.rational.Rational.{Rational}
+use Rattle.tigertopo_where.specs.Degrees.{decimals_of, degrees_text, digits_below, location_text, nearest, sign_of, units_of}
 
 ten_more : (n k : ℕ) → 10 ^ n ≤ 10 ^ (n + k)
 ten_more n zero = let same : n + 0 ≡ n = omega arith in rw same (omega arith)
@@ -33,3 +34,9 @@ pub degrees_joined : (places : ℕ) (x d : ℤ) (old signed whole dotted all dig
 unfolding degrees_text
 degrees_joined places x d old signed whole dotted all digits units power is ten sign digits_are first dot last =
     rw (last, dot, first, digits_are, sign, ten, is) (simp append_assoc)
+
+-- the parts of a place were written one after the other
+pub location_joined : (at : Rational) (old first comma all : List ℕ) (places : ℕ) (x y d : ℤ) → x ≡ at.x → y ≡ at.y → d ≡ at.d → places ≡ decimals_of at
+    → first ≡ old ++ degrees_text places x d → comma ≡ first ++ codes "," → all ≡ comma ++ degrees_text places y d → all ≡ old ++ location_text at
+unfolding location_text
+location_joined at old first comma all places x y d x_is y_is d_is are one two three = rw (three, two, one, are, x_is, y_is, d_is) (simp append_assoc)

@@ -1,2 +1,3 @@
 pub mod HintLemmas
 pub mod AgainLemmas
+pub mod LineLemmas

@@ -10,7 +10,6 @@ use Rattle.tl_record.specs.declared.refusal.Refusal.{Refusal}
 use Rattle.tl_record.specs.declared.stop.Cause.{Cause}
 use Rattle.tl_record.specs.Limits.{most_line_bytes}
 use Rattle.tl_record.specs.Lines.{raw_lines}
-use Rattle.tl_record.specs.Searching.{pair_of}
 use Rattle.tigertopo_text.specs.Joining.{joined}
 use Rattle.tigertopo_text.proofs.JoiningLemmas.{joined_bytes-known}
 use Rattle.tigertopo_files.specs.Files.{Under, bytes_under}
@@ -18,9 +17,9 @@ use Rattle.tigertopo_files.specs.Reading.{text_under, SomePassing}
 use Rattle.tigertopo_where.specs.declared.lines.Found.TheVariants.{Line, Missing}
 use Rattle.tigertopo_where.specs.Finding.{PassesTo, Shows}
 use Rattle.tigertopo_where.specs.LinePlaces.{line_at, line_count, place_of, StandsAt}
-use Rattle.tigertopo_where.specs.Hint.Hints.{place_text, hint_at, refusal_at}
+use Rattle.tigertopo_where.specs.Hint.Hints.{place_text}
 use Rattle.tigertopo_where.specs.Hint.Telling.{HaveTexts}
-use Rattle.tigertopo_where.specs.Hint.Placed.{refused_text, placed_text, places_of, RiseFrom, IsPlaced}
+use Rattle.tigertopo_where.specs.Hint.Placed.{refused_text, placed_text, place_among, places_of, RiseFrom, IsPlaced}
 use Rattle.tigertopo_where.specs.Hint.Placing.{found_text, place_in, IsPlacedIn}
 use Rattle.tigertopo_where.proofs.PlaceLemmas.{line_stands}
 use Rattle.tigertopo_where.proofs.HintLemmas.HintLemmas.{none_passing}
@@ -150,7 +149,7 @@ tells_in place (Some held) now passed refusal added passes tells = tells held pa
 
 module _ (layout : Layout) (names texts : List (List ℕ)) (same : length names ≡ length texts) where
   stands_by : (refusal : Refusal) (place : Option (ℕ × ℕ)) → place_of (map line_count texts) refusal.line ≡ place → StandsAt texts refusal.line place
-      → place_in layout names (map line_count texts) (joined texts) refusal ≡ refusal_at layout names texts (pair_of refusal)
+      → place_in layout names (map line_count texts) (joined texts) refusal ≡ place_among layout names texts refusal
   stands_by refusal None is stands = rw (stands, is) refl
   stands_by refusal (Some place) is stands =
       let there = stands.2 in
@@ -160,12 +159,12 @@ module _ (layout : Layout) (names texts : List (List ℕ)) (same : length names 
       let called : slice_get names place.0 ≡ Some (get_or names place.0 []) = slice_get-get_or names place.0 [] within in
       rw (all, is, called, there, line) refl
 
-  none_at_zero : (texts : List (List ℕ)) (cause : Cause) → refusal_at layout names texts (0, cause) ≡ []
+  none_at_zero : (texts : List (List ℕ)) (cause : Cause) → place_among layout names texts (record { line = 0; cause = cause }) ≡ []
   none_at_zero [] cause = refl
   none_at_zero (text ∷ texts) cause = let first : nat_le 0 (line_count text) ≡ true = le-leb 0 (line_count text) (omega arith) in rw first refl
 
   place_is : (line : ℕ) (cause : Cause) → let refusal : Refusal = record { line = line; cause = cause } in
-      place_in layout names (map line_count texts) (joined texts) refusal ≡ refusal_at layout names texts (pair_of refusal)
+      place_in layout names (map line_count texts) (joined texts) refusal ≡ place_among layout names texts refusal
   place_is zero cause = sym (none_at_zero texts cause)
   place_is (suc n) cause = stands_by (record { line = suc n; cause = cause }) (place_of (map line_count texts) (suc n)) refl (line_stands texts (suc n) (omega arith))
 

@@ -1,5 +1,5 @@
 -- Places in decimal degrees.
-use Rattle.std.specs.Prelude.{ℕ, ℤ, pos, zero, suc, ◌+◌, ◌-◌, ◌*◌, ◌/◌, ◌%◌, ◌^◌, ◌&&◌, nat_lt, int_lt, unsigned_abs, Bool, List, [], ◌∷◌, ◌++◌, codes, decimal, if◌then◌else◌}
+use Rattle.std.specs.Prelude.{ℕ, ℤ, pos, zero, suc, ◌+◌, ◌-◌, ◌*◌, ◌/◌, ◌%◌, ◌^◌, ◌&&◌, ◌==◌, nat_lt, int_lt, unsigned_abs, Bool, List, [], ◌∷◌, ◌++◌, codes, decimal, if◌then◌else◌}
 use Rattle.tl_geom.specs.declared.rational.Rational.{Rational}
 
 -- the whole number nearest to a fraction with a denominator above 0, and of two that are as near the greater
@@ -32,3 +32,15 @@ reach = 2 ^ 100
 -- whether a place can be printed: each crossing of two segments can
 abbrev pub is_in_reach : Rational → Bool
 is_in_reach at = nat_lt (unsigned_abs at.x) reach && nat_lt (unsigned_abs at.y) reach && nat_lt (unsigned_abs at.d) reach
+
+-- does a place lie at whole millionths of a degree
+abbrev pub is_whole : Rational → Bool
+is_whole at = unsigned_abs at.x % unsigned_abs at.d == 0 && unsigned_abs at.y % unsigned_abs at.d == 0
+
+-- how many decimals it is printed with: at whole millionths six, which are exact, and else ten
+abbrev pub decimals_of : Rational → ℕ
+decimals_of at = if is_whole at then 6 else 10
+
+-- a place in decimal degrees: the longitude, a comma and the latitude
+unfoldable pub location_text : Rational → List ℕ
+location_text at = degrees_text (decimals_of at) at.x at.d ++ codes "," ++ degrees_text (decimals_of at) at.y at.d

@@ -1,5 +1,6 @@
 -- What the contracts of hints cite.
 pub mod Shown
+pub mod Advice
 pub mod Hints
 pub mod Telling
 pub mod Again

@@ -1,8 +1,9 @@
 //! Places in decimal degrees.
 
-ghost use Rattle.std.specs.Prelude.{◌≡◌, ◌+◌, ◌<◌, ◌≤◌, ◌++◌, ◌*◌, ◌-◌, ◌^◌, unsigned_abs};
+ghost use Rattle.std.specs.Prelude.{◌≡◌, ◌+◌, ◌<◌, ◌≤◌, ◌++◌, ◌*◌, ◌-◌, ◌^◌, true, unsigned_abs};
 ghost use Rattle.arrayvec.specs.ArrayString.{array_string_len};
 ghost use Rattle.tigertopo_where.specs.Degrees.{degrees_text, digits_below, is_in_reach, reach, nearest, sign_of};
+ghost use Rattle.tigertopo_where.specs.Degrees.{is_whole, decimals_of, location_text};
 
 use arrayvec::ArrayString;
 use itoa::Buffer;
@@ -10,6 +11,9 @@ use tl_geom::Rational;
 
 /// How many bytes a coordinate takes at most.
 pub const COORDINATE_ROOM: usize = 60;
+
+/// How many bytes a place takes at most: two coordinates and a comma.
+pub const LOCATION_ROOM: usize = 121;
 
 // How great a number of a place may be.
 const REACH: u128 = 1 << 100;
@@ -39,6 +43,37 @@ pub fn push_degrees<const N: usize>(line: &mut ArrayString<N>, x: i128, d: i128,
     line.push_str(digits.format(units / power(places)));
     line.push_str(".");
     push_digits(line, units, places);
+}
+
+/// Adds a place in decimal degrees, the longitude, a comma and the latitude: with six decimals where it lies at whole millionths
+/// of a degree, so that it is exact and `@` in front makes a word of it that spells the point, and else with ten, rounded as a
+/// coordinate is.
+pub fn push_location<const N: usize>(line: &mut ArrayString<N>, at: &Rational)
+    requires room { array_string_len line.old + LOCATION_ROOM ≤ N }
+    requires reach { is_in_reach at.now ≡ true }
+    ensures { line.new.bytes ≡ line.old.bytes ++ location_text at.now }
+{
+    let decimals = decimals_of(at);
+    push_degrees(line, at.x, at.d, decimals);
+    line.push_str(",");
+    push_degrees(line, at.y, at.d, decimals);
+}
+
+// With how many decimals a place is printed.
+fn decimals_of(at: &Rational) -> u32
+    ensures decimals { result ≡ decimals_of at.now }
+    ensures from_six { 6 ≤ result }
+    ensures to_twelve { result ≤ 12 }
+{
+    if is_whole(at) { 6 } else { 10 }
+}
+
+// Whether a place lies at whole millionths of a degree.
+fn is_whole(at: &Rational) -> bool
+    ensures { result ≡ is_whole at.now }
+{
+    let d = distance(at.d);
+    distance(at.x) % d == 0 && distance(at.y) % d == 0
 }
 
 // How far a number is from 0.

@@ -14,7 +14,7 @@ mod lines;
 mod place;
 
 pub use columns::columns_of;
-pub use degrees::{COORDINATE_ROOM, is_in_reach, push_degrees};
+pub use degrees::{COORDINATE_ROOM, LOCATION_ROOM, is_in_reach, push_degrees, push_location};
 pub use field_columns::FieldColumns;
-pub use lines::{BLOCK, Found, count_lines, find_line};
+pub use lines::{BLOCK, Found, count_lines, find_line, show_line};
 pub use place::{TextLine, place_of};

@@ -1,6 +1,6 @@
 //! Lines of a source, by their numbers.
 
-ghost use Rattle.std.specs.Prelude.{◌≡◌, ◌<◌, ℕ, List, Option, [], IfOk, OnOk, min, nat_lt};
+ghost use Rattle.std.specs.Prelude.{◌≡◌, ◌<◌, ℕ, List, Option, IfOk, OnOk, min, nat_lt};
 ghost use Rattle.std.specs.Io.KnownBytes.{Keeps, prepend_known};
 ghost use Rattle.tl_record.specs.Searching.{CountsSkip};
 ghost use Rattle.tl_record.specs.Limits.{most_line_bytes};
@@ -40,16 +40,15 @@ pub fn count_lines<R: Source>(source: &mut R) -> Result<u64, RefusalStop>
     Err(RefusalStop::Endless)
 }
 
-/// Looks for the line with this number, counted from 1, among those that a source has left, and leaves it at the front of
-/// the buffer.
+/// Looks for the line with this number, counted from 1, among those that a buffer holds and a source has left, and leaves it at
+/// the front of the buffer.
 pub fn find_line<R: Source>(
     buffer: &mut LineBuffer<BLOCK>,
     source: &mut R,
     number: u64,
 ) -> Result<Found, RefusalStop>
-    requires { buffer.old ≡ [] }
     // Where the bytes are known: the line's first bytes, or that there are fewer lines.
-    ensures found { Answers (R.remaining source.old) (IsFound number buffer.new) result }
+    ensures found { Answers (prepend_known buffer.old (R.remaining source.old)) (IsFound number buffer.new) result }
     ensures within { IfOk result (IsWithin buffer.new) }
     // `Device` is answered where a read failed in this call, and nowhere else.
     ensures failures { CountsSkip (R.failure_count source.old) (R.failure_count source.new) result }
@@ -89,14 +88,13 @@ pub(crate) fn find_ahead<R: Source>(
     show_line(buffer, source)
 }
 
-// The next line's first bytes. It isn't taken off.
-fn show_line<R: Source>(
+/// The next line's first bytes, which stand at the front of the buffer. It isn't taken off.
+pub fn show_line<R: Source>(
     buffer: &mut LineBuffer<BLOCK>,
     source: &mut R,
 ) -> Result<Found, RefusalStop>
     ensures found { Answers (prepend_known buffer.old (R.remaining source.old)) (IsFound 1 buffer.new) result }
-    ensures stays { Keeps (prepend_known buffer.old (R.remaining source.old))
-        (prepend_known buffer.new (R.remaining source.new)) }
+    ensures kept { Keeps (prepend_known buffer.old (R.remaining source.old)) (prepend_known buffer.new (R.remaining source.new)) }
     ensures within { IfOk result (IsWithin buffer.new) }
     ensures failures { CountsSkip (R.failure_count source.old) (R.failure_count source.new) result }
 {

@@ -2,6 +2,7 @@
 pub mod ArgumentLemmas
 pub mod BudgetLemmas
 pub mod CommandsLemmas
+pub mod DegreesLemmas
 pub mod EscapeLemmas
 pub mod FirstWord
 pub mod PointLemmas

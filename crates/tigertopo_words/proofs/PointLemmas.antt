@@ -12,29 +12,33 @@ use Rattle.std.proofs.lemmas.Str.Pattern.{IsSplitOnceResult, split_after, split_
 use Rattle.std.proofs.lemmas.Fmt.{decimal_is_IsNumeral, parse-signed_decimal}
 use Rattle.std.proofs.lemmas.Int.{fits_signed_from_abs}
 use Rattle.tl_geom.specs.declared.point.Point.{Point}
-use Rattle.tigertopo_words.specs.Points.{point_text, Spells}
+use Rattle.tigertopo_words.specs.Points.{AreMillionths, SpellsBy}
 
 mag_small : (z : ℤ) → mag z ≤ unsigned_abs z
 mag_small (pos n) = omega arith
 mag_small (negsuc n) = omega arith
 
-framed : (xs ys : List ℕ) → codes "@" ++ xs ++ codes "," ++ ys ≡ 64 ∷ (xs ++ (44 ∷ ys))
+pub framed : (xs ys : List ℕ) → codes "@" ++ xs ++ codes "," ++ ys ≡ 64 ∷ (xs ++ (44 ∷ ys))
 framed [] ys = refl
 framed (x ∷ xs) ys = ap (λ l. 64 ∷ (x ∷ drop 1 l)) (framed xs ys)
 
-text_is : (p : Point) → point_text p ≡ 64 ∷ (signed_decimal p.x ++ (44 ∷ signed_decimal p.y))
-text_is p = framed (signed_decimal p.x) (signed_decimal p.y)
-
-digit_not_comma : (n : ℕ) (i : ℕ) → n < 2 ^ 64 → i < length (decimal n) → get_or (decimal n) i 0 ≢ 44
-digit_not_comma n i small within comma =
+-- no byte of a number's digits is one below the digits
+pub digit_not : (n : ℕ) (byte : ℕ) (i : ℕ) → n < 2 ^ 64 → byte < 48 → i < length (decimal n) → get_or (decimal n) i 0 ≢ byte
+digit_not n byte i small below within same =
     let digit = digit_at (decimal n) i (decimal_is_IsNumeral n small).0.1 within in
-    grind (arith, digit, comma)
+    grind (arith, digit, same)
 
--- no byte of a number is a comma
+-- no text of a coordinate has a comma
+abbrev pub HasNoComma : (List ℕ → ℤ → Type 0) → Type 0
+HasNoComma coordinate = (text : List ℕ) (z : ℤ) → coordinate text z → unsigned_abs z < 2 ^ 31 → (i : ℕ) → i < length text → get_or text i 0 ≢ 44
+
 no_comma : (z : ℤ) → unsigned_abs z < 2 ^ 31 → (i : ℕ) → i < length (signed_decimal z) → get_or (signed_decimal z) i 0 ≢ 44
-no_comma (pos n) small i within = digit_not_comma n i (omega (arith, small)) within
+no_comma (pos n) small i within = digit_not n 44 i (omega (arith, small)) (omega arith) within
 no_comma (negsuc n) small zero within = λ comma. absurd (omega (arith, comma))
-no_comma (negsuc n) small (suc i) within = digit_not_comma (suc n) i (omega (arith, small)) (omega (arith, within))
+no_comma (negsuc n) small (suc i) within = digit_not (suc n) 44 i (omega (arith, small)) (omega arith) (omega (arith, within))
+
+pub millionths_no_comma : HasNoComma AreMillionths
+millionths_no_comma text z spelt small = rw spelt (no_comma z small)
 
 -- what is read is the number that is spelt
 pub is_spelt : {E : Type 0} (bytes : List ℕ) (limit : ℕ) (r : Result ℤ E) (z : ℤ) → limit < 2 ^ 31 → ParsesSigned w32 10 bytes r → unsigned_abs z ≤ limit → bytes ≡ signed_decimal z → r ≡ Ok z
@@ -62,43 +66,50 @@ other_text shown bytes n is other spelt =
     let same : pointwise nat_eq shown bytes ≡ true = rw (is ∙ sym spelt) (nat_list_eq_equiv.refl bytes) in
     cc (same, other)
 
--- what follows the @
-behind : (word rest : List ℕ) (p : Point) → word ≡ 64 ∷ rest → Spells word p → rest ≡ signed_decimal p.x ++ (44 ∷ signed_decimal p.y)
-behind word rest p front spells = ap (drop 1) (sym front ∙ spells.is ∙ text_is p)
+module _ (coordinate : List ℕ → ℤ → Type 0) (free : HasNoComma coordinate) where
+  -- what follows the @
+  behind : (word rest : List ℕ) (p : Point) → word ≡ 64 ∷ rest → (spells : SpellsBy coordinate word p) → rest ≡ spells.east ++ (44 ∷ spells.north)
+  behind word rest p front spells = ap (drop 1) (sym front ∙ spells.is ∙ framed spells.east spells.north)
 
--- where the first comma splits it
-parts : (word rest : List ℕ) (r : Option (Bor (List ℕ) × Bor (List ℕ))) (p : Point) → word ≡ 64 ∷ rest → IsSplitOnceResult 44 rest r → Spells word p
-    → MatchOption r ⊥ (λ x. (x.0.now ≡ signed_decimal p.x) × (x.1.now ≡ signed_decimal p.y))
-parts word rest r p front split spells =
-    split_after 44 rest (signed_decimal p.x) (signed_decimal p.y) r split (omega arith) (behind word rest p front spells)
-    (no_comma p.x (omega (arith, spells.longitude)))
+  -- where the first comma splits it
+  parts : (word rest : List ℕ) (r : Option (Bor (List ℕ) × Bor (List ℕ))) (p : Point) → word ≡ 64 ∷ rest → IsSplitOnceResult 44 rest r → (spells : SpellsBy coordinate word p)
+      → MatchOption r ⊥ (λ x. (x.0.now ≡ spells.east) × (x.1.now ≡ spells.north))
+  parts word rest r p front split spells =
+      split_after 44 rest spells.east spells.north r split (omega arith) (behind word rest p front spells)
+      (free spells.east p.x spells.x (let limit = spells.longitude in omega arith))
 
--- a word without an @ in front, or without a comma, spells no point
-pub no_front : (word : List ℕ) (r : Option (Bor (List ℕ))) → MatchOption r ((rest : List ℕ) → word ≢ 64 ∷ rest) (λ x. word ≡ 64 ∷ x.now) → r ≡ None → (p : Point) → Spells word p → ⊥
-no_front word r cases none p spells =
-    let other : (rest : List ℕ) → word ≢ 64 ∷ rest = subst (λ (o : Option (Bor (List ℕ))). MatchOption o ((rest : List ℕ) → word ≢ 64 ∷ rest) (λ x. word ≡ 64 ∷ x.now)) none cases in
-    other (signed_decimal p.x ++ (44 ∷ signed_decimal p.y)) (spells.is ∙ text_is p)
+  -- a word without an @ in front, or without a comma, spells no point
+  pub no_front : (word : List ℕ) (r : Option (Bor (List ℕ))) → MatchOption r ((rest : List ℕ) → word ≢ 64 ∷ rest) (λ x. word ≡ 64 ∷ x.now) → r ≡ None → (p : Point) → SpellsBy coordinate word p → ⊥
+  no_front word r cases none p spells =
+      let other : (rest : List ℕ) → word ≢ 64 ∷ rest = subst (λ (o : Option (Bor (List ℕ))). MatchOption o ((rest : List ℕ) → word ≢ 64 ∷ rest) (λ x. word ≡ 64 ∷ x.now)) none cases in
+      other (spells.east ++ (44 ∷ spells.north)) (spells.is ∙ framed spells.east spells.north)
 
+  pub no_split : (word rest : List ℕ) (r : Option (Bor (List ℕ) × Bor (List ℕ))) → word ≡ 64 ∷ rest → IsSplitOnceResult 44 rest r → r ≡ None → (p : Point) → SpellsBy coordinate word p → ⊥
+  no_split word rest r front split none p spells =
+      subst (λ (o : Option (Bor (List ℕ) × Bor (List ℕ))). MatchOption o ⊥ (λ x. (x.0.now ≡ spells.east) × (x.1.now ≡ spells.north))) none (parts word rest r p front split spells)
+
+  -- the parts of a word that spells a point spell its numbers
+  pub both : (word rest : List ℕ) (r : Option (Bor (List ℕ) × Bor (List ℕ))) (x y : Bor (List ℕ)) → word ≡ 64 ∷ rest → IsSplitOnceResult 44 rest r → r ≡ Some (x, y) → (p : Point) → SpellsBy coordinate word p
+      → coordinate x.now p.x × coordinate y.now p.y
+  both word rest r x y front split is p spells =
+      let cut = subst (λ (o : Option (Bor (List ℕ) × Bor (List ℕ))). MatchOption o ⊥ (λ x. (x.0.now ≡ spells.east) × (x.1.now ≡ spells.north))) is (parts word rest r p front split spells) in
+      (subst (λ (text : List ℕ). coordinate text p.x) (sym cut.0) spells.x, subst (λ (text : List ℕ). coordinate text p.y) (sym cut.1) spells.y)
+
+  -- a word whose parts spell the numbers of a point spells it
+  pub spells_both : (word rest : List ℕ) (r : Option (Bor (List ℕ) × Bor (List ℕ))) (x y : Bor (List ℕ)) (p : Point) → word ≡ 64 ∷ rest → IsSplitOnceResult 44 rest r → r ≡ Some (x, y)
+      → coordinate x.now p.x × (unsigned_abs p.x ≤ greatest_longitude) → coordinate y.now p.y × (unsigned_abs p.y ≤ greatest_latitude) → SpellsBy coordinate word p
+  spells_both word rest r x y p front split is east north =
+      let cut = subst (λ (o : Option (Bor (List ℕ) × Bor (List ℕ))). MatchOption o ((i : ℕ) → i < length rest → get_or rest i 0 ≢ 44) (λ x. (rest ≡ x.0.now ++ (44 ∷ x.1.now)) × ((i : ℕ) → i < length x.0.now → get_or x.0.now i 0 ≢ 44))) is
+      (split_parts 44 rest r split (omega arith)) in record {
+        east = x.now;
+        north = y.now;
+        is = front ∙ ap (λ l. 64 ∷ l) cut.0 ∙ sym (framed x.now y.now);
+        x = east.0;
+        y = north.0;
+        longitude = east.1;
+        latitude = north.1;
+      }
+
+-- where a @ stands in front
 pub with_front : (word : List ℕ) (r : Option (Bor (List ℕ))) (v : Bor (List ℕ)) → MatchOption r ((rest : List ℕ) → word ≢ 64 ∷ rest) (λ x. word ≡ 64 ∷ x.now) → r ≡ Some v → word ≡ 64 ∷ v.now
 with_front word r v cases is = subst (λ (o : Option (Bor (List ℕ))). MatchOption o ((rest : List ℕ) → word ≢ 64 ∷ rest) (λ x. word ≡ 64 ∷ x.now)) is cases
-
-pub no_split : (word rest : List ℕ) (r : Option (Bor (List ℕ) × Bor (List ℕ))) → word ≡ 64 ∷ rest → IsSplitOnceResult 44 rest r → r ≡ None → (p : Point) → Spells word p → ⊥
-no_split word rest r front split none p spells =
-    subst (λ (o : Option (Bor (List ℕ) × Bor (List ℕ))). MatchOption o ⊥ (λ x. (x.0.now ≡ signed_decimal p.x) × (x.1.now ≡ signed_decimal p.y))) none (parts word rest r p front split spells)
-
--- the parts of a word that spells a point spell its numbers
-pub both : (word rest : List ℕ) (r : Option (Bor (List ℕ) × Bor (List ℕ))) (x y : Bor (List ℕ)) → word ≡ 64 ∷ rest → IsSplitOnceResult 44 rest r → r ≡ Some (x, y) → (p : Point) → Spells word p
-    → (x.now ≡ signed_decimal p.x) × (y.now ≡ signed_decimal p.y)
-both word rest r x y front split is p spells =
-    subst (λ (o : Option (Bor (List ℕ) × Bor (List ℕ))). MatchOption o ⊥ (λ x. (x.0.now ≡ signed_decimal p.x) × (x.1.now ≡ signed_decimal p.y))) is (parts word rest r p front split spells)
-
--- a word whose parts spell the numbers of a point spells it
-pub spells_both : (word rest : List ℕ) (r : Option (Bor (List ℕ) × Bor (List ℕ))) (x y : Bor (List ℕ)) (p : Point) → word ≡ 64 ∷ rest → IsSplitOnceResult 44 rest r → r ≡ Some (x, y)
-    → (x.now ≡ signed_decimal p.x) × (unsigned_abs p.x ≤ greatest_longitude) → (y.now ≡ signed_decimal p.y) × (unsigned_abs p.y ≤ greatest_latitude) → Spells word p
-spells_both word rest r x y p front split is east north =
-    let cut = subst (λ (o : Option (Bor (List ℕ) × Bor (List ℕ))). MatchOption o ((i : ℕ) → i < length rest → get_or rest i 0 ≢ 44) (λ x. (rest ≡ x.0.now ++ (44 ∷ x.1.now)) × ((i : ℕ) → i < length x.0.now → get_or x.0.now i 0 ≢ 44))) is
-    (split_parts 44 rest r split (omega arith)) in record {
-      is = front ∙ ap (λ l. 64 ∷ l) (cut.0 ∙ rw (east.0, north.0) refl) ∙ sym (text_is p);
-      longitude = east.1;
-      latitude = north.1;
-    }

@@ -1,6 +1,10 @@
 //! What the program is asked to do.
 
+ghost use Rattle.std.specs.Prelude.{◌≡◌};
+ghost use Rattle.tigertopo_words.specs.Asked.{named_of};
+
 use crate::budget::Told;
+use crate::command_line::{Named, word_of};
 use tl_geom::Point;
 use tl_record::Options;
 
@@ -74,7 +78,15 @@ pub struct View {
 
 impl Command {
     ghost use Rattle.std.specs.Prelude.{◌≡◌, option_map, string_bytes};
+    ghost use Rattle.tigertopo_words.specs.Commands.{name_of};
     ghost use Rattle.tigertopo_words.specs.Asked.{cert_of, made_of};
+
+    /// The name of the command, as it is typed.
+    pub fn name(&self) -> &'static str
+        ensures { result.now ≡ name_of (named_of self.now.asked) }
+    {
+        word_of(&named_of(&self.asked))
+    }
 
     /// The name of the certificate that is read, if one is.
     pub fn cert(&self) -> Option<&String>
@@ -100,5 +112,22 @@ impl Command {
             Asked::Draw { made, .. } => Some(made),
             Asked::Show | Asked::Landmarks | Asked::Locate { .. } | Asked::Check { .. } => None,
         }
+    }
+}
+
+// The command that asks for it.
+fn named_of(asked: &Asked) -> Named
+    ensures { result ≡ named_of asked.now }
+{
+    match asked {
+        Asked::Show => Named::Show,
+        Asked::Landmarks => Named::Landmarks,
+        Asked::Locate { .. } => Named::Locate,
+        Asked::Audit { .. } => Named::Audit,
+        Asked::Build { .. } => Named::Build,
+        Asked::Check { .. } => Named::Check,
+        Asked::Convert { .. } => Named::Convert,
+        Asked::Export { .. } => Named::Export,
+        Asked::Draw { .. } => Named::Draw,
     }
 }

@@ -160,8 +160,8 @@ pub fn subcommand<'a>(alloc: Global, named: &Named) -> Result<Command<'a>, Alloc
     }
 }
 
-// The command's name.
-fn word_of<'a>(named: &Named) -> &'a str
+/// The command's name.
+pub fn word_of<'a>(named: &Named) -> &'a str
     ensures { result.now ≡ name_of named.now }
 {
     match named {
@@ -302,7 +302,7 @@ fn arg_of<'a>(alloc: Global, argument: &Argument) -> Arg<'a>
             alloc,
             "point",
             "@X,Y",
-            "The point, in millionths of a degree",
+            "The point, in millionths of a degree or in degrees",
         ),
         Argument::CertOption => needed_option(alloc, "cert", "CERT", "The certificate"),
         Argument::OutOption => needed_option(alloc, "out", "CERT", "The certificate that is made"),

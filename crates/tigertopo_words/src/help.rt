@@ -50,14 +50,15 @@ pub const LOCATE_ABOUT: &str =
     "Tells where a point lies: on which chain, or in which polygons and landmarks";
 
 pub const LOCATE_EXAMPLE: &str = "\
-The point is `@`, its longitude, a comma and its latitude, in millionths of a degree, with no plus and
-no leading zero. Where a chain runs through it the line is `on tlid T`, with the least TLID of those
-that do. Else it is `in polygons P P .. landmarks N N ..`, where a polygon is its CENID (each blank as
-_), `/` and its POLYID, a landmark is its LAND number, and an empty list is `none`. Whether the map is
-sound isn't tested.
+The point is `@`, its longitude, a comma and its latitude, in millionths of a degree, or both in degrees
+with a point and one to six decimals, with no plus and no leading zero. Where a chain runs through it
+the line is `on tlid T`, with the least TLID of those that do. Else it is `in polygons P P .. landmarks
+N N ..`, where a polygon is its CENID (each blank as _), `/` and its POLYID, a landmark is its LAND
+number, and an empty list is `none`. Whether the map is sound isn't tested.
 
-Example:
-  tigertopo locate @-78762000,39652000 TGR24001.RT*";
+Examples:
+  tigertopo locate @-78762000,39652000 TGR24001.RT*
+  tigertopo locate @-78.762,39.652 TGR24001.RT*";
 
 pub const AUDIT_ABOUT: &str = "Decides whether the map is sound, with no certificate given";
 
@@ -71,7 +72,8 @@ a fault their map isn't looked at, and where sides don't agree `points not looke
 polygons' points weren't. With --most N the last line is `faults=K printed=P`.
 
 With --where each fault has a line behind it for each record that it speaks of, behind two blanks: the
-file, the line, the record's type, the TLID, polygon or landmark, and where the fault lies, in degrees.
+file, the line, the record's type, the TLID, polygon or landmark, and where the fault lies, in degrees:
+with six decimals `locate` and `draw --at` take it behind @, with ten it is rounded.
 With --geojson OUT the faults that are told are made a collection of features of RFC 7946, with --all
 all of them: each where it lies, with its code, what it is about and its records, and then the chains
 that they name. Of a sound map the collection is empty. OUT is written as OUT.unfinished and takes its
@@ -169,7 +171,8 @@ pub const FACES: &str = "Asks too that sides that face one another name one poly
 pub const FACES_OF_DRAWING: &str =
     "Draws too where sides that face one another don't name one polygon; needs --faults";
 
-pub const AT: &str = "The middle of what is drawn, in millionths of a degree; needs --width";
+pub const AT: &str =
+    "The middle of what is drawn, in millionths of a degree or in degrees; needs --width";
 
 pub const WIDTH: &str = "How wide that is, in millionths of a degree; needs --at";
 

@@ -6,6 +6,8 @@ mod asked;
 mod asking;
 mod budget;
 mod command_line;
+mod degrees;
+mod escapes;
 mod first_word;
 mod help;
 mod point;
@@ -16,4 +18,5 @@ pub mod words;
 
 pub use asked::{Asked, Command, View};
 pub use budget::Told;
+pub use escapes::{push_escaped, push_name};
 pub use stop::WordsStop;

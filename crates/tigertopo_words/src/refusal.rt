@@ -34,7 +34,8 @@ const WIDTH_SPELLING: &str =
 // How a point is spelt.
 const POINT_SPELLING: &str =
     "@, a longitude from -180000000 to 180000000, a comma and a latitude from -90000000 to \
-    90000000 are wanted, with no plus, no leading zero and no -0";
+    90000000 are wanted, or both in degrees with one to six decimals, as @-78.762,39.652; with \
+    no plus, no leading zero and no -0";
 
 /// Why words of which `clap` gives this error are no command.
 pub fn stop_of(alloc: Global, error: &Error) -> WordsStop

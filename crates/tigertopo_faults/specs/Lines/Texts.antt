@@ -14,10 +14,11 @@ use Rattle.tl_check_verdict.specs.declared.fault.MapFault.{MapFault}
 use Rattle.tl_check_verdict.specs.declared.fault.MapFault.TheVariants.{Records, Meet, Side, PolygonPoint, Cell, Face}
 use Rattle.tl_check_verdict.specs.Messages.{map_fault_text}
 use Rattle.tigertopo_where.specs.LinePlaces.{place_of}
-use Rattle.tigertopo_where.specs.Degrees.{degrees_text, is_in_reach}
+use Rattle.tigertopo_where.specs.Degrees.{is_in_reach, location_text}
 use Rattle.tigertopo_faults.specs.declared.records.line.RecordLine.{RecordLine}
 use Rattle.tigertopo_faults.specs.declared.records.subject.Subject.{Subject}
 use Rattle.tigertopo_faults.specs.Records.SpokenOf.{subjects_of, subjects_of_point}
+use Rattle.tigertopo_words.specs.Escapes.{shown_name}
 use Rattle.tigertopo_words.specs.declared.budget.Told.{Told}
 use Rattle.tigertopo_words.specs.declared.budget.Told.TheVariants.{One, All}
 use Rattle.tl_list_text.specs.Texts.{printed, left_text, count_line}
@@ -31,11 +32,10 @@ record_text (PolyPoint key point) = codes ", type P, polygon " ++ key_text key
 record_text (Landmark land point) = codes ", type 7, land " ++ decimal land
 record_text (AreaLink key land) = codes ", type 8, polygon " ++ key_text key ++ codes " land " ++ decimal land
 
--- a place in decimal degrees with ten places, where it can be printed
+-- a place in decimal degrees, where it can be printed
 abbrev pub at_text : Option Rational → List ℕ
 at_text None = []
-at_text (Some at) =
-    if is_in_reach at then codes ", at " ++ degrees_text 10 at.x at.d ++ codes " " ++ degrees_text 10 at.y at.d else []
+at_text (Some at) = if is_in_reach at then codes ", at " ++ location_text at else []
 
 -- a line of all files as one text, by its number in that text
 abbrev pub number_text : ℕ → List ℕ
@@ -43,7 +43,7 @@ number_text number = codes "line " ++ decimal number ++ codes " of all files"
 
 -- a line's file and its number there, of a place among files with these names
 abbrev pub named_text : List (List ℕ) → ℕ → ℕ × ℕ → List ℕ
-named_text names number place = option_map_or (λ name. name ++ codes " line " ++ decimal place.1) (slice_get names place.0) (number_text number)
+named_text names number place = option_map_or (λ name. shown_name name ++ codes " line " ++ decimal place.1) (slice_get names place.0) (number_text number)
 
 -- a line of all files as one text, by its file and its number there, where the files have so many lines
 abbrev pub where_text : List (List ℕ) → List ℕ → ℕ → List ℕ

@@ -8,13 +8,11 @@ use crate::records::RecordLine;
 use arrayvec::ArrayString;
 use itoa::Buffer;
 use std::alloc::AllocError;
-use tigertopo_where::{TextLine, is_in_reach, place_of, push_degrees};
+use tigertopo_where::{TextLine, is_in_reach, place_of, push_location};
+use tigertopo_words::push_name;
 use tl_geom::Rational;
 use tl_list_text::{LINE_ROOM, push_key, push_number};
 use tl_record::Record;
-
-// How many decimal places of a degree are printed.
-const PLACES: u32 = 10;
 
 /// Adds the lines of records that a fault at this place speaks of, of files with these names and so many lines each.
 pub(crate) fn push_record_lines(
@@ -79,7 +77,7 @@ fn push_place(
     if place.text >= names.len() {
         return push_whole(text, number);
     }
-    text.extend_from_slice(names[place.text].as_str().as_bytes())?;
+    push_name(text, names[place.text].as_str())?;
     push_count(text, b" line ", place.line)
 }
 
@@ -129,9 +127,7 @@ fn at_words(at: Option<Rational>) -> ArrayString<LINE_ROOM>
     if let Some(at) = at {
         if is_in_reach(&at) {
             words.push_str(", at ");
-            push_degrees(&mut words, at.x, at.d, PLACES);
-            words.push_str(" ");
-            push_degrees(&mut words, at.y, at.d, PLACES);
+            push_location(&mut words, &at);
         }
     }
     words

@@ -3,7 +3,6 @@ use Rattle.std.proofs.Common.{◌≡◌, ℕ, zero, suc, ◌+◌, ◌<◌, ◌�
 use Rattle.std.proofs.lemmas.List.{length-map, get_or-map}
 use Rattle.std.proofs.lemmas.Option.{slice_get-get_or, slice_get_past}
 use Rattle.std.specs.Io.KnownBytes.{Appends}
-use Rattle.tl_record.specs.declared.layout.Layout.{Layout}
 use Rattle.tl_record.specs.declared.stop.Cause.{Cause}
 use Rattle.tigertopo_where.specs.LinePlaces.{line_count, place_of}
 use Rattle.tigertopo_files.specs.Files.{Under, bytes_under, trouble_of}
@@ -13,7 +12,7 @@ use Rattle.tl_cert_output.specs.Stops.{StopsFor}
 use Rattle.tl_cert_output.specs.Writing.{TriesToPassOn, CountsFailure}
 use Rattle.tl_cert_output.proofs.StopLemmas.{stops_for}
 use Rattle.tl_cert_output.proofs.WritingLemmas.{writes_some}
-use Rattle.tigertopo_where.specs.Hint.Hints.{refusal_at, hint_at, hint_in}
+use Rattle.tigertopo_where.specs.Hint.Hints.{Asker, refusal_at, hint_at, hint_in}
 use Rattle.tigertopo_where.specs.Hint.Telling.{HaveTexts, TellsWords, TellsTrouble, TellsHint}
 use Rattle.tl_cert_output.specs.Streams.{Tries, stream}
 
@@ -31,11 +30,11 @@ trouble_told : (P Q : List ℕ → Type 0) → ((t : List ℕ) → P t → Q t) 
 trouble_told P Q f under [] told = f [] told
 trouble_told P Q f under (name ∷ rest) told = some_told P Q f name (under name) (TellsTrouble under rest P) (TellsTrouble under rest Q) (trouble_told P Q f under rest) told
 
-pub hint_told : (P Q : List ℕ → Type 0) → ((t : List ℕ) → P t → Q t) → (stop : Stop) (layout : Layout) (under : Under) (names : List (List ℕ)) → TellsHint stop layout under names P → TellsHint stop layout under names Q
-hint_told P Q f (Record line cause) layout under names told = λ texts have. f _ (told texts have)
-hint_told P Q f Memory layout under names told = f [] told
-hint_told P Q f Device layout under names told = trouble_told P Q f under names told
-hint_told P Q f Budget layout under names told = f [] told
+pub hint_told : (P Q : List ℕ → Type 0) → ((t : List ℕ) → P t → Q t) → (stop : Stop) (by : Asker) (under : Under) (names : List (List ℕ)) → TellsHint stop by under names P → TellsHint stop by under names Q
+hint_told P Q f (Record line cause) by under names told = λ texts have. f _ (told texts have)
+hint_told P Q f Memory by under names told = f [] told
+hint_told P Q f Device by under names told = trouble_told P Q f under names told
+hint_told P Q f Budget by under names told = f [] told
 
 -- what a write of a text tells of it
 pub tries : {S T E : Type 0} (contents : S → Option (List ℕ)) (failures : S → ℕ) (old new : S) (text : List ℕ) (r : Result T E) → OnOk r (Appends (contents old) (contents new) text)
@@ -127,31 +126,31 @@ failed_then failed other (Ok v) wider stops = tt
 failed_then failed other (Err stop) wider stops = stops_for failed other stop wider stops
 
 -- the line of a refusal, by its place
-module _ {A : Type 0} (h : A → List ℕ) (layout : Layout) (under : Under) (names : List A) (texts : List (List ℕ)) (have : HaveTexts under (map h names) texts) where
+module _ {A : Type 0} (h : A → List ℕ) (by : Asker) (under : Under) (names : List A) (texts : List (List ℕ)) (have : HaveTexts under (map h names) texts) where
   pub hint_within : (text line : ℕ) (cause : Cause) (name : A) (made : List ℕ) → text < length names → name ≡ get_or names text name
-      → ((held : List ℕ) → bytes_under under (h name) ≡ Some held → made ≡ hint_in layout (h name) held cause line) → made ≡ hint_at layout (map h names) texts cause (text, line)
+      → ((held : List ℕ) → bytes_under under (h name) ≡ Some held → made ≡ hint_in by (h name) held cause line) → made ≡ hint_at by (map h names) texts cause (text, line)
   hint_within text line cause name made within is hint =
       let size = same_count h under names texts have in
       let there : slice_get texts text ≡ Some (get_or texts text []) = slice_get-get_or texts text [] (omega (arith, size)) in
       let called = named h names text name within is in
       rw (there, called) (hint (get_or texts text []) (text_at h under names texts text name within is have))
 
-  pub hint_beyond : (text line : ℕ) (cause : Cause) → length names ≤ text → [] ≡ hint_at layout (map h names) texts cause (text, line)
+  pub hint_beyond : (text line : ℕ) (cause : Cause) → length names ≤ text → [] ≡ hint_at by (map h names) texts cause (text, line)
   hint_beyond text line cause past =
       let size = same_count h under names texts have in
       let none : slice_get texts text ≡ None = slice_get_past texts text (omega (arith, size)) in
       rw none refl
 
-pub by_place : (layout : Layout) (names texts : List (List ℕ)) (refusal : ℕ × Cause) (counts made : List ℕ) (place : ℕ × ℕ) → Some counts ≡ Some (map line_count texts)
-    → Some place ≡ place_of counts refusal.0 → made ≡ hint_at layout names texts refusal.1 place → made ≡ refusal_at layout names texts refusal
-by_place layout names texts refusal counts made place are stands hint =
+pub by_place : (by : Asker) (names texts : List (List ℕ)) (refusal : ℕ × Cause) (counts made : List ℕ) (place : ℕ × ℕ) → Some counts ≡ Some (map line_count texts)
+    → Some place ≡ place_of counts refusal.0 → made ≡ hint_at by names texts refusal.1 place → made ≡ refusal_at by names texts refusal
+by_place by names texts refusal counts made place are stands hint =
     let same : counts ≡ map line_count texts = let all = are in cc in
     let there : place_of (map line_count texts) refusal.0 ≡ Some place = ap (λ (l : List ℕ). place_of l refusal.0) (sym same) ∙ sym stands in
     rw there hint
 
-pub by_none : (layout : Layout) (names texts : List (List ℕ)) (refusal : ℕ × Cause) (counts : List ℕ) → Some counts ≡ Some (map line_count texts)
-    → None ≡ place_of counts refusal.0 → [] ≡ refusal_at layout names texts refusal
-by_none layout names texts refusal counts are stands =
+pub by_none : (by : Asker) (names texts : List (List ℕ)) (refusal : ℕ × Cause) (counts : List ℕ) → Some counts ≡ Some (map line_count texts)
+    → None ≡ place_of counts refusal.0 → [] ≡ refusal_at by names texts refusal
+by_none by names texts refusal counts are stands =
     let same : counts ≡ map line_count texts = let all = are in cc in
     let there : place_of (map line_count texts) refusal.0 ≡ None = ap (λ (l : List ℕ). place_of l refusal.0) (sym same) ∙ sym stands in
     rw there refl

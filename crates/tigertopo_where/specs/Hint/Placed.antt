@@ -1,12 +1,16 @@
 -- What is told of refused lines one after the other, each with where it stands.
-use Rattle.std.specs.Prelude.{◌≡◌, ⊤, ℕ, ◌<◌, List, [], ◌∷◌, ◌++◌, map}
+use Rattle.std.specs.Prelude.{◌≡◌, ⊤, ℕ, ◌<◌, List, [], ◌∷◌, ◌++◌, map, take, slice_get, slice_index_or}
+use Rattle.std.specs.Option.{option_map_or, option_and_then}
 use Rattle.tl_record.specs.declared.layout.Layout.{Layout}
 use Rattle.tl_record.specs.declared.refusal.Refusal.{Refusal}
 use Rattle.tl_record.specs.Messages.{refusal_text}
-use Rattle.tl_record.specs.Searching.{pair_of}
+use Rattle.tl_record.specs.declared.stop.Cause.{Cause}
+use Rattle.tl_record.specs.Limits.{most_line_bytes}
+use Rattle.tl_record.specs.Lines.{raw_lines}
 use Rattle.tl_cert_output.specs.Writing.{line_of}
 use Rattle.tigertopo_files.specs.Files.{Under}
-use Rattle.tigertopo_where.specs.Hint.Hints.{refusal_at}
+use Rattle.tigertopo_where.specs.LinePlaces.{line_at, line_count, place_of}
+use Rattle.tigertopo_where.specs.Hint.Hints.{place_text}
 use Rattle.tigertopo_where.specs.Hint.Telling.{HaveTexts}
 
 -- the line of a refused line
@@ -19,9 +23,19 @@ placed_text [] told = []
 placed_text (refusal ∷ rest) [] = refused_text refusal ++ placed_text rest []
 placed_text (refusal ∷ rest) (place ∷ told) = refused_text refusal ++ place ++ placed_text rest told
 
--- where each of these refused lines stands among the texts of these names
+-- the line of a place among the texts of these names, where a line is refused
+abbrev pub line_in : Layout → List (List ℕ) → List (List ℕ) → Cause → ℕ × ℕ → List ℕ
+line_in layout names texts cause place =
+    option_map_or (λ line. line_of (place_text layout (slice_index_or names place.0 []) place.1 (take most_line_bytes line) cause))
+    (option_and_then (λ text. line_at place.1 (raw_lines text)) (slice_get texts place.0)) []
+
+-- where a refused line stands among the texts of these names
+abbrev pub place_among : Layout → List (List ℕ) → List (List ℕ) → Refusal → List ℕ
+place_among layout names texts refusal = option_map_or (line_in layout names texts refusal.cause) (place_of (map line_count texts) refusal.line) []
+
+-- where each of these stands
 abbrev pub places_of : Layout → List (List ℕ) → List (List ℕ) → List Refusal → List (List ℕ)
-places_of layout names texts refusals = map (λ refusal. refusal_at layout names texts (pair_of refusal)) refusals
+places_of layout names texts refusals = map (place_among layout names texts) refusals
 
 -- each of these lines comes behind the one before, and the first behind so many
 abbrev pub RiseFrom : ℕ → List Refusal → Type 0

@@ -1,19 +1,16 @@
 -- How bytes of a line are shown.
-use Rattle.std.specs.Prelude.{ℕ, ◌+◌, ◌-◌, ◌/◌, ◌%◌, ◌==◌, ◌&&◌, not, nat_le, nat_lt, Bool, List, [], ◌∷◌, ◌++◌, take, drop, if◌then◌else◌}
+use Rattle.std.specs.Prelude.{ℕ, ◌-◌, ◌==◌, ◌&&◌, not, nat_le, Bool, List, [], ◌∷◌, ◌++◌, take, drop, if◌then◌else◌}
 use Rattle.tl_record.specs.Range.{Range}
 use Rattle.tl_record.specs.Fields.{width_of}
-
--- the digit of a number below 16, as it is printed
-abbrev pub hex_digit : ℕ → ℕ
-hex_digit n = if nat_lt n 10 then 48 + n else 87 + n
+use Rattle.tigertopo_words.specs.Escapes.{escaped_byte}
 
 -- is a byte shown as itself: printable ASCII, but for the backquote and the backslash
 abbrev pub is_plain : ℕ → Bool
 is_plain byte = (nat_le 32 byte && nat_le byte 126) && (not (byte == 96) && not (byte == 92))
 
--- a byte as it is shown: itself, or `\x` and its two hexadecimal digits
+-- a byte as it is shown: itself, or escaped
 abbrev pub shown_byte : ℕ → List ℕ
-shown_byte byte = if is_plain byte then byte ∷ [] else 92 ∷ 120 ∷ hex_digit (byte / 16) ∷ hex_digit (byte % 16) ∷ []
+shown_byte byte = if is_plain byte then byte ∷ [] else escaped_byte byte
 
 -- bytes as they are shown, one after the other
 abbrev pub shown_bytes : List ℕ → List ℕ

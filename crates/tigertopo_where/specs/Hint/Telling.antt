@@ -1,22 +1,21 @@
 -- What is told behind a stop. `told` says of a text that it was written; nothing is claimed of names under which what stands
 -- isn't known.
 use Rattle.std.specs.Prelude.{◌≡◌, ℕ, List, [], ◌∷◌, Option, None, Some, IfSome, map}
-use Rattle.tl_record.specs.declared.layout.Layout.{Layout}
 use Rattle.tl_record.specs.declared.stop.Cause.{Cause}
 use Rattle.tl_cert_output.specs.declared.stop.Stop.{Stop}
 use Rattle.tl_cert_output.specs.declared.stop.Stop.TheVariants.{Record, Memory, Device, Budget}
 use Rattle.tl_cert_output.specs.Writing.{line_of}
 use Rattle.tigertopo_files.specs.Files.{Under, bytes_under, trouble_of}
-use Rattle.tigertopo_where.specs.Hint.Hints.{refusal_at, trouble_text}
+use Rattle.tigertopo_where.specs.Hint.Hints.{Asker, refusal_at, trouble_text}
 
 -- files of these bytes stand under the names
 abbrev pub HaveTexts : Under → List (List ℕ) → List (List ℕ) → Type 0
 HaveTexts under names texts = map (bytes_under under) names ≡ map Some texts
 
 -- where the text of each file is known, it is told where the refused line stands
-abbrev pub TellsRefusal : Layout → Under → List (List ℕ) → ℕ × Cause → (List ℕ → Type 0) → Type 0
-TellsRefusal layout under names refusal told =
-    (texts : List (List ℕ)) → HaveTexts under names texts → told (refusal_at layout names texts refusal)
+abbrev pub TellsRefusal : Asker → Under → List (List ℕ) → ℕ × Cause → (List ℕ → Type 0) → Type 0
+TellsRefusal by under names refusal told =
+    (texts : List (List ℕ)) → HaveTexts under names texts → told (refusal_at by names texts refusal)
 
 -- why a file can't be read is told, or where it can be, what is told of the later ones
 abbrev pub TellsWords : List ℕ → Option (List ℕ) → (List ℕ → Type 0) → Type 0 → Type 0
@@ -29,8 +28,8 @@ TellsTrouble under [] told = told []
 TellsTrouble under (name ∷ rest) told = IfSome (under name) (λ file. TellsWords name (trouble_of file) told (TellsTrouble under rest told))
 
 -- what is told behind a stop: where a refused line stands, or which file failed and why, and else nothing
-abbrev pub TellsHint : Stop → Layout → Under → List (List ℕ) → (List ℕ → Type 0) → Type 0
-TellsHint (Record line cause) layout under names told = TellsRefusal layout under names (line, cause) told
-TellsHint Memory layout under names told = told []
-TellsHint Device layout under names told = TellsTrouble under names told
-TellsHint Budget layout under names told = told []
+abbrev pub TellsHint : Stop → Asker → Under → List (List ℕ) → (List ℕ → Type 0) → Type 0
+TellsHint (Record line cause) by under names told = TellsRefusal by under names (line, cause) told
+TellsHint Memory by under names told = told []
+TellsHint Device by under names told = TellsTrouble under names told
+TellsHint Budget by under names told = told []

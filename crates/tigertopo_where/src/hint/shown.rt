@@ -1,15 +1,16 @@
 //! The text of a refused line's place.
 
-ghost use Rattle.std.specs.Prelude.{◌≡◌, ◌<◌, ◌++◌, OnOk, option_map, decimal, slice_index};
+ghost use Rattle.std.specs.Prelude.{◌≡◌, ◌++◌, OnOk, option_map, decimal, slice_index};
 ghost use Rattle.tl_record.specs.Layout.{layout_with};
 ghost use Rattle.tl_record.specs.Lines.{content};
 ghost use Rattle.tigertopo_where.specs.FieldColumns.{range_of};
-ghost use Rattle.tigertopo_where.specs.Hint.Shown.{hex_digit, is_plain, shown_byte, shown_bytes};
+ghost use Rattle.tigertopo_where.specs.Hint.Shown.{is_plain, shown_byte, shown_bytes};
 ghost use Rattle.tigertopo_where.specs.Hint.Hints.{field_of, columns_for, columns_text, place_text};
 
 use crate::{FieldColumns, columns_of};
 use itoa::Buffer;
 use std::alloc::AllocError;
+use tigertopo_words::{push_escaped, push_name};
 use tl_record::{Cause, Columns, Field, Options};
 
 /// Adds where a refused line stands: the file's name, the line's number in it, and where it is refused for a field, the
@@ -26,7 +27,7 @@ pub fn push_place(
         ≡ text.old.items ++ place_text (layout_with options) name.now number line.now cause) }
 {
     text.extend_from_slice(b"  ")?;
-    text.extend_from_slice(name.as_bytes())?;
+    push_name(text, name)?;
     push_number(text, b" line ", number)?;
     let bytes = content(line);
     match columns_for(options, bytes, cause) {
@@ -57,8 +58,8 @@ fn columns_for(options: Options, line: &[u8], cause: Cause) -> Option<FieldColum
     }
 }
 
-// The field that a line is refused for, if it is for one.
-fn field_of(cause: Cause) -> Option<Field>
+/// The field that a line is refused for, if it is for one.
+pub fn field_of(cause: Cause) -> Option<Field>
     ensures { result ≡ field_of cause }
 {
     match cause {
@@ -113,7 +114,7 @@ fn push_byte(text: &mut Vec<u8>, byte: u8) -> Result<(), AllocError>
     if is_plain(byte) {
         text.extend_from_slice(&[byte])?;
     } else {
-        text.extend_from_slice(&[b'\\', b'x', hex_digit(byte / 16), hex_digit(byte % 16)])?;
+        push_escaped(text, byte)?;
     }
     Ok(())
 }
@@ -123,16 +124,4 @@ fn is_plain(byte: u8) -> bool
     ensures { result ≡ is_plain byte }
 {
     (32 <= byte && byte <= 126) && (byte != b'`' && byte != b'\\')
-}
-
-// A hexadecimal digit.
-fn hex_digit(digit: u8) -> u8
-    requires { digit < 16 }
-    ensures { result ≡ hex_digit digit }
-{
-    if digit < 10 {
-        b'0' + digit
-    } else {
-        b'a' + (digit - 10)
-    }
 }

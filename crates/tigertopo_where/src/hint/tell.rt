@@ -1,25 +1,25 @@
 //! What is said behind a stop.
 
-ghost use Rattle.std.specs.Prelude.{◌≡◌, ℕ, true, List, [], ◌∷◌, Some, OnOk, OnErr, IfOk, IfErr, IfSome, map, string_bytes};
-ghost use Rattle.tl_record.specs.Layout.{layout_with};
+ghost use Rattle.std.specs.Prelude.{◌≡◌, ℕ, true, List, [], ◌∷◌, Some, OnOk, OnErr, IfOk, IfErr, map, string_bytes};
 ghost use Rattle.tl_cert_output.specs.Stops.{StopsFor};
 ghost use Rattle.tl_cert_output.specs.Writing.{line_of};
 ghost use Rattle.tigertopo_files.specs.Files.{bytes_under};
 ghost use Rattle.tigertopo_files.specs.Log.{LogsAgain};
 ghost use Rattle.tigertopo_files.specs.World.{world};
 ghost use Rattle.tigertopo_where.specs.LinePlaces.{place_pair};
-ghost use Rattle.tigertopo_where.specs.Hint.Again.{FailsAgain, HasNoEnd};
+ghost use Rattle.tigertopo_where.specs.Hint.Again.{FailsAgain};
 ghost use Rattle.tigertopo_where.specs.Hint.Telling.{HaveTexts, TellsHint, TellsRefusal, TellsTrouble};
 ghost use Rattle.tl_cert_output.specs.Streams.{Tries, stream};
-ghost use Rattle.tigertopo_where.specs.Hint.Hints.{hint_at, hint_in, trouble_text};
+ghost use Rattle.tigertopo_where.specs.Hint.Hints.{asker, hint_at, hint_in, trouble_text};
 
 use crate::hint::again::count_all;
-use crate::hint::shown::push_place;
-use crate::{Found, TextLine, find_line, place_of};
+use crate::hint::refused::RefusedLine;
+use crate::{TextLine, place_of};
 use std::alloc::{AllocError, Global};
-use tigertopo_files::{FileSystem, Reading};
+use tigertopo_files::FileSystem;
+use tigertopo_words::push_name;
 use tl_cert_output::{Stop, write_all};
-use tl_record::{Cause, LineBuffer, Options, Sink, Source};
+use tl_record::{Cause, Options, Sink};
 
 /// Says behind a stop of a command, which read the files of these names, what helps: behind a refused line in which file it
 /// stands, in which of its lines and columns, and what it holds there; where a device failed, which file can't be opened or
@@ -33,17 +33,18 @@ pub fn say_hint<F: FileSystem, E: Sink>(
     alloc: Global,
     names: &[String],
     options: Options,
+    command: &str,
     stop: &Stop,
     err: &mut E,
 ) -> Result<(), Stop>
-    ensures hint { OnOk result (TellsHint stop.now (layout_with options) (F.under files.old) (map string_bytes names.now)
+    ensures hint { OnOk result (TellsHint stop.now (asker command.now options) (F.under files.old) (map string_bytes names.now)
         (Tries (stream E.contents E.failure_count err.old err.new))) }
     ensures silent { OnErr result (err.new ≡ err.old) }
     ensures stops { IfErr result (StopsFor (FailsAgain (world F.under F.log F.knows files.old files.new) (map string_bytes names.now))) }
     ensures stays { F.under files.new ≡ F.under files.old }
     ensures logged { F.knows ≡ true → LogsAgain (F.log files.old) (F.log files.new) result }
 {
-    let text = hint_of(files, alloc, names, options, stop)?;
+    let text = hint_of(files, alloc, names, options, command, stop)?;
     let _ = write_all(text.as_slice(), err);
     Ok(())
 }
@@ -54,16 +55,19 @@ fn hint_of<F: FileSystem>(
     alloc: Global,
     names: &[String],
     options: Options,
+    command: &str,
     stop: &Stop,
 ) -> Result<Vec<u8>, Stop>
-    ensures hint { IfOk result (λ text. TellsHint stop.now (layout_with options) (F.under files.old) (map string_bytes names.now)
+    ensures hint { IfOk result (λ text. TellsHint stop.now (asker command.now options) (F.under files.old) (map string_bytes names.now)
         (λ told. text.items ≡ told)) }
     ensures stops { IfErr result (StopsFor (FailsAgain (world F.under F.log F.knows files.old files.new) (map string_bytes names.now))) }
     ensures stays { F.under files.new ≡ F.under files.old }
     ensures logged { F.knows ≡ true → LogsAgain (F.log files.old) (F.log files.new) result }
 {
     match *stop {
-        Stop::Record { line, cause } => refusal_hint(files, alloc, names, options, line, cause),
+        Stop::Record { line, cause } => refusal_hint(
+            files, alloc, names, options, command, line, cause,
+        ),
         Stop::Device => Ok(trouble_hint(files, alloc, names)?),
         Stop::Memory | Stop::Budget => Ok(Vec::new(alloc)),
     }
@@ -90,7 +94,7 @@ fn trouble_line(alloc: Global, name: &str, words: &str) -> Result<Vec<u8>, Alloc
     ensures { IfOk result (λ text. text.items ≡ line_of (trouble_text name.now words.now)) }
 {
     let mut text = Vec::from_slice(alloc, b"  ")?;
-    text.extend_from_slice(name.as_bytes())?;
+    push_name(&mut text, name)?;
     text.extend_from_slice(b": ")?;
     text.extend_from_slice(words.as_bytes())?;
     text.extend_from_slice(b"\n")?;
@@ -103,10 +107,11 @@ fn refusal_hint<F: FileSystem>(
     alloc: Global,
     names: &[String],
     options: Options,
+    command: &str,
     line: u64,
     cause: Cause,
 ) -> Result<Vec<u8>, Stop>
-    ensures hint { IfOk result (λ text. TellsRefusal (layout_with options) (F.under files.old) (map string_bytes names.now)
+    ensures hint { IfOk result (λ text. TellsRefusal (asker command.now options) (F.under files.old) (map string_bytes names.now)
         (line, cause) (λ told. text.items ≡ told)) }
     ensures stops { IfErr result (StopsFor (FailsAgain (world F.under F.log F.knows files.old files.new) (map string_bytes names.now))) }
     ensures stays { F.under files.new ≡ F.under files.old }
@@ -116,7 +121,7 @@ fn refusal_hint<F: FileSystem>(
         return Ok(Vec::new(alloc));
     };
     match place_of(counts.as_slice(), line) {
-        Some(place) => place_line(files, alloc, names, options, place, cause),
+        Some(place) => place_line(files, alloc, names, options, command, place, cause),
         None => Ok(Vec::new(alloc)),
     }
 }
@@ -127,11 +132,12 @@ fn place_line<F: FileSystem>(
     alloc: Global,
     names: &[String],
     options: Options,
+    command: &str,
     place: TextLine,
     cause: Cause,
 ) -> Result<Vec<u8>, Stop>
     ensures hint { IfOk result (λ text. (texts : List (List ℕ)) → HaveTexts (F.under files.old) (map string_bytes names.now) texts
-        → text.items ≡ hint_at (layout_with options) (map string_bytes names.now) texts cause (place_pair place)) }
+        → text.items ≡ hint_at (asker command.now options) (map string_bytes names.now) texts cause (place_pair place)) }
     ensures stops { IfErr result (StopsFor (FailsAgain (world F.under F.log F.knows files.old files.new) (map string_bytes names.now))) }
     ensures stays { F.under files.new ≡ F.under files.old }
     ensures logged { F.knows ≡ true → LogsAgain (F.log files.old) (F.log files.new) result }
@@ -140,7 +146,7 @@ fn place_line<F: FileSystem>(
         return Ok(Vec::new(alloc));
     }
     let name = &names[place.text];
-    line_at(files, alloc, name, options, place.line, cause)
+    line_at(files, alloc, name, options, command, place.line, cause)
 }
 
 // The line of a file's line, which is refused.
@@ -149,11 +155,12 @@ fn line_at<F: FileSystem>(
     alloc: Global,
     name: &String,
     options: Options,
+    command: &str,
     number: u64,
     cause: Cause,
 ) -> Result<Vec<u8>, Stop>
     ensures hint { IfOk result (λ text. (held : List ℕ) → bytes_under (F.under files.old) (string_bytes name.now) ≡ Some held
-        → text.items ≡ hint_in (layout_with options) (string_bytes name.now) held cause number) }
+        → text.items ≡ hint_in (asker command.now options) (string_bytes name.now) held cause number) }
     ensures stops { IfErr result (StopsFor (FailsAgain (world F.under F.log F.knows files.old files.new) (string_bytes name.now ∷ []))) }
     ensures stays { F.under files.new ≡ F.under files.old }
     ensures logged { F.knows ≡ true → LogsAgain (F.log files.old) (F.log files.new) result }
@@ -161,56 +168,12 @@ fn line_at<F: FileSystem>(
     let line = RefusedLine {
         name,
         options,
+        command,
         number,
         cause,
     };
     match files.read_again(alloc, &[], Some(name), &line)? {
         Some(text) => Ok(text),
         None => Ok(Vec::new(alloc)),
-    }
-}
-
-// The line of a refused line of the file of a name, which is read by itself.
-#[derive(Clone, Copy)]
-struct RefusedLine<'a> {
-    name: &'a String,
-    options: Options,
-    number: u64,
-    cause: Cause,
-}
-
-impl Reading for RefusedLine<'_> {
-    type Answer = Vec<u8>;
-
-    ghost answers = { λ asked known single text. IfSome single (λ held.
-        text.items ≡ hint_in (layout_with asked.options) (string_bytes asked.name.now) held asked.cause asked.number) };
-
-    ghost stops = { λ asked known single. StopsFor (HasNoEnd single) };
-
-    fn read<R: Source, S: Source>(
-        &self,
-        alloc: Global,
-        _joined: &mut R,
-        single: &mut S,
-    ) -> Result<Vec<u8>, Stop> {
-        let mut text = Vec::new(alloc);
-        let mut buffer = LineBuffer::new();
-        match find_line(&mut buffer, single, self.number) {
-            Ok(Found::Line { len, .. }) => {
-                let line = &buffer.bytes()[..len];
-                push_place(
-                    &mut text,
-                    self.name.as_str(),
-                    self.number,
-                    line,
-                    self.options,
-                    self.cause,
-                )?;
-                text.extend_from_slice(b"\n")?;
-                Ok(text)
-            }
-            Ok(Found::Missing) => Ok(text),
-            Err(_) => Err(Stop::Device),
-        }
     }
 }

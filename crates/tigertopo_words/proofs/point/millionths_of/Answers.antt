@@ -1,8 +1,8 @@
 use Rattle.std.proofs.Common.{◌≡◌, ◌∙◌, unsigned_abs, inl, inr, sym, rules, arith}
 use Rattle.std.specs.Fmt.{signed_decimal}
 use Rattle.tigertopo_words.proofs.PointLemmas.{not_read, other_read, other_text}
-use Rattle.tigertopo_words.proofs.point.coordinate_of.Goals as goal
-use Rattle.tigertopo_words.proofs.point.coordinate_of.Goals.{then-ne-via-then-ne, then-ne-via-else-ne+then-unsigned_abs-limit}
+use Rattle.tigertopo_words.proofs.point.millionths_of.Goals as goal
+use Rattle.tigertopo_words.proofs.point.millionths_of.Goals.{then-ne-via-then-ne, then-ne-via-else-ne+then-unsigned_abs-limit}
 
 pub returns-in_default : goal.returns-in_default
 returns-in_default c = not_read c.args.text.now c.args.limit c.in_default.field-0 c.parse.result c.requires c.parse.ensures.value.0 c.in_default.is
