@@ -7,8 +7,8 @@ It is said here once more, by docs/records.md, and compared wherever the program
 import re
 from pathlib import Path
 
+import placed
 from judge import Line, Refused, record_of
-from layout import COLUMNS
 
 REFUSED = re.compile(rb"refused line (\d+) L\d \w+ ?(\w+)?\n")
 # The options that have a value, and that of them which names a certificate that is read.
@@ -44,23 +44,6 @@ class Asked:
         self.all_names = self.names + cert
 
 
-def shown(data):
-    """Bytes as they are shown: printable ASCII as it is, but for the backquote and the backslash."""
-    return b"".join(bytes([it]) if 32 <= it <= 126 and it not in b"`\\" else b"\\x%02x" % it for it in data)
-
-
-def shown_name(name):
-    """A file's name as it is shown: control characters and the backslash are escaped, and stand on one line."""
-    data = name.encode(errors="surrogateescape")
-    return b"".join(b"\\x%02x" % it if it < 32 or it in b"\x7f\\" else bytes([it]) for it in data)
-
-
-def columns_of(line, field, released):
-    """The columns of the field of a line of this type."""
-    kind = line[:1].decode("latin-1")
-    return COLUMNS["released" if kind == "I" and released else kind][field]
-
-
 def of_columns(line, zero_cells, released):
     """That the columns of type I that weren't asked for take the line, where they do."""
     if not line.startswith(b"I"):
@@ -84,21 +67,13 @@ def of_form(name, text, command):
 
 def of_refusal(asked, texts, number, field):
     """Where line so and so of these texts, read as one, stands, and what helps."""
-    names, released = asked.names, "--released" in asked.switches
-    for name, text in zip(names, texts):
-        lines = text.split(b"\n")
-        lines = lines[:-1] if not lines[-1] else lines
-        if number > len(lines):
-            number -= len(lines)
-            continue
-        said, more = b"  " + shown_name(name) + b" line %d" % number, b""
-        if field:
-            line = lines[number - 1].removesuffix(b"\r")
-            first, last = columns_of(line, field, released)
-            said += b", columns %d to %d: `" % (first, last) + shown(line[first - 1:last]) + b"`"
-            more = of_columns(line, "--zero-cells" in asked.switches, released)
-        return said + b"\n" + more + of_form(shown_name(name), text, asked.command)
-    return b""
+    released = "--released" in asked.switches
+    found = placed.found_line(asked.names, texts, number)
+    if not found:
+        return b""
+    name, text, number, line = found
+    more = of_columns(line, "--zero-cells" in asked.switches, released) if field else b""
+    return placed.place_of_line(name, number, line, field, released) + more + of_form(placed.shown_name(name), text, asked.command)
 
 
 def of_trouble(folder, names):
@@ -109,7 +84,7 @@ def of_trouble(folder, names):
             with open(Path(folder, name) if name else "", "rb") as file:
                 file.read()
         except OSError as error:
-            return b"  " + shown_name(name) + f": {error.strerror}\n".encode()
+            return b"  " + placed.shown_name(name) + f": {error.strerror}\n".encode()
     return b""
 
 

@@ -1098,10 +1098,9 @@ class County:
         return replace(listing, faults=listing.faults[:1], counted=None, points_left=False)
 
     def drawn_faults(self, names, texts):
-        """The faults with the lines of their records in files of these names and texts, and with the map, where there is one;
-        of lines that are refused there are none."""
-        names = [] if self.records.refusals else names
-        return placed.Faults(names, texts, self.released, None if self.faults else self.map)
+        """The faults with the lines of their records in files of these names and texts, and with the map, where there is one; or the
+        refused lines with where they stand."""
+        return placed.Faults(names, texts, self.released, None if self.faults else self.map, bool(self.records.refusals))
 
     def build(self):
         """As `audit`, but for the word; the certificate that is made is looked at by `certificate_faults`."""

@@ -46,12 +46,7 @@ class Line:
         """The line's place, its type and what it is of."""
         numbers = (("tlid", self.tlid), ("polygon", self.key), ("land", self.land))
         of = " ".join(f"{word} {number}" for word, number in numbers if number is not None)
-        return f"  {shown_name(self.file)} line {self.number}, type {self.kind}, {of}"
-
-
-def shown_name(name):
-    """A file's name as it is shown: control characters and the backslash by their numbers."""
-    return "".join(f"\\x{ord(it):02x}" if it < " " or it in "\x7f\\" else it for it in name)
+        return f"  {shown_name(self.file).decode(errors='surrogateescape')} line {self.number}, type {self.kind}, {of}"
 
 
 def line_of(file, number, raw, released):
@@ -70,6 +65,44 @@ def line_of(file, number, raw, released):
     land = int(field("LAND")) if kind in ("7", "8") else None
     point = (int(field("POLYLONG")), int(field("POLYLAT"))) if kind == "P" else None
     return Line(file, number, kind, tlid, polygon, land, point)
+
+
+def shown(data):
+    """Bytes as they are shown: printable ASCII as it is, but for the backquote and the backslash."""
+    return b"".join(bytes([it]) if 32 <= it <= 126 and it not in b"`\\" else b"\\x%02x" % it for it in data)
+
+
+def shown_name(name):
+    """A file's name as it is shown: control characters and the backslash are escaped, and stand on one line."""
+    data = name.encode(errors="surrogateescape")
+    return b"".join(b"\\x%02x" % it if it < 32 or it in b"\x7f\\" else bytes([it]) for it in data)
+
+
+def columns_of(line, field, released):
+    """The columns of the field of a line of this type."""
+    kind = line[:1].decode("latin-1")
+    return COLUMNS["released" if kind == "I" and released else kind][field]
+
+
+def found_line(names, texts, number):
+    """The name and the text of the file in which line so and so of these texts, read as one, stands, its number there, and the line
+    without its end; or None where they have no such line."""
+    for name, text in zip(names, texts):
+        lines = text.split(b"\n")
+        lines = lines[:-1] if not lines[-1] else lines
+        if number <= len(lines):
+            return name, text, number, lines[number - 1].removesuffix(b"\r")
+        number -= len(lines)
+    return None
+
+
+def place_of_line(name, number, line, field, released):
+    """The file of a refused line, its number there, and the columns of the field that it is refused for with what it holds there."""
+    said = b"  " + shown_name(name) + b" line %d" % number
+    if field:
+        first, last = columns_of(line, field, released)
+        said += b", columns %d to %d: `" % (first, last) + shown(line[first - 1:last]) + b"`"
+    return said + b"\n"
 
 
 def lines_of(names, texts, released=False):
@@ -167,10 +200,12 @@ class Fault:
 
 
 class Faults:
-    """The faults of a county that its lines tell, with the lines of its files, and its map where there is one."""
+    """The faults of a county that its lines tell, with the lines of its files, and its map where there is one; of lines that are
+    refused no records are read."""
 
-    def __init__(self, names, texts, released, the_map):
-        self.lines, self.the_map = lines_of(names, texts, released), the_map
+    def __init__(self, names, texts, released, the_map, are_refused):
+        self.names, self.texts, self.released = names, texts, released
+        self.lines, self.the_map = [] if are_refused else lines_of(names, texts, released), the_map
 
     @property
     def are_clear(self):
@@ -179,11 +214,19 @@ class Faults:
         return len({it.polygon for it in self.lines}) == len({it.key for it in self.lines})
 
     def placed(self, told):
-        """Lines that are printed, and behind each fault's those of the records that it speaks of."""
+        """Lines that are printed, and behind each fault's those of the records that it speaks of, behind that of a refused line where
+        it stands."""
         for line in told:
             yield line
             if line.startswith("map fault "):
                 yield from Fault(line, self.lines, self.the_map).record_lines
+            elif line.startswith("refused line "):
+                yield self.place_of_refusal(*line.split(" ")[2:])
+
+    def place_of_refusal(self, number, code, cause, field=None):
+        """Where a refused line stands, as its own line tells it."""
+        name, _, number, line = found_line(self.names, self.texts, int(number))
+        return place_of_line(name, number, line, field, self.released).decode("latin-1").removesuffix("\n")
 
     def features(self, told):
         """The features of the faults that these lines tell, and behind them the chains that they name, by rising TLID."""

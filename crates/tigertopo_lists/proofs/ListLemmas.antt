@@ -1,6 +1,6 @@
 -- What is answered of what was found.
 use Rattle.std.proofs.Common.{◌≡◌, ◌⊎◌, inl, inr, ℕ, zero, suc, ◌+◌, ◌≤◌, take, Bool, true, List, [], ◌∷◌, ◌++◌, map, Some, None, Option, Result, Ok, Err, refl, sym, ap, subst, ◌∙◌, arith, append-nil}
-use Rattle.std.specs.Prelude.{slice_get, Vec, IfOk, IfErr}
+use Rattle.std.specs.Prelude.{slice_get, Vec, IfOk, IfErr, codes, length, false}
 use Rattle.std.specs.List.{filter_map, enumerate_from}
 use Rattle.std.specs.Global.{Global}
 use Rattle.std.specs.Option.{IfSome}
@@ -32,7 +32,7 @@ use Rattle.tl_cert_output.specs.declared.stop.Stop.{Stop}
 use Rattle.tl_cert_output.specs.declared.stop.Stop.TheVariants.{Record, Memory, Device, Budget}
 use Rattle.tl_cert_output.specs.Stops.{StopsFor}
 use Rattle.tl_cert_output.proofs.StopLemmas.{stops_for}
-use Rattle.tl_list_text.specs.Texts.{lines, printed, told_refusal}
+use Rattle.tl_list_text.specs.Texts.{lines, printed, told_refusal, count_line}
 use Rattle.tigertopo_where.specs.Hint.Placed.{placed_text, refused_text, RiseFrom}
 use Rattle.tigertopo_where.specs.Hint.Telling.{HaveTexts}
 use Rattle.tl_check_verdict.specs.declared.fault.MapFault.{MapFault}
@@ -50,8 +50,9 @@ use Rattle.tigertopo_faults.specs.Geojson.Texts.{faults_text}
 use Rattle.tigertopo_outcome.specs.Records.{StopsNever}
 use Rattle.tigertopo_outcome.specs.declared.said.Answer.{Answer}
 use Rattle.tigertopo_lists.specs.declared.listed.Listed.{Listed}
+use Rattle.tigertopo_lists.specs.declared.listed.Listed.TheVariants.{Listing, Lines}
 use Rattle.tigertopo_lists.specs.Listed.{Asked, ListAnswers, IsSoundList, IsFaultList, StopsList, StopsAgain, listed_text, told_text, featured, reads_again}
-use Rattle.tigertopo_lists.specs.Keeping.{IsPrepared, IsRefusedList, first_stop, faults_answer}
+use Rattle.tigertopo_lists.specs.Keeping.{ArePlaced, IsPrepared, IsRefusedList, first_stop, faults_answer}
 
 -- ---- what is done with files
 
@@ -147,7 +148,8 @@ rise_one n (RefusedLine cause) more rise = (omega arith, rise)
 
 rise_up : (layout : Layout) (n : ℕ) (text : List (List ℕ)) → RiseUp n (filter_map refusal_of (map (λ line. (line.0, judgement layout line.0 line.1)) (enumerate_from n text)))
 rise_up layout n [] = tt
-rise_up layout n (line ∷ rest) = rise_one n (judgement layout n line) _ (rise_up layout (n + 1) rest)
+rise_up layout n (line ∷ rest) =
+    rise_one n (judgement layout n line) (map (λ line. (line.0, judgement layout line.0 line.1)) (enumerate_from (n + 1) rest)) (rise_up layout (n + 1) rest)
 
 rise_behind : (n : ℕ) (list : List Refusal) → RiseUp (n + 1) (map pair_of list) → RiseFrom n list
 rise_behind n [] rise = tt
@@ -172,6 +174,27 @@ plain_lines_are (refusal ∷ rest) = ap (λ t. refused_text refusal ++ t) (plain
 
 first_is : (layout : Layout) (text : List ℕ) → slice_get (refusals_of layout text) 0 ≡ (records_of layout text).refusal
 first_is layout text = first_of_judged (judgements layout 0 (raw_lines text))
+
+-- refused lines as they are listed, and with where they stand
+pub plain_refused : (layout : Layout) (under : Under) (names : List (List ℕ)) (places : Bool) (most : Option ℕ) (list : Vec Refusal Global) → places ≡ false
+    → IsRefusedList layout under names places most list (record { status = 3; text = Listing (Refused list) most })
+plain_refused layout under names places most list none = record {
+  told = [];
+  stand = λ asks. absurd (let wrong = sym none ∙ asks in cc);
+  plain = λ same. refl;
+  is = refl;
+  lines = ap (λ t. t ++ count_line (codes "refused=") most (length list.items)) (sym (plain_lines_are (printed most list.items)));
+}
+
+pub placed_refused : (layout : Layout) (under : Under) (names : List (List ℕ)) (places : Bool) (most : Option ℕ) (list : Vec Refusal Global) (text : Vec ℕ Global) → places ≡ true
+    → ArePlaced layout under names most list.items text.items → IsRefusedList layout under names places most list (record { status = 3; text = Lines text })
+placed_refused layout under names places most list text asks placed = record {
+  told = placed.0;
+  stand = λ same. placed.2;
+  plain = λ none. absurd (let wrong = sym none ∙ asks in cc);
+  is = refl;
+  lines = placed.1;
+}
 
 module _ (options : Options) (known : Option (List ℕ)) (asked : Asked) where
   -- a map is sound
@@ -223,7 +246,7 @@ module _ (options : Options) (known : Option (List ℕ)) (asked : Asked) where
 
     -- one alone is a stop
     pub first_refused : (same : w.after ≡ w.before) (logs : w.knows ≡ true → w.logged ≡ w.log) → asked.told ≡ One
-        → Does w [] asked.made (λ answer. ListAnswers w options known asked answer.status (listed_text answer.text)) (StopsList w options known asked) (Err (first_stop list.items))
+        → Does {T = Answer Listed} w [] asked.made (λ answer. ListAnswers w options known asked answer.status (listed_text answer.text)) (StopsList w options known asked) (Err (first_stop list.items))
     first_refused same logs one = stops_still w same logs asked.made _ (StopsList w options known asked) (first_stop list.items) (first_stops list.items one refl) (no_device list.items)
 
     refused_answer : (same : w.after ≡ w.before) (most : Option ℕ) → asked.told ≡ All most → (answer : Answer Listed)

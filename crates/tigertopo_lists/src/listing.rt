@@ -168,17 +168,19 @@ fn tell_all_refused<F: FileSystem>(
     ensures stays { F.under files.new ≡ F.under files.old }
     ensures logged { F.knows ≡ true → LogsAgain (F.log files.old) (F.log files.new) result }
 {
-    let text = if places {
-        Listed::Lines(placed_list(files, alloc, options, names, list.as_slice(), most)?)
-    } else {
-        Listed::Listing {
-            listing: Listing::Refused(list),
-            most,
-        }
-    };
+    if !places {
+        return Ok(Answer {
+            status: REFUSED,
+            text: Listed::Listing {
+                listing: Listing::Refused(list),
+                most,
+            },
+        });
+    }
+    let text = placed_list(files, alloc, options, names, list.as_slice(), most)?;
     Ok(Answer {
         status: REFUSED,
-        text,
+        text: Listed::Lines(text),
     })
 }
 

@@ -1,4 +1,4 @@
-use Rattle.std.proofs.Common.{[], map, string_bytes, refl, subst}
+use Rattle.std.proofs.Common.{[], map, string_bytes, subst}
 use Rattle.std.proofs.lemmas.Option.{IfSome_then}
 use Rattle.tl_list_text.specs.Listings.{IsListingOf}
 use Rattle.tigertopo_files.specs.World.{world}
