@@ -148,7 +148,15 @@ fn tell_refused<F: FileSystem>(
 {
     match wanted.told {
         Told::One => Err(first_stop(list.as_slice())),
-        Told::All(most) => tell_all_refused(files, alloc, options, names, wanted.places, most, list),
+        Told::All(most) => tell_all_refused(
+            files,
+            alloc,
+            options,
+            names,
+            wanted.places,
+            most,
+            list,
+        ),
     }
 }
 

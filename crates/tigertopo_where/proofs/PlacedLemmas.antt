@@ -124,9 +124,12 @@ placed_one_more place known refusals i passed now refusal old new within is so_f
     let told = so_far.0 in
     let long : length (told ++ added ∷ []) ≡ i + 1 = length-append told (added ∷ []) ∙ ap (λ n. n + 1) so_far.1 in
     let taken = taken_more refusals i refusal within is in
-    let same : length told ≡ length (take i refusals) = so_far.1 ∙ sym (long_taken refusals i (omega arith)) in
-    (told ++ added ∷ [], long, grown ∙ ap (λ t. t ++ (refused_text refusal ++ added)) so_far.2 ∙ sym (placed_more (take i refusals) told refusal added same) ∙ ap (λ rs. placed_text rs (told ++ added ∷ [])) (sym taken),
-    known_more place known refusals i passed now refusal told added within is so_far.3 tells goes)
+    let same : length told ≡ length (take i refusals) = so_far.1 ∙ sym (long_taken refusals i (omega arith)) in (
+      told ++ added ∷ [],
+      long,
+      grown ∙ ap (λ t. t ++ (refused_text refusal ++ added)) so_far.2 ∙ sym (placed_more (take i refusals) told refusal added same) ∙ ap (λ rs. placed_text rs (told ++ added ∷ [])) (sym taken),
+      known_more place known refusals i passed now refusal told added within is so_far.3 tells goes,
+    )
 
 pub placed_none : (place : Refusal → List ℕ → List ℕ) (known : Option (List ℕ)) (refusals : List Refusal) (text : List ℕ) → text ≡ [] → PlacedSoFar place known refusals 0 0 text
 placed_none place None refusals text none = ([], refl, none, tt)
@@ -180,13 +183,16 @@ as_many under names texts have = sym (length-map names (bytes_under under)) ∙ 
 pub placed_so : (layout : Layout) (under now : Under) (names : List (List ℕ)) (counts text : List ℕ) (refusals : List Refusal) → now ≡ under
     → ((texts : List (List ℕ)) → HaveTexts under names texts → Some counts ≡ Some (map line_count texts))
     → IsPlacedIn layout names counts (text_under now names) refusals text → IsPlaced layout under names refusals text
-placed_so layout under now names counts text refusals stays counted placed =
-    (placed.0, placed.1, λ texts have rise.
-    let known : text_under now names ≡ Some (joined texts) = ap (λ (u : Under). text_under u names) stays ∙ joined_bytes-known (bytes_under under) names texts have in
-    let told = placed.2 in
-    let found = (rw known at told) rise in
-    let same : counts ≡ map line_count texts = let all = counted texts have in cc in
-    found ∙ ap (λ (cs : List ℕ). map (place_in layout names cs (joined texts)) refusals) same ∙ places_are layout names texts (as_many under names texts have) refusals)
+placed_so layout under now names counts text refusals stays counted placed = (
+  placed.0,
+  placed.1,
+  λ texts have rise.
+      let known : text_under now names ≡ Some (joined texts) = ap (λ (u : Under). text_under u names) stays ∙ joined_bytes-known (bytes_under under) names texts have in
+      let told = placed.2 in
+      let found = (rw known at told) rise in
+      let same : counts ≡ map line_count texts = let all = counted texts have in cc in
+      found ∙ ap (λ (cs : List ℕ). map (place_in layout names cs (joined texts)) refusals) same ∙ places_are layout names texts (as_many under names texts have) refusals,
+)
 
 -- no places are told of files that can't be read again
 pub plain_so : (layout : Layout) (under : Under) (names : List (List ℕ)) (text : List ℕ) (refusals : List Refusal) → text ≡ placed_text refusals []

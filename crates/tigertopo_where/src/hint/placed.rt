@@ -131,7 +131,11 @@ impl RefusedLines<'_> {
             return Ok(());
         }
         match find_ahead(buffer, source, passed, refusal.line) {
-            Ok(Found::Line { len, .. }) => Ok(self.push_found(text, refusal, &buffer.bytes()[..len])?),
+            Ok(Found::Line { len, .. }) => Ok(self.push_found(
+                text,
+                refusal,
+                &buffer.bytes()[..len],
+            )?),
             Ok(Found::Missing) => Ok(()),
             Err(_) => Err(Stop::Device),
         }

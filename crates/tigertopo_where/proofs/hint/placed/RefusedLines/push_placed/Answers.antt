@@ -13,20 +13,23 @@ returns-in_ok-push_found-in-Ok-Line-clause-told g c =
     let told = found_text (layout_with c.args.self.now.options) (map string_bytes c.args.self.now.names.now) c.args.self.now.counts.now c.args.refusal in
     let old = c.args.text.now.items in
     let refused = refused_text c.args.refusal in
-    let line = take c.in-Ok-Line.len c.find_ahead.new.buffer in
-    (told line,
-    c.in_ok-push_found-in-Ok-Line.ensures ∙ ap (λ (t : List ℕ). t ++ told (take c.in-Ok-Line.len c.bytes.result.now)) c.in_ok-push_refusal.ensures
-    ∙ append_assoc old refused (told (take c.in-Ok-Line.len c.bytes.result.now)) ∙ ap (λ (b : List ℕ). old ++ (refused ++ told (take c.in-Ok-Line.len b))) c.bytes.ensures.value,
-    λ held passes ahead.
-    let found = c.in-Ok-Line.ensures.found (Some held) passes in
-    shown_in told (line_at c.args.refusal.line (raw_lines held)) c.find_ahead.new.buffer c.in-Ok-Line.len _ (rw c.in-Ok-Line.field-0-is at found))
+    let line = take c.in-Ok-Line.len c.find_ahead.new.buffer in (
+      told line,
+      c.in_ok-push_found-in-Ok-Line.ensures ∙ ap (λ (t : List ℕ). t ++ told (take c.in-Ok-Line.len c.bytes.result.now)) c.in_ok-push_refusal.ensures
+          ∙ append_assoc old refused (told (take c.in-Ok-Line.len c.bytes.result.now)) ∙ ap (λ (b : List ℕ). old ++ (refused ++ told (take c.in-Ok-Line.len b))) c.bytes.ensures.value,
+      λ held passes ahead.
+          let found = c.in-Ok-Line.ensures.found (Some held) passes in
+          shown_in told (line_at c.args.refusal.line (raw_lines held)) c.find_ahead.new.buffer c.in-Ok-Line.len _ (rw c.in-Ok-Line.field-0-is at found),
+    )
 
 pub returns-in-Ok-Missing-clause-told : goal.returns-in-Ok-Missing-clause-told
 returns-in-Ok-Missing-clause-told g c =
     let told = found_text (layout_with c.args.self.now.options) (map string_bytes c.args.self.now.names.now) c.args.self.now.counts.now c.args.refusal in
     let old = c.args.text.now.items in
-    let refused = refused_text c.args.refusal in
-    ([], c.in_ok-push_refusal.ensures ∙ ap (λ (r : List ℕ). old ++ r) (sym (append-nil refused)),
-    λ held passes ahead.
-    let found = c.in-Ok-Missing.ensures.found (Some held) passes in
-    missing_in told (line_at c.args.refusal.line (raw_lines held)) c.find_ahead.new.buffer (rw c.in-Ok-Missing.field-0-is at found))
+    let refused = refused_text c.args.refusal in (
+      [],
+      c.in_ok-push_refusal.ensures ∙ ap (λ (r : List ℕ). old ++ r) (sym (append-nil refused)),
+      λ held passes ahead.
+          let found = c.in-Ok-Missing.ensures.found (Some held) passes in
+          missing_in told (line_at c.args.refusal.line (raw_lines held)) c.find_ahead.new.buffer (rw c.in-Ok-Missing.field-0-is at found),
+    )
