@@ -6,11 +6,11 @@ use Rattle.tl_map_county.specs.TheMap.{TheMap, MapChain}
 use Rattle.tl_map_county.specs.Darts.{dart_left, dart_start}
 use Rattle.tl_check_sides.specs.Lists.{list_at}
 use Rattle.std.specs.List.{flat_map}
-use Rattle.tigertopo_geojson.specs.Strings.{key_string}
+use Rattle.tigertopo_geojson.specs.Strings.{key_members}
 use Rattle.tigertopo_geojson.specs.Positions.{position_text, comma_position}
 use Rattle.tigertopo_geojson.specs.Groups.{places}
 use Rattle.tigertopo_geojson.specs.Areas.{dart_points, polygon_on, doubled_area, half_text}
-use Rattle.tigertopo_geojson.specs.Features.{features_below, separated, chain_feature, polygon_feature, collection_opening, collection_closing}
+use Rattle.tigertopo_geojson.specs.Features.{features_below, separated, chain_feature, polygon_feature, landmark_features, collection_opening, collection_closing}
 
 -- the polygon on the left of a walk
 abbrev pub walk_polygon : List MapChain → List ℕ → Option ℕ
@@ -34,11 +34,11 @@ ring_text chains walk = codes "[" ++ start_text chains walk ++ flat_map (behind_
 abbrev pub rings_text : List MapChain → List (List ℕ) → ℕ → List ℕ
 rings_text chains walks p = separated (λ w. ring_text chains (list_at walks w)) (places p (map (walk_polygon chains) walks))
 
--- a boundary: its rings, the polygon's key, and its area in square millionths of a degree
+-- a boundary: its rings, what names the polygon, and its area in square millionths of a degree
 unfoldable pub boundary_text : Polygon → (rings area : List ℕ) → List ℕ
 boundary_text polygon rings area =
     codes "{\"type\":\"Feature\",\"geometry\":{\"type\":\"MultiLineString\",\"coordinates\":[" ++ rings
-    ++ codes "]},\"properties\":{\"polygon\":" ++ key_string polygon.key
+    ++ codes "]},\"properties\":{" ++ key_members polygon.key
     ++ codes ",\"area\":\"" ++ area ++ codes "\"}}"
 
 -- that of the polygon with this number
@@ -53,10 +53,14 @@ chains_and_points m = features_below 0 (chain_feature m) (length m.chains) ++ fe
 abbrev pub boundaries : TheMap → List (List ℕ) → List ℕ
 boundaries m walks = features_below (length m.chains + length m.polygons) (boundary_feature m walks) (length m.polygons)
 
--- a county
+-- a county: the landmarks' points stand last
 unfoldable pub county_text : TheMap → List ℕ
-county_text m = collection_opening ++ chains_and_points m ++ collection_closing
+county_text m =
+    collection_opening ++ chains_and_points m
+    ++ landmark_features (length m.chains + length m.polygons) m.polygons m.landmarks ++ collection_closing
 
 -- a county with its boundaries
 unfoldable pub county_text_with : TheMap → List (List ℕ) → List ℕ
-county_text_with m walks = collection_opening ++ chains_and_points m ++ boundaries m walks ++ collection_closing
+county_text_with m walks =
+    collection_opening ++ chains_and_points m ++ boundaries m walks
+    ++ landmark_features (length m.chains + length m.polygons + length m.polygons) m.polygons m.landmarks ++ collection_closing

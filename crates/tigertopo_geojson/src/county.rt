@@ -1,6 +1,6 @@
 //! A county as one FeatureCollection.
 
-ghost use Rattle.std.specs.Prelude.{◌≡◌, ◌++◌, IfOk, length, map as map_list};
+ghost use Rattle.std.specs.Prelude.{◌≡◌, ◌+◌, ◌<◌, ◌^◌, ◌++◌, IfOk, length, map as map_list};
 ghost use Rattle.tl_check_sides.specs.Walks.{AreWalks};
 ghost use Rattle.tl_cert_output.specs.Printing.{Prints};
 ghost use Rattle.tl_cert_output.specs.Texts.{PrintsText};
@@ -11,6 +11,7 @@ ghost use Rattle.tigertopo_geojson.specs.Rings.{chains_and_points, county_text, 
 use crate::areas::doubled_areas;
 use crate::features::print_chains;
 use crate::groups::Groups;
+use crate::landmarks::print_landmarks;
 use crate::polygons::{list_links, print_polygons};
 use crate::rings::{list_walk_polygons, print_boundaries};
 use std::alloc::{AllocError, Global};
@@ -18,13 +19,14 @@ use tl_cert_output::{Printer, Stop};
 use tl_map_county::Map;
 use tl_record::Sink;
 
-/// Prints a county: each chain with its TLID and its sides, and each polygon's point with its key and its landmarks.
+/// Prints a county: each chain with its TLID and its sides, each polygon's point with its key and its landmarks, and each landmark's point.
 pub fn print_county<S: Sink>(alloc: Global, map: &Map, out: &mut S) -> Result<(), Stop>
     ensures { PrintsText S.contents S.failure_count out.old out.new (county_text map.now) result }
 {
     let links = Links::new(alloc, map)?;
     let mut printer = Printer::new();
     print_front(map, &links, &mut printer, out);
+    print_landmarks(map, points_of(map), &mut printer, out);
     printer.add(b"\n]}\n", out);
     printer.finish(out)
 }
@@ -47,8 +49,25 @@ pub fn print_county_with<S: Sink>(
     let mut printer = Printer::new();
     print_front(map, &links, &mut printer, out);
     print_boundaries(map, walks, &groups, areas.as_slice(), &mut printer, out);
+    print_landmarks(map, shapes_of(map), &mut printer, out);
     printer.add(b"\n]}\n", out);
     printer.finish(out)
+}
+
+// How many chains and polygons there are.
+fn points_of(map: &Map) -> u64
+    ensures count { result ≡ length map.now.chains + length map.now.polygons }
+    ensures bound { result < 2 ^ 33 }
+{
+    u64::from(map.chains()) + u64::from(map.polygons())
+}
+
+// How many there are with the polygons' boundaries.
+fn shapes_of(map: &Map) -> u64
+    ensures count { result ≡ length map.now.chains + length map.now.polygons + length map.now.polygons }
+    ensures bound { result < 2 ^ 34 }
+{
+    points_of(map) + u64::from(map.polygons())
 }
 
 // The links of landmarks with polygons: their LANDs, and the links of each polygon.

@@ -9,6 +9,7 @@ mod areas;
 mod county;
 mod features;
 mod groups;
+mod landmarks;
 mod polygons;
 mod positions;
 mod rings;

@@ -14,7 +14,7 @@ ghost use Rattle.tigertopo_geojson.specs.Rings.{walk_polygon, behind_start, ring
 use crate::features::print_lead;
 use crate::groups::Groups;
 use crate::positions::{print_behind, print_position, sign};
-use crate::strings::print_key;
+use crate::strings::print_key_members;
 use std::alloc::{AllocError, Global};
 use tl_cert_output::Printer;
 use tl_map_county::{Map, Side};
@@ -90,8 +90,8 @@ fn print_boundary<S: Sink>(
         out,
     );
     print_rings(map, walks, groups, number, printer, out);
-    printer.add(b"]},\"properties\":{\"polygon\":", out);
-    print_key(map.polygon(number).key, printer, out);
+    printer.add(b"]},\"properties\":{", out);
+    print_key_members(map.polygon(number).key, printer, out);
     printer.add(b",\"area\":\"", out);
     print_half(areas[number as usize], printer, out);
     printer.add(b"\"}}", out);
