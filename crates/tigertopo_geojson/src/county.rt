@@ -6,14 +6,16 @@ ghost use Rattle.tl_cert_output.specs.Printing.{Prints};
 ghost use Rattle.tl_cert_output.specs.Texts.{PrintsText};
 ghost use Rattle.tigertopo_geojson.specs.Features.{linked_lands, linked_polygons, collection_opening};
 ghost use Rattle.tigertopo_geojson.specs.Groups.{AreGroups};
+ghost use Rattle.tigertopo_geojson.specs.Holes.{outer_polygon, home};
 ghost use Rattle.tigertopo_geojson.specs.Rings.{chains_and_points, county_text, county_text_with};
 
-use crate::areas::doubled_areas;
+use crate::areas::{doubled_areas, ring_areas};
 use crate::features::print_chains;
 use crate::groups::Groups;
+use crate::holes::{list_homes, list_outers};
 use crate::landmarks::print_landmarks;
 use crate::polygons::{list_links, print_polygons};
-use crate::rings::{list_walk_polygons, print_boundaries};
+use crate::rings::print_boundaries;
 use std::alloc::{AllocError, Global};
 use tl_cert_output::{Printer, Stop};
 use tl_map_county::Map;
@@ -31,7 +33,7 @@ pub fn print_county<S: Sink>(alloc: Global, map: &Map, out: &mut S) -> Result<()
     printer.finish(out)
 }
 
-/// Prints a county with the boundary of each polygon, which is of these walks: its rings and its area.
+/// Prints a county with the shape of each polygon, whose rings are of these walks, and its area.
 pub fn print_county_with<S: Sink>(
     alloc: Global,
     map: &Map,
@@ -43,12 +45,20 @@ pub fn print_county_with<S: Sink>(
         (county_text_with map.now (map_list (λ w. w.items) walks.now)) result }
 {
     let links = Links::new(alloc, map)?;
-    let polygons = list_walk_polygons(alloc, map, walks)?;
-    let groups = Groups::new(alloc, polygons.as_slice(), map.polygons())?;
+    let shapes = Shapes::new(alloc, map, walks)?;
     let areas = doubled_areas(alloc, map)?;
     let mut printer = Printer::new();
     print_front(map, &links, &mut printer, out);
-    print_boundaries(map, walks, &groups, areas.as_slice(), &mut printer, out);
+    let (outers, holes) = (&shapes.outers, &shapes.holes);
+    print_boundaries(
+        map,
+        walks,
+        outers,
+        holes,
+        areas.as_slice(),
+        &mut printer,
+        out,
+    );
     print_landmarks(map, shapes_of(map), &mut printer, out);
     printer.add(b"\n]}\n", out);
     printer.finish(out)
@@ -86,6 +96,34 @@ impl Links {
         let (lands, polygons) = list_links(alloc, map)?;
         let polygons = Groups::new(alloc, polygons.as_slice(), map.polygons())?;
         Ok(Links { lands, polygons })
+    }
+}
+
+// The outer rings of each polygon, and the holes of each ring.
+#[derive(Drop)]
+struct Shapes {
+    outers: Groups,
+    holes: Groups,
+}
+
+impl Shapes {
+    fn new(alloc: Global, map: &Map, walks: &[Vec<u32>]) -> Result<Shapes, AllocError>
+        requires { AreWalks map.now.chains (map_list (λ w. w.items) walks.now) }
+        ensures outers { IfOk result (λ shapes.
+            AreGroups (length map.now.polygons)
+            (map_list (outer_polygon map.now.chains) (map_list (λ w. w.items) walks.now)) shapes.outers) }
+        ensures holes { IfOk result (λ shapes.
+            AreGroups (length walks.now)
+            (map_list (home map.now.chains (map_list (λ w. w.items) walks.now)) (map_list (λ w. w.items) walks.now)) shapes.holes) }
+    {
+        // So walks are fewer than 2^32.
+        let _darts = map.darts();
+        let areas = ring_areas(alloc, map, walks)?;
+        let polygons = list_outers(alloc, map, walks, areas.as_slice())?;
+        let outers = Groups::new(alloc, polygons.as_slice(), map.polygons())?;
+        let homes = list_homes(alloc, map, walks, areas.as_slice(), &outers)?;
+        let holes = Groups::new(alloc, homes.as_slice(), walks.len() as u32)?;
+        Ok(Shapes { outers, holes })
     }
 }
 

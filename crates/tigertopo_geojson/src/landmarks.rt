@@ -33,9 +33,11 @@ fn print_pointed<S: Sink>(
     out: &mut S,
 ) -> u64
     requires { before < 2 ^ 35 }
-    ensures counted { result ≡ before + length (with_points (record { land = landmark.now.land; point = landmark.now.point; polygons = landmark.now.polygons.now } ∷ [])) }
+    ensures counted { result ≡ before + length (with_points
+        (record { land = landmark.now.land; point = landmark.now.point; polygons = landmark.now.polygons.now } ∷ [])) }
     ensures prints { Prints S.contents S.failure_count (out.old, printer.old) (out.new, printer.new)
-        (landmark_features before map.now.polygons (record { land = landmark.now.land; point = landmark.now.point; polygons = landmark.now.polygons.now } ∷ [])) }
+        (landmark_features before map.now.polygons
+        (record { land = landmark.now.land; point = landmark.now.point; polygons = landmark.now.polygons.now } ∷ [])) }
 {
     match landmark.point {
         Some(point) => {
