@@ -2,15 +2,15 @@
 --
 -- A ring runs with its polygon on the left. An outer ring runs counter-clockwise about what it bounds, and a hole clockwise. A ring without an
 -- area bounds nothing, as one along both sides of a street that is off by itself.
-use Rattle.std.specs.Prelude.{◌≡◌, ◌<◌, ◌^◌, ℕ, ◌+◌, ◌-◌, Bool, not, ◌&&◌, ◌||◌, if◌then◌else◌, List, [], ◌∷◌, length, map, slice_get, slice_index, slice_index_or, unsigned_abs, Option, Some, None, ℤ, pos, negsuc, int_lt, int_le}
+use Rattle.std.specs.Prelude.{◌≡◌, ◌<◌, ◌^◌, ℕ, ◌+◌, ◌-◌, Bool, not, ◌&&◌, ◌||◌, if◌then◌else◌, List, [], ◌∷◌, length, map, count_by, is_some, slice_get, slice_index, slice_index_or, unsigned_abs, Option, Some, None, ℤ, pos, negsuc, int_lt, int_le}
 use Rattle.std.specs.Ordering.{int_cmp, is_lt, is_gt}
 use Rattle.std.specs.Option.{option_map_or, option_and_then}
 use Rattle.tl_geom.specs.declared.point.Point.{Point}
 use Rattle.tl_geom.specs.Plane.{turn_of}
-use Rattle.tl_map_county.specs.TheMap.{MapChain}
+use Rattle.tl_map_county.specs.TheMap.{TheMap, MapChain}
 use Rattle.tl_map_county.specs.Darts.{dart_start}
 use Rattle.tl_check_sides.specs.Lists.{list_at}
-use Rattle.tigertopo_geojson.specs.Groups.{places}
+use Rattle.tigertopo_geojson.specs.Groups.{places, Linked, AreGroups}
 use Rattle.tigertopo_geojson.specs.Areas.{sum_below, dart_points, dart_sum, polygon_on, walk_polygon}
 
 -- twice the area of a ring: the sum over the steps of its darts
@@ -110,3 +110,21 @@ home chains walks walk = option_and_then (λ p. ring_around chains walks walk (o
 -- the holes of outer ring n, by the numbers of their walks
 abbrev pub holes_in : List MapChain → List (List ℕ) → ℕ → List ℕ
 holes_in chains walks n = places n (map (home chains walks) walks)
+
+-- ---- the rings of all polygons
+
+-- the outer rings of each polygon, the holes in each ring, and how many rings these are
+pub record TheShapes : Type 0 where
+  pub outers : Linked
+  pub holes : Linked
+  pub rings : ℕ
+
+-- how many rings polygons have: the outer rings, and the holes that lie in one
+abbrev pub ring_count : List MapChain → List (List ℕ) → ℕ
+ring_count chains walks = count_by is_some (map (outer_polygon chains) walks) + count_by is_some (map (home chains walks) walks)
+
+-- these are the shapes of a map with these walks
+pub record AreShapes (m : TheMap) (walks : List (List ℕ)) (shapes : TheShapes) : Type 0 where
+  pub outers : AreGroups (length m.polygons) (map (outer_polygon m.chains) walks) shapes.outers
+  pub holes : AreGroups (length walks) (map (home m.chains walks) walks) shapes.holes
+  pub counted : shapes.rings ≡ ring_count m.chains walks

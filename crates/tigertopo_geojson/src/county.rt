@@ -1,12 +1,12 @@
 //! A county as one FeatureCollection.
 
-ghost use Rattle.std.specs.Prelude.{◌≡◌, ◌+◌, ◌<◌, ◌^◌, ◌++◌, IfOk, length, map as map_list};
+ghost use Rattle.std.specs.Prelude.{◌≡◌, ◌+◌, ◌<◌, ◌^◌, ◌++◌, IfOk, length, map as map_list, count_by, is_some};
 ghost use Rattle.tl_check_sides.specs.Walks.{AreWalks};
 ghost use Rattle.tl_cert_output.specs.Printing.{Prints};
 ghost use Rattle.tl_cert_output.specs.Texts.{PrintsText};
 ghost use Rattle.tigertopo_geojson.specs.Features.{linked_lands, linked_polygons, collection_opening};
 ghost use Rattle.tigertopo_geojson.specs.Groups.{AreGroups};
-ghost use Rattle.tigertopo_geojson.specs.Holes.{outer_polygon, home};
+ghost use Rattle.tigertopo_geojson.specs.Holes.{AreShapes};
 ghost use Rattle.tigertopo_geojson.specs.Rings.{chains_and_points, county_text, county_text_with};
 
 use crate::areas::{doubled_areas, ring_areas};
@@ -17,6 +17,7 @@ use crate::landmarks::print_landmarks;
 use crate::polygons::{list_links, print_polygons};
 use crate::rings::print_boundaries;
 use std::alloc::{AllocError, Global};
+use std::marker::Model;
 use tl_cert_output::{Printer, Stop};
 use tl_map_county::Map;
 use tl_record::Sink;
@@ -38,14 +39,15 @@ pub fn print_county_with<S: Sink>(
     alloc: Global,
     map: &Map,
     walks: &[Vec<u32>],
+    shapes: &Shapes,
     out: &mut S,
 ) -> Result<(), Stop>
-    requires { AreWalks map.now.chains (map_list (λ w. w.items) walks.now) }
+    requires walks { AreWalks map.now.chains (map_list (λ w. w.items) walks.now) }
+    requires shapes { AreShapes map.now (map_list (λ w. w.items) walks.now) shapes.now }
     ensures { PrintsText S.contents S.failure_count out.old out.new
         (county_text_with map.now (map_list (λ w. w.items) walks.now)) result }
 {
     let links = Links::new(alloc, map)?;
-    let shapes = Shapes::new(alloc, map, walks)?;
     let areas = doubled_areas(alloc, map)?;
     let mut printer = Printer::new();
     print_front(map, &links, &mut printer, out);
@@ -99,22 +101,27 @@ impl Links {
     }
 }
 
-// The outer rings of each polygon, and the holes of each ring.
+/// The shapes of a sound map's polygons: which rings are the outer rings of each, and which holes lie in them.
 #[derive(Drop)]
-struct Shapes {
+pub struct Shapes {
     outers: Groups,
     holes: Groups,
+    rings: u64,
+}
+
+impl Model for Shapes {
+    ghost use Rattle.tigertopo_geojson.specs.Holes.{TheShapes};
+
+    ghost Value = { TheShapes };
+
+    ghost view = { λ s. record { outers = s.outers; holes = s.holes; rings = s.rings } };
 }
 
 impl Shapes {
-    fn new(alloc: Global, map: &Map, walks: &[Vec<u32>]) -> Result<Shapes, AllocError>
+    /// The shapes of a map whose walks these are. The error is that memory was refused.
+    pub fn new(alloc: Global, map: &Map, walks: &[Vec<u32>]) -> Result<Shapes, AllocError>
         requires { AreWalks map.now.chains (map_list (λ w. w.items) walks.now) }
-        ensures outers { IfOk result (λ shapes.
-            AreGroups (length map.now.polygons)
-            (map_list (outer_polygon map.now.chains) (map_list (λ w. w.items) walks.now)) shapes.outers) }
-        ensures holes { IfOk result (λ shapes.
-            AreGroups (length walks.now)
-            (map_list (home map.now.chains (map_list (λ w. w.items) walks.now)) (map_list (λ w. w.items) walks.now)) shapes.holes) }
+        ensures { IfOk result (AreShapes map.now (map_list (λ w. w.items) walks.now)) }
     {
         // So walks are fewer than 2^32.
         let _darts = map.darts();
@@ -123,8 +130,29 @@ impl Shapes {
         let outers = Groups::new(alloc, polygons.as_slice(), map.polygons())?;
         let homes = list_homes(alloc, map, walks, areas.as_slice(), &outers)?;
         let holes = Groups::new(alloc, homes.as_slice(), walks.len() as u32)?;
-        Ok(Shapes { outers, holes })
+        let rings = count_some(polygons.as_slice()) + count_some(homes.as_slice());
+        Ok(Shapes {
+            outers,
+            holes,
+            rings,
+        })
     }
+
+    /// How many rings there are.
+    pub fn rings(&self) -> u64
+        ensures { result ≡ self.now.rings }
+    {
+        self.rings
+    }
+}
+
+// How many of these there are.
+fn count_some(list: &[Option<u32>]) -> u64
+    requires { length list.now < 2 ^ 32 }
+    ensures count { result ≡ count_by is_some list.now }
+    ensures bound { result < 2 ^ 32 }
+{
+    list.iter().filter(|it| it.is_some()).count() as u64
 }
 
 // Prints how a county begins: all but the boundaries and the end.
