@@ -30,7 +30,7 @@ import skipped
 # are no polygons.
 EXPORTS = [
     (["county"], "exported chains=5 polygons=3 rings=4\n", {"LineString": 5, "Point": 3, "Polygon": 3}),
-    (["island"], "exported chains=2 polygons=2 rings=3\n", {"LineString": 2, "Point": 2, "Polygon": 2}),
+    (["island"], "exported chains=2 polygons=2 rings=3\n", {"LineString": 2, "Point": 3, "Polygon": 2}),
     (["square.RT1", "square.RT2", "square.RTI", "square.RTP"], "exported chains=1 polygons=1 rings=1\n", {"LineString": 1, "Point": 1, "Polygon": 1}),
     (["faults/town"], "exported chains=13 polygons=5\nnot sound\n", {"LineString": 13, "Point": 5}),
 ]
