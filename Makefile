@@ -26,11 +26,13 @@
 # make promises            makes docs/promises.md anew behind its first page, from the contracts and their comments
 # make install PREFIX=..   installs the program as PREFIX/bin/tigertopo, its manual page and its completions
 # make uninstall PREFIX=.. takes these away
+# make dist                makes in dist/ an archive and a Debian package of the program with its documents, and their sums
+# make dist-check          makes them twice, compares their bytes, and installs, runs and removes the package
 
 PREFIX = /usr/local
 PROGRAM = crates/tigertopo/out/tigertopo
 
-.PHONY: build check wrong-bodies rows certificates judge full-size limits memory devices examples counties bench ways speed geojson pictures pages real-maps promises install uninstall
+.PHONY: build check wrong-bodies rows certificates judge full-size limits memory devices examples counties bench ways speed geojson pictures pages real-maps promises install uninstall dist dist-check
 
 build:
 	python3 proving/prove.py
@@ -118,6 +120,13 @@ install: build
 	install -m 644 install/out/tigertopo.bash $(SHARE)/bash-completion/completions/tigertopo
 	install -m 644 install/out/_tigertopo $(SHARE)/zsh/site-functions/_tigertopo
 	install -m 644 install/out/tigertopo.fish $(SHARE)/fish/vendor_completions.d/tigertopo.fish
+
+dist: build
+	rm -rf dist
+	python3 install/dist.py $(PROGRAM) dist
+
+dist-check: build
+	python3 tests/installed/packaged.py
 
 uninstall:
 	rm -f $(DESTDIR)$(PREFIX)/bin/tigertopo $(SHARE)/man/man1/tigertopo.1 \

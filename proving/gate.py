@@ -25,6 +25,7 @@ import installed
 import judged
 import made_files
 import memory
+import packaged
 import pictures
 import progress
 import promises
@@ -75,6 +76,7 @@ def parts():
         ("files made over others", made_files.play_all),
         ("pictures", pictures.play_all),
         ("manual page, completions and programs of the libraries", installed.play_all),
+        ("what is taken away", packaged.play_all),
         ("progress", progress.play_all),
         ("rows", rows.play_all),
         ("rows over the core", core.play_all),

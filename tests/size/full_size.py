@@ -284,7 +284,7 @@ def play_squares(plays):
     text = grid(across)
     squares, made = plays.file("squares", text), Path(plays.folder, "made")
     plays.decide("the most squares", squares, 0, report_of(across))
-    exported = f"exported chains={2 * across * (across + 1)} polygons={across**2} rings={across**2 + 1}\n"
+    exported = f"exported chains={2 * across * (across + 1)} polygons={across**2} rings={across**2}\n"
     plays.play("the most squares, exported", ["--geojson", made.name, squares], 0, exported, command="export")
     made.unlink(missing_ok=True)
     plays.play("the most squares, drawn", ["--out", made.name, squares], 0, f"drawn chains={drawn_of(across)}\n", command="draw")

@@ -8,7 +8,7 @@ use Rattle.std.specs.Prelude.{codes, slice_index, if◌then◌else◌}
 use Rattle.tl_cert_output.specs.Printed.{Printed}
 use Rattle.tl_cert_output.specs.Printing.{Prints}
 use Rattle.std.specs.List.{flat_map}
-use Rattle.tigertopo_geojson.specs.Groups.{is_group, places_from, GoesThrough}
+use Rattle.tigertopo_geojson.specs.Groups.{is_group, is_one, places_from, GoesThrough}
 use Rattle.tigertopo_geojson.specs.Features.{separated}
 use Rattle.tl_cert_output.proofs.PrinterLemmas.{both, as_text, nothing}
 
@@ -128,3 +128,19 @@ module _ {S : Type 0} {C : S → Option (List ℕ)} {F : S → ℕ} (next : List
       → ((others : List ℕ) → GoesThrough next (slice_index next at) others → Prints C F b c (flat_map (λ n. codes "," ++ g n) others)) → Prints C F a c (separated g ns)
   separated_both g at [] within goes one more = absurd (omega (arith, within, goes))
   separated_both g at (n ∷ rest) within goes one more = both (as_text one (ap g goes.0)) (more rest (rw goes.0 goes.2))
+
+-- ---- whether a group has one item
+
+pub none_of : (next : List ℕ) (at : ℕ) (ns : List ℕ) → length next ≤ at → GoesThrough next at ns → false ≡ is_one ns
+none_of next at [] beyond goes = refl
+none_of next at (n ∷ rest) beyond goes = absurd (omega (arith, beyond, goes.0, goes.1))
+
+pub one_of : (next : List ℕ) (at : ℕ) (ns : List ℕ) → at < length next → length next ≤ slice_index next at → GoesThrough next at ns → true ≡ is_one ns
+one_of next at [] within ends goes = absurd (omega (arith, within, goes))
+one_of next at (n ∷ []) within ends goes = refl
+one_of next at (n ∷ other ∷ rest) within ends goes = absurd (omega (arith, ends, ap (slice_index next) goes.0, goes.2.0, goes.2.1))
+
+pub more_of : (next : List ℕ) (at : ℕ) (ns : List ℕ) → at < length next → slice_index next at < length next → GoesThrough next at ns → false ≡ is_one ns
+more_of next at [] within goes_on goes = absurd (omega (arith, within, goes))
+more_of next at (n ∷ []) within goes_on goes = absurd (omega (arith, goes_on, ap (slice_index next) goes.0, goes.2))
+more_of next at (n ∷ other ∷ rest) within goes_on goes = refl

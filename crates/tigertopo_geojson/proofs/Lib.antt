@@ -4,3 +4,4 @@ pub mod FeatureLemmas
 pub mod GroupLemmas
 pub mod TextLemmas
 pub mod RingLemmas
+pub mod HoleLemmas

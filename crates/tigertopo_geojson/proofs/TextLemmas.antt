@@ -6,7 +6,9 @@ use Rattle.std.proofs.lemmas.List.{take_all}
 use Rattle.std.proofs.Common.{◌-◌, ◌≤◌, drop, arith}
 use Rattle.tl_geom.specs.declared.point.Point.{Point}
 use Rattle.std.specs.List.{flat_map}
+use Rattle.std.specs.Prelude.{codes}
 use Rattle.tigertopo_geojson.specs.Positions.{position_text, comma_position, positions_text}
+use Rattle.tigertopo_geojson.specs.Features.{separated, comma_before}
 
 each_suc : {X Y : Type 0} (text : X → List Y) (xs : List X) (i : ℕ) (x : X) → slice_get xs i ≡ Some x → flat_map text (take (suc i) xs) ≡ flat_map text (take i xs) ++ text x
 each_suc text [] i x here = cc
@@ -21,8 +23,12 @@ each_next text xs i x here = rw add-one (each_suc text xs i x here)
 pub each_at : {X Y : Type 0} (text : X → List Y) (xs : List X) (i : ℕ) (d : X) → i < length xs → flat_map text (take (i + 1) xs) ≡ flat_map text (take i xs) ++ text (get_or xs i d)
 each_at text xs i d within = each_next text xs i (get_or xs i d) (slice_get-get_or xs i d within)
 
--- a key put together of its parts
-pub key_parts : (c d e f g slash number : List ℕ) → [] ++ c ++ d ++ e ++ f ++ g ++ slash ++ number ≡ c ++ (d ++ (e ++ (f ++ (g ++ (slash ++ number)))))
+-- a CENID put together of its parts
+pub cenid_parts : (c d e f g : List ℕ) → [] ++ c ++ d ++ e ++ f ++ g ≡ c ++ (d ++ (e ++ (f ++ g)))
+cenid_parts c d e f g = simp append_assoc
+
+-- and a key
+pub key_parts : (c d e f g slash number : List ℕ) → c ++ (d ++ (e ++ (f ++ g))) ++ slash ++ number ≡ c ++ (d ++ (e ++ (f ++ (g ++ (slash ++ number)))))
 key_parts c d e f g slash number = simp append_assoc
 
 -- the first position, and those behind it
@@ -47,3 +53,11 @@ behind_none points = refl
 pub behind_all : (points : List Point) (i : ℕ) → length points ≤ i → flat_map comma_position (take (i - 1) (drop 1 points)) ≡ flat_map comma_position (drop 1 points)
 behind_all [] i beyond = ap (flat_map comma_position) (take-nil (i - 1))
 behind_all (p ∷ rest) i beyond = ap (flat_map comma_position) (take_all (i - 1) rest (omega (arith, beyond)))
+
+-- one item more of a list with commas
+pub separated_more : {X : Type 0} (text : X → List ℕ) (xs : List X) (i : ℕ) (d : X) → i < length xs
+    → separated text (take i xs) ++ comma_before i ++ text (get_or xs i d) ≡ separated text (take (i + 1) xs)
+separated_more text [] i d within = absurd (omega arith)
+separated_more text (x ∷ rest) zero d within = sym (append-nil (text x))
+separated_more text (x ∷ rest) (suc k) d within =
+    rw (add-one, each_suc (λ y. codes "," ++ text y) rest k (get_or rest k d) (slice_get-get_or rest k d (omega (arith, within)))) (simp append_assoc)

@@ -1,5 +1,5 @@
 -- The area of a polygon, twice.
-use Rattle.std.specs.Prelude.{◌≡◌, ◌<◌, ◌^◌, slice_index_or, ℕ, zero, suc, ◌+◌, ◌-◌, ◌*◌, ◌/◌, ◌%◌, ◌==◌, if◌then◌else◌, List, [], ◌++◌, length, slice_get, Option, Some, None, ℤ, pos, ◌+ℤ◌, unsigned_abs, int_lt, Bool, not, codes, decimal}
+use Rattle.std.specs.Prelude.{◌≡◌, ◌<◌, ◌^◌, slice_index_or, ℕ, zero, suc, ◌+◌, ◌-◌, ◌*◌, ◌/◌, ◌%◌, ◌==◌, if◌then◌else◌, List, [], ◌∷◌, ◌++◌, length, slice_get, Option, Some, None, ℤ, pos, ◌+ℤ◌, unsigned_abs, int_lt, Bool, not, codes, decimal}
 use Rattle.std.specs.Option.{option_map_or}
 use Rattle.tl_geom.specs.declared.point.Point.{Point}
 use Rattle.tl_geom.specs.Plane.{cross}
@@ -38,6 +38,11 @@ abbrev pub polygon_on : Option Side → Option ℕ
 polygon_on None = None
 polygon_on (Some Outside) = None
 polygon_on (Some (Polygon p)) = Some p
+
+-- the polygon on the left of a walk
+abbrev pub walk_polygon : List MapChain → List ℕ → Option ℕ
+walk_polygon chains [] = None
+walk_polygon chains (d ∷ rest) = polygon_on (dart_left chains d)
 
 -- what is added to the area of polygon p where this lies on the left
 abbrev pub share : ℕ → Option Side → ℤ → ℤ

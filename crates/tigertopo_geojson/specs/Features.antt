@@ -1,5 +1,5 @@
--- The features of chains and of polygons' points, and collections of features.
-use Rattle.std.specs.Prelude.{ℕ, zero, suc, ◌+◌, List, [], ◌∷◌, ◌++◌, slice_get, slice_index_or, Option, Some, codes, decimal}
+-- The features of chains, of polygons' points and of landmarks' points, and collections of features.
+use Rattle.std.specs.Prelude.{ℕ, zero, suc, ◌+◌, List, [], ◌∷◌, ◌++◌, filter, is_some, slice_get, slice_index_or, Option, Some, codes, decimal}
 use Rattle.std.specs.Option.{option_map_or}
 use Rattle.tl_geom.specs.declared.point.Point.{Point}
 use Rattle.tl_map_county.specs.declared.polygons.Polygon.{Polygon}
@@ -7,7 +7,7 @@ use Rattle.tl_map_county.specs.declared.sides.Side.{Side}
 use Rattle.tl_map_county.specs.declared.sides.Side.TheVariants as side
 use Rattle.tl_map_county.specs.TheMap.{TheMap, MapChain, MapLandmark}
 use Rattle.std.specs.List.{flat_map}
-use Rattle.tigertopo_geojson.specs.Strings.{key_string}
+use Rattle.tigertopo_geojson.specs.Strings.{key_string, key_members}
 use Rattle.tigertopo_geojson.specs.Positions.{position_text, positions_text}
 use Rattle.tigertopo_geojson.specs.Groups.{places}
 
@@ -21,10 +21,20 @@ abbrev pub features_below : ℕ → (ℕ → List ℕ) → ℕ → List ℕ
 features_below k feature zero = []
 features_below k feature (suc n) = features_below k feature n ++ lead (k + n) ++ feature n
 
+-- the features of a list's items, where k features stand before them
+abbrev pub features_of : {X : Type 0} → ℕ → (X → List ℕ) → List X → List ℕ
+features_of k feature [] = []
+features_of k feature (x ∷ rest) = lead k ++ feature x ++ features_of (suc k) feature rest
+
 -- the texts of a list's items with a comma between two
 abbrev pub separated : {X : Type 0} → (X → List ℕ) → List X → List ℕ
 separated text [] = []
 separated text (x ∷ rest) = text x ++ flat_map (λ y. codes "," ++ text y) rest
+
+-- what stands before the item at a place of a list
+abbrev pub comma_before : ℕ → List ℕ
+comma_before zero = []
+comma_before (suc place) = codes ","
 
 -- what lies on a side: the key of its polygon, or null outside
 abbrev pub side_text : List Polygon → Side → List ℕ
@@ -54,16 +64,35 @@ linked_polygons landmarks = flat_map (λ (landmark : MapLandmark). flat_map (λ 
 abbrev pub lands_text : List MapLandmark → ℕ → List ℕ
 lands_text landmarks p = separated (λ n. decimal (slice_index_or (linked_lands landmarks) n 0)) (places p (linked_polygons landmarks))
 
--- a polygon: its point, its key and the LANDs
+-- a polygon: its point, what names it and the LANDs
 unfoldable pub polygon_text : Polygon → List ℕ → List ℕ
 polygon_text polygon lands =
     codes "{\"type\":\"Feature\",\"geometry\":{\"type\":\"Point\",\"coordinates\":" ++ position_text polygon.point
-    ++ codes "},\"properties\":{\"polygon\":" ++ key_string polygon.key
+    ++ codes "},\"properties\":{" ++ key_members polygon.key
     ++ codes ",\"landmarks\":[" ++ lands ++ codes "]}}"
 
 -- the polygon with this number
 abbrev pub polygon_feature : TheMap → ℕ → List ℕ
 polygon_feature m p = option_map_or (λ (polygon : Polygon). polygon_text polygon (lands_text m.landmarks p)) (slice_get m.polygons p) []
+
+-- a landmark's point: its LAND, and the keys of its polygons
+unfoldable pub landmark_text : List Polygon → (land : ℕ) → Point → List ℕ → List ℕ
+landmark_text polygons land point linked =
+    codes "{\"type\":\"Feature\",\"geometry\":{\"type\":\"Point\",\"coordinates\":" ++ position_text point
+    ++ codes "},\"properties\":{\"land\":" ++ decimal land
+    ++ codes ",\"polygons\":[" ++ separated (λ p. side_text polygons (side.Polygon p)) linked ++ codes "]}}"
+
+-- that of a landmark that has a point
+abbrev pub landmark_feature : List Polygon → MapLandmark → List ℕ
+landmark_feature polygons landmark = option_map_or (λ point. landmark_text polygons landmark.land point landmark.polygons) landmark.point []
+
+-- the landmarks that have a point
+abbrev pub with_points : List MapLandmark → List MapLandmark
+with_points landmarks = filter (λ (landmark : MapLandmark). is_some landmark.point) landmarks
+
+-- their features, where k features stand before them
+abbrev pub landmark_features : ℕ → List Polygon → List MapLandmark → List ℕ
+landmark_features k polygons landmarks = features_of k (landmark_feature polygons) (with_points landmarks)
 
 -- how a collection begins and ends
 abbrev pub collection_opening : List ℕ

@@ -1,5 +1,5 @@
 -- Items by their groups.
-use Rattle.std.specs.Prelude.{◌≡◌, ◌<◌, ◌≤◌, ℕ, suc, ◌==◌, Bool, false, if◌then◌else◌, List, [], ◌∷◌, length, Option, Some, None, slice_index}
+use Rattle.std.specs.Prelude.{◌≡◌, ◌<◌, ◌≤◌, ℕ, suc, ◌==◌, Bool, true, false, if◌then◌else◌, List, [], ◌∷◌, length, Option, Some, None, slice_index}
 
 -- is this the group
 abbrev pub is_group : ℕ → Option ℕ → Bool
@@ -20,6 +20,12 @@ places g groups = places_from g 0 groups
 abbrev pub GoesThrough : List ℕ → ℕ → List ℕ → Type 0
 GoesThrough next at [] = length next ≤ at
 GoesThrough next at (n ∷ rest) = (at ≡ n) × (n < length next) × GoesThrough next (slice_index next n) rest
+
+-- is it a list of one item
+abbrev pub is_one : List ℕ → Bool
+is_one [] = false
+is_one (n ∷ []) = true
+is_one (n ∷ other ∷ rest) = false
 
 -- the first item of each group, and beside each item the next one of its group
 pub record Linked : Type 0 where

@@ -4,4 +4,5 @@ pub mod Positions
 pub mod Groups
 pub mod Areas
 pub mod Features
+pub mod Holes
 pub mod Rings

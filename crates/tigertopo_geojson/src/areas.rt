@@ -1,11 +1,14 @@
-//! Areas of polygons.
+//! Areas of polygons and of rings.
 
 ghost use Rattle.std.specs.Prelude.{◌≡◌, ◌+◌, ◌*◌, ◌-◌, ◌<◌, ◌≤◌, ◌^◌, ℕ, ◌+ℤ◌, ◌-ℤ◌, ◌*ℤ◌};
-ghost use Rattle.std.specs.Prelude.{IfOk, length, slice_index_or, pos, Some, unsigned_abs, vec_len};
+ghost use Rattle.std.specs.Prelude.{IfOk, length, map as map_list, slice_index, slice_index_or, pos, Some, unsigned_abs, vec_len};
 ghost use Rattle.tl_geom.specs.Plane.{cross as cross_product};
+ghost use Rattle.tl_check_sides.specs.Walks.{AreWalks};
 ghost use Rattle.tigertopo_geojson.specs.Areas.{share, dart_sum as dart_sum_of, AreAreas};
+ghost use Rattle.tigertopo_geojson.specs.Holes.{ring_area as ring_area_of, AreRingAreas};
 
 use crate::positions::point_at;
+use crate::walks::walk_at;
 use std::alloc::{AllocError, Global};
 use tl_geom::Point;
 use tl_map_county::{Map, Side};
@@ -35,6 +38,34 @@ fn add_to(areas: &mut Vec<i128>, side: Side, sum: i128)
         }
         _ => {}
     }
+}
+
+/// Twice the area of each ring, in square millionths of a degree.
+pub fn ring_areas(alloc: Global, map: &Map, walks: &[Vec<u32>]) -> Result<Vec<i128>, AllocError>
+    requires { AreWalks map.now.chains (map_list (λ w. w.items) walks.now) }
+    ensures { IfOk result (λ areas. AreRingAreas map.now.chains (map_list (λ w. w.items) walks.now) areas.items) }
+{
+    // So a ring has fewer darts than 2^32.
+    let _darts = map.darts();
+    let mut areas = Vec::new(alloc);
+    for number in 0..walks.len() {
+        areas.push(ring_area(map, walk_at(walks, number)))?;
+    }
+    Ok(areas)
+}
+
+// Twice the area of a ring.
+fn ring_area(map: &Map, walk: &[u32]) -> i128
+    requires few { length walk.now < 2 ^ 32 }
+    requires darts { (k : ℕ) → k < length walk.now → slice_index walk.now k < 2 * length map.now.chains }
+    ensures value { result ≡ ring_area_of map.now.chains walk.now }
+    ensures bound { unsigned_abs result ≤ 2 ^ 121 }
+{
+    let mut sum = 0;
+    for dart in walk {
+        sum = plus(sum, dart_sum(map, *dart));
+    }
+    sum
 }
 
 // The sum over the steps of a dart.

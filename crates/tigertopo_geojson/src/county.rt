@@ -1,54 +1,85 @@
 //! A county as one FeatureCollection.
 
-ghost use Rattle.std.specs.Prelude.{◌≡◌, ◌++◌, IfOk, length, map as map_list};
+ghost use Rattle.std.specs.Prelude.{◌≡◌, ◌+◌, ◌<◌, ◌^◌, ◌++◌, IfOk, length, map as map_list, count_by, is_some};
 ghost use Rattle.tl_check_sides.specs.Walks.{AreWalks};
 ghost use Rattle.tl_cert_output.specs.Printing.{Prints};
 ghost use Rattle.tl_cert_output.specs.Texts.{PrintsText};
 ghost use Rattle.tigertopo_geojson.specs.Features.{linked_lands, linked_polygons, collection_opening};
 ghost use Rattle.tigertopo_geojson.specs.Groups.{AreGroups};
+ghost use Rattle.tigertopo_geojson.specs.Holes.{AreShapes};
 ghost use Rattle.tigertopo_geojson.specs.Rings.{chains_and_points, county_text, county_text_with};
 
-use crate::areas::doubled_areas;
+use crate::areas::{doubled_areas, ring_areas};
 use crate::features::print_chains;
 use crate::groups::Groups;
+use crate::holes::{list_homes, list_outers};
+use crate::landmarks::print_landmarks;
 use crate::polygons::{list_links, print_polygons};
-use crate::rings::{list_walk_polygons, print_boundaries};
+use crate::rings::print_boundaries;
 use std::alloc::{AllocError, Global};
+use std::marker::Model;
 use tl_cert_output::{Printer, Stop};
 use tl_map_county::Map;
 use tl_record::Sink;
 
-/// Prints a county: each chain with its TLID and its sides, and each polygon's point with its key and its landmarks.
+/// Prints a county: each chain with its TLID and its sides, each polygon's point with its key and its landmarks, and each landmark's point.
 pub fn print_county<S: Sink>(alloc: Global, map: &Map, out: &mut S) -> Result<(), Stop>
     ensures { PrintsText S.contents S.failure_count out.old out.new (county_text map.now) result }
 {
     let links = Links::new(alloc, map)?;
     let mut printer = Printer::new();
     print_front(map, &links, &mut printer, out);
+    print_landmarks(map, points_of(map), &mut printer, out);
     printer.add(b"\n]}\n", out);
     printer.finish(out)
 }
 
-/// Prints a county with the boundary of each polygon, which is of these walks: its rings and its area.
+/// Prints a county with the shape of each polygon, whose rings are of these walks, and its area.
 pub fn print_county_with<S: Sink>(
     alloc: Global,
     map: &Map,
     walks: &[Vec<u32>],
+    shapes: &Shapes,
     out: &mut S,
 ) -> Result<(), Stop>
-    requires { AreWalks map.now.chains (map_list (λ w. w.items) walks.now) }
+    requires walks { AreWalks map.now.chains (map_list (λ w. w.items) walks.now) }
+    requires shapes { AreShapes map.now (map_list (λ w. w.items) walks.now) shapes.now }
     ensures { PrintsText S.contents S.failure_count out.old out.new
         (county_text_with map.now (map_list (λ w. w.items) walks.now)) result }
 {
     let links = Links::new(alloc, map)?;
-    let polygons = list_walk_polygons(alloc, map, walks)?;
-    let groups = Groups::new(alloc, polygons.as_slice(), map.polygons())?;
     let areas = doubled_areas(alloc, map)?;
     let mut printer = Printer::new();
     print_front(map, &links, &mut printer, out);
-    print_boundaries(map, walks, &groups, areas.as_slice(), &mut printer, out);
+    let (outers, holes) = (&shapes.outers, &shapes.holes);
+    print_boundaries(
+        map,
+        walks,
+        outers,
+        holes,
+        areas.as_slice(),
+        &mut printer,
+        out,
+    );
+    print_landmarks(map, shapes_of(map), &mut printer, out);
     printer.add(b"\n]}\n", out);
     printer.finish(out)
+}
+
+// How many chains and polygons there are.
+fn points_of(map: &Map) -> u64
+    ensures count { result ≡ length map.now.chains + length map.now.polygons }
+    ensures bound { result < 2 ^ 33 }
+{
+    u64::from(map.chains()) + u64::from(map.polygons())
+}
+
+// How many there are with the polygons' boundaries.
+fn shapes_of(map: &Map) -> u64
+    ensures count { result ≡ length map.now.chains + length map.now.polygons + length map.now.polygons }
+    ensures bound { result < 2 ^ 34 }
+{
+    points_of(map) + u64::from(map.polygons())
 }
 
 // The links of landmarks with polygons: their LANDs, and the links of each polygon.
@@ -68,6 +99,60 @@ impl Links {
         let polygons = Groups::new(alloc, polygons.as_slice(), map.polygons())?;
         Ok(Links { lands, polygons })
     }
+}
+
+/// The shapes of a sound map's polygons: which rings are the outer rings of each, and which holes lie in them.
+#[derive(Drop)]
+pub struct Shapes {
+    outers: Groups,
+    holes: Groups,
+    rings: u64,
+}
+
+impl Model for Shapes {
+    ghost use Rattle.tigertopo_geojson.specs.Holes.{TheShapes};
+
+    ghost Value = { TheShapes };
+
+    ghost view = { λ s. record { outers = s.outers; holes = s.holes; rings = s.rings } };
+}
+
+impl Shapes {
+    /// The shapes of a map whose walks these are. The error is that memory was refused.
+    pub fn new(alloc: Global, map: &Map, walks: &[Vec<u32>]) -> Result<Shapes, AllocError>
+        requires { AreWalks map.now.chains (map_list (λ w. w.items) walks.now) }
+        ensures { IfOk result (AreShapes map.now (map_list (λ w. w.items) walks.now)) }
+    {
+        // So walks are fewer than 2^32.
+        let _darts = map.darts();
+        let areas = ring_areas(alloc, map, walks)?;
+        let polygons = list_outers(alloc, map, walks, areas.as_slice())?;
+        let outers = Groups::new(alloc, polygons.as_slice(), map.polygons())?;
+        let homes = list_homes(alloc, map, walks, areas.as_slice(), &outers)?;
+        let holes = Groups::new(alloc, homes.as_slice(), walks.len() as u32)?;
+        let rings = count_some(polygons.as_slice()) + count_some(homes.as_slice());
+        Ok(Shapes {
+            outers,
+            holes,
+            rings,
+        })
+    }
+
+    /// How many rings there are.
+    pub fn rings(&self) -> u64
+        ensures { result ≡ self.now.rings }
+    {
+        self.rings
+    }
+}
+
+// How many of these there are.
+fn count_some(list: &[Option<u32>]) -> u64
+    requires { length list.now < 2 ^ 32 }
+    ensures count { result ≡ count_by is_some list.now }
+    ensures bound { result < 2 ^ 32 }
+{
+    list.iter().filter(|it| it.is_some()).count() as u64
 }
 
 // Prints how a county begins: all but the boundaries and the end.

@@ -60,8 +60,8 @@ fn print_line<S: Sink>(map: &Map, chain: &Chain<'_>, printer: &mut Printer, out:
     printer.add(b"}}", out);
 }
 
-// Prints what lies on a side.
-fn print_side<S: Sink>(map: &Map, side: Side, printer: &mut Printer, out: &mut S)
+/// Prints what lies on a side.
+pub fn print_side<S: Sink>(map: &Map, side: Side, printer: &mut Printer, out: &mut S)
     ensures { Prints S.contents S.failure_count (out.old, printer.old) (out.new, printer.new) (side_text map.now.polygons side) }
 {
     match side {

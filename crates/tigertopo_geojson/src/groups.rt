@@ -1,7 +1,7 @@
 //! Items by their groups.
 
-ghost use Rattle.std.specs.Prelude.{◌≡◌, ◌<◌, IfOk, length, slice_index, slice_set, vec_len};
-ghost use Rattle.tigertopo_geojson.specs.Groups.{AreGroups};
+ghost use Rattle.std.specs.Prelude.{◌≡◌, ◌<◌, ℕ, List, IfOk, length, slice_index, slice_set, vec_len};
+ghost use Rattle.tigertopo_geojson.specs.Groups.{AreGroups, GoesThrough, is_one};
 
 use std::alloc::{AllocError, Global};
 use std::marker::Model;
@@ -57,6 +57,19 @@ impl Groups {
         ensures { result ≡ slice_index self.now.first group }
     {
         self.first[group as usize]
+    }
+
+    /// Whether a group has one item and no other.
+    pub fn has_one(&self, group: u32) -> bool
+        requires { group < length self.now.first }
+        ensures { (ns : List ℕ) → GoesThrough self.now.next (slice_index self.now.first group) ns → result ≡ is_one ns }
+    {
+        let first = self.first(group);
+        if first < self.items() {
+            self.next(first) >= self.items()
+        } else {
+            false
+        }
     }
 
     /// The next item of the same group.

@@ -9,13 +9,17 @@ mod areas;
 mod county;
 mod features;
 mod groups;
+mod holes;
+mod landmarks;
 mod polygons;
 mod positions;
 mod rings;
 mod strings;
 mod text;
+mod walks;
+mod windings;
 
-pub use county::{print_county, print_county_with};
+pub use county::{Shapes, print_county, print_county_with};
 pub use features::{print_chain, print_lead};
 pub use positions::print_position;
 pub use strings::{print_key, print_string};

@@ -10,7 +10,7 @@ ghost use Rattle.tigertopo_geojson.specs.Features.{features_below, separated, li
 use crate::features::print_lead;
 use crate::groups::Groups;
 use crate::positions::print_position;
-use crate::strings::print_key;
+use crate::strings::print_key_members;
 use std::alloc::{AllocError, Global};
 use tl_cert_output::Printer;
 use tl_map_county::{Landmark, Map};
@@ -87,8 +87,8 @@ fn print_polygon<S: Sink>(
         out,
     );
     print_position(polygon.point, printer, out);
-    printer.add(b"},\"properties\":{\"polygon\":", out);
-    print_key(polygon.key, printer, out);
+    printer.add(b"},\"properties\":{", out);
+    print_key_members(polygon.key, printer, out);
     printer.add(b",\"landmarks\":[", out);
     print_lands(lands, links, number, printer, out);
     printer.add(b"]}}", out);

@@ -1,62 +1,41 @@
-//! Features of boundaries: the rings of polygons.
+//! Features of polygons: their shapes, of rings.
 
-ghost use Rattle.std.specs.Prelude.{◌≡◌, ◌+◌, ◌*◌, ◌<◌, ◌++◌, ℕ, List, IfOk, Some, codes, length, map as map_list, slice_index};
+ghost use Rattle.std.specs.Prelude.{◌≡◌, ◌*◌, ◌<◌, ◌++◌, ℕ, List, codes, length, map as map_list, slice_index};
 ghost use Rattle.std.specs.List.{flat_map};
-ghost use Rattle.tl_map_county.specs.TheMap.{MapChain};
 ghost use Rattle.tl_check_sides.specs.Lists.{list_at};
 ghost use Rattle.tl_check_sides.specs.Walks.{AreWalks};
 ghost use Rattle.tl_cert_output.specs.Printing.{Prints};
 ghost use Rattle.tigertopo_geojson.specs.Groups.{GoesThrough, AreGroups};
-ghost use Rattle.tigertopo_geojson.specs.Areas.{AreAreas, polygon_on, half_part, half_text};
+ghost use Rattle.tigertopo_geojson.specs.Areas.{AreAreas, half_part, half_text};
 ghost use Rattle.tigertopo_geojson.specs.Features.{separated};
-ghost use Rattle.tigertopo_geojson.specs.Rings.{walk_polygon, behind_start, ring_text, boundary_feature, boundaries};
+ghost use Rattle.tigertopo_geojson.specs.Holes.{outer_polygon, home};
+ghost use Rattle.tigertopo_geojson.specs.Rings.{behind_start, ring_text, more_rings, part_text, shape_opening, shape_closing, shape_text};
+ghost use Rattle.tigertopo_geojson.specs.Rings.{boundary_feature, boundaries};
 
 use crate::features::print_lead;
 use crate::groups::Groups;
 use crate::positions::{print_behind, print_position, sign};
-use crate::strings::print_key;
-use std::alloc::{AllocError, Global};
+use crate::strings::print_key_members;
+use crate::walks::walk_at;
 use tl_cert_output::Printer;
-use tl_map_county::{Map, Side};
+use tl_map_county::Map;
 use tl_record::Sink;
 
-/// The polygon on the left of each walk.
-pub fn list_walk_polygons(
-    alloc: Global,
-    map: &Map,
-    walks: &[Vec<u32>],
-) -> Result<Vec<Option<u32>>, AllocError>
-    requires { AreWalks map.now.chains (map_list (λ w. w.items) walks.now) }
-    ensures { IfOk result (λ list. list.items ≡ map_list (walk_polygon map.now.chains) (map_list (λ w. w.items) walks.now)) }
-{
-    let mut list = Vec::new(alloc);
-    for number in 0..walks.len() {
-        list.push(polygon_of(map.dart_left(walk_at(walks, number)[0])))?;
-    }
-    Ok(list)
-}
-
-// The polygon on a side.
-fn polygon_of(side: Side) -> Option<u32>
-    ensures { result ≡ polygon_on (Some side) }
-{
-    match side {
-        Side::Polygon(polygon) => Some(polygon),
-        Side::Outside => None,
-    }
-}
-
-/// Prints the boundaries of a map's polygons.
+/// Prints a map's polygons. `outers` are the outer rings of each, and `holes` the holes of each ring.
 pub fn print_boundaries<S: Sink>(
     map: &Map,
     walks: &[Vec<u32>],
-    groups: &Groups,
+    outers: &Groups,
+    holes: &Groups,
     areas: &[i128],
     printer: &mut Printer,
     out: &mut S,
 )
     requires walks { AreWalks map.now.chains (map_list (λ w. w.items) walks.now) }
-    requires groups { AreGroups (length map.now.polygons) (map_list (walk_polygon map.now.chains) (map_list (λ w. w.items) walks.now)) groups.now }
+    requires outers { AreGroups (length map.now.polygons)
+        (map_list (outer_polygon map.now.chains) (map_list (λ w. w.items) walks.now)) outers.now }
+    requires holes { AreGroups (length walks.now)
+        (map_list (home map.now.chains (map_list (λ w. w.items) walks.now)) (map_list (λ w. w.items) walks.now)) holes.now }
     requires areas { AreAreas map.now areas.now }
     ensures { Prints S.contents S.failure_count (out.old, printer.old) (out.new, printer.new)
         (boundaries map.now (map_list (λ w. w.items) walks.now)) }
@@ -64,82 +43,179 @@ pub fn print_boundaries<S: Sink>(
     let before = u64::from(map.chains()) + u64::from(map.polygons());
     for number in 0..map.polygons() {
         print_lead(before + u64::from(number), printer, out);
-        print_boundary(map, number, walks, groups, areas, printer, out);
+        print_boundary(map, number, walks, outers, holes, areas, printer, out);
     }
 }
 
-// Prints the boundary of the polygon of this number.
+// Prints the polygon of this number.
 fn print_boundary<S: Sink>(
     map: &Map,
     number: u32,
     walks: &[Vec<u32>],
-    groups: &Groups,
+    outers: &Groups,
+    holes: &Groups,
     areas: &[i128],
     printer: &mut Printer,
     out: &mut S,
 )
     requires number { number < length map.now.polygons }
     requires walks { AreWalks map.now.chains (map_list (λ w. w.items) walks.now) }
-    requires groups { AreGroups (length map.now.polygons) (map_list (walk_polygon map.now.chains) (map_list (λ w. w.items) walks.now)) groups.now }
+    requires outers { AreGroups (length map.now.polygons)
+        (map_list (outer_polygon map.now.chains) (map_list (λ w. w.items) walks.now)) outers.now }
+    requires holes { AreGroups (length walks.now)
+        (map_list (home map.now.chains (map_list (λ w. w.items) walks.now)) (map_list (λ w. w.items) walks.now)) holes.now }
     requires areas { AreAreas map.now areas.now }
     ensures { Prints S.contents S.failure_count (out.old, printer.old) (out.new, printer.new)
         (boundary_feature map.now (map_list (λ w. w.items) walks.now) number) }
 {
-    printer.add(
-        b"{\"type\":\"Feature\",\"geometry\":{\"type\":\"MultiLineString\",\"coordinates\":[",
-        out,
-    );
-    print_rings(map, walks, groups, number, printer, out);
-    printer.add(b"]},\"properties\":{\"polygon\":", out);
-    print_key(map.polygon(number).key, printer, out);
+    printer.add(b"{\"type\":\"Feature\",\"geometry\":", out);
+    print_shape(map, walks, outers, holes, number, printer, out);
+    printer.add(b",\"properties\":{", out);
+    print_key_members(map.polygon(number).key, printer, out);
     printer.add(b",\"area\":\"", out);
     print_half(areas[number as usize], printer, out);
     printer.add(b"\"}}", out);
 }
 
-// Prints the rings of a polygon.
-fn print_rings<S: Sink>(
+// Prints the shape of a polygon.
+fn print_shape<S: Sink>(
     map: &Map,
     walks: &[Vec<u32>],
-    groups: &Groups,
+    outers: &Groups,
+    holes: &Groups,
     polygon: u32,
     printer: &mut Printer,
     out: &mut S,
 )
     requires walks { AreWalks map.now.chains (map_list (λ w. w.items) walks.now) }
-    requires polygon { polygon < length groups.now.first }
-    requires beside { length walks.now ≡ length groups.now.next }
-    ensures { (ns : List ℕ) → GoesThrough groups.now.next (slice_index groups.now.first polygon) ns →
+    requires holes { AreGroups (length walks.now)
+        (map_list (home map.now.chains (map_list (λ w. w.items) walks.now)) (map_list (λ w. w.items) walks.now)) holes.now }
+    requires polygon { polygon < length outers.now.first }
+    requires beside { length walks.now ≡ length outers.now.next }
+    ensures { (ns : List ℕ) → GoesThrough outers.now.next (slice_index outers.now.first polygon) ns →
         Prints S.contents S.failure_count (out.old, printer.old) (out.new, printer.new)
-        (separated (λ n. ring_text map.now.chains (list_at (map_list (λ w. w.items) walks.now) n)) ns) }
+        (shape_text map.now.chains (map_list (λ w. w.items) walks.now) ns) }
 {
-    let first = groups.first(polygon);
-    if first < groups.items() {
-        print_ring(map, walks, first, printer, out);
-        print_more_rings(map, walks, groups, groups.next(first), printer, out);
+    let is_one = outers.has_one(polygon);
+    printer.add(opening(is_one), out);
+    print_parts(map, walks, outers, holes, polygon, printer, out);
+    printer.add(closing(is_one), out);
+}
+
+// How a shape begins.
+fn opening<'a>(is_one: bool) -> &'a [u8]
+    ensures { result.now ≡ shape_opening is_one }
+{
+    if is_one {
+        b"{\"type\":\"Polygon\",\"coordinates\":"
+    } else {
+        b"{\"type\":\"MultiPolygon\",\"coordinates\":["
     }
+}
+
+// How it ends.
+fn closing<'a>(is_one: bool) -> &'a [u8]
+    ensures { result.now ≡ shape_closing is_one }
+{
+    if is_one { b"}" } else { b"]}" }
+}
+
+// Prints the outer rings of a polygon, each with its holes.
+fn print_parts<S: Sink>(
+    map: &Map,
+    walks: &[Vec<u32>],
+    outers: &Groups,
+    holes: &Groups,
+    polygon: u32,
+    printer: &mut Printer,
+    out: &mut S,
+)
+    requires walks { AreWalks map.now.chains (map_list (λ w. w.items) walks.now) }
+    requires holes { AreGroups (length walks.now)
+        (map_list (home map.now.chains (map_list (λ w. w.items) walks.now)) (map_list (λ w. w.items) walks.now)) holes.now }
+    requires polygon { polygon < length outers.now.first }
+    requires beside { length walks.now ≡ length outers.now.next }
+    ensures { (ns : List ℕ) → GoesThrough outers.now.next (slice_index outers.now.first polygon) ns →
+        Prints S.contents S.failure_count (out.old, printer.old) (out.new, printer.new)
+        (separated (part_text map.now.chains (map_list (λ w. w.items) walks.now)) ns) }
+{
+    let first = outers.first(polygon);
+    if first < outers.items() {
+        print_part(map, walks, holes, first, printer, out);
+        print_more_parts(map, walks, outers, holes, outers.next(first), printer, out);
+    }
+}
+
+// Prints these outer rings with their holes, each behind a comma.
+fn print_more_parts<S: Sink>(
+    map: &Map,
+    walks: &[Vec<u32>],
+    outers: &Groups,
+    holes: &Groups,
+    start: usize,
+    printer: &mut Printer,
+    out: &mut S,
+)
+    requires walks { AreWalks map.now.chains (map_list (λ w. w.items) walks.now) }
+    requires holes { AreGroups (length walks.now)
+        (map_list (home map.now.chains (map_list (λ w. w.items) walks.now)) (map_list (λ w. w.items) walks.now)) holes.now }
+    requires beside { length walks.now ≡ length outers.now.next }
+    ensures { (ns : List ℕ) → GoesThrough outers.now.next start ns →
+        Prints S.contents S.failure_count (out.old, printer.old) (out.new, printer.new)
+        (flat_map (λ n. codes "," ++ part_text map.now.chains (map_list (λ w. w.items) walks.now) n) ns) }
+{
+    let mut at = start;
+    while at < outers.items() {
+        printer.add(b",", out);
+        print_part(map, walks, holes, at, printer, out);
+        at = outers.next(at);
+    }
+}
+
+// Prints an outer ring with its holes.
+fn print_part<S: Sink>(
+    map: &Map,
+    walks: &[Vec<u32>],
+    holes: &Groups,
+    number: usize,
+    printer: &mut Printer,
+    out: &mut S,
+)
+    requires walks { AreWalks map.now.chains (map_list (λ w. w.items) walks.now) }
+    requires holes { AreGroups (length walks.now)
+        (map_list (home map.now.chains (map_list (λ w. w.items) walks.now)) (map_list (λ w. w.items) walks.now)) holes.now }
+    requires number { number < length walks.now }
+    ensures { Prints S.contents S.failure_count (out.old, printer.old) (out.new, printer.new)
+        (part_text map.now.chains (map_list (λ w. w.items) walks.now) number) }
+{
+    // So walks are fewer than 2^32.
+    let _darts = map.darts();
+    printer.add(b"[", out);
+    print_ring(map, walks, number, printer, out);
+    print_more_rings(map, walks, holes, holes.first(number as u32), printer, out);
+    printer.add(b"]", out);
 }
 
 // Prints these rings, each behind a comma.
 fn print_more_rings<S: Sink>(
     map: &Map,
     walks: &[Vec<u32>],
-    groups: &Groups,
+    holes: &Groups,
     start: usize,
     printer: &mut Printer,
     out: &mut S,
 )
     requires walks { AreWalks map.now.chains (map_list (λ w. w.items) walks.now) }
-    requires beside { length walks.now ≡ length groups.now.next }
-    ensures { (ns : List ℕ) → GoesThrough groups.now.next start ns →
+    requires beside { length walks.now ≡ length holes.now.next }
+    ensures { (ns : List ℕ) → GoesThrough holes.now.next start ns →
         Prints S.contents S.failure_count (out.old, printer.old) (out.new, printer.new)
-        (flat_map (λ n. codes "," ++ ring_text map.now.chains (list_at (map_list (λ w. w.items) walks.now) n)) ns) }
+        (more_rings map.now.chains (map_list (λ w. w.items) walks.now) ns) }
 {
     let mut at = start;
-    while at < groups.items() {
+    while at < holes.items() {
         printer.add(b",", out);
         print_ring(map, walks, at, printer, out);
-        at = groups.next(at);
+        at = holes.next(at);
     }
 }
 
@@ -159,17 +235,6 @@ fn print_ring<S: Sink>(
     print_walk(map, walk_at(walks, number), printer, out);
 }
 
-// The walk of this number.
-fn walk_at(walks: &[Vec<u32>], number: usize) -> &[u32]
-    requires { number < length walks.now }
-    ensures walk { result.now ≡ list_at (map_list (λ w. w.items) walks.now) number }
-    ensures some { (chains : List MapChain) → AreWalks chains (map_list (λ w. w.items) walks.now) → 0 < length result.now }
-    ensures darts { (chains : List MapChain) → AreWalks chains (map_list (λ w. w.items) walks.now) →
-        (k : ℕ) → k < length result.now → slice_index result.now k < 2 * length chains }
-{
-    walks[number].as_slice()
-}
-
 // Prints the ring of a walk.
 fn print_walk<S: Sink>(map: &Map, walk: &[u32], printer: &mut Printer, out: &mut S)
     requires some { 0 < length walk.now }
@@ -185,7 +250,8 @@ fn print_walk<S: Sink>(map: &Map, walk: &[u32], printer: &mut Printer, out: &mut
 // Prints the points of darts, of each those behind its start.
 fn print_darts<S: Sink>(map: &Map, walk: &[u32], printer: &mut Printer, out: &mut S)
     requires { (k : ℕ) → k < length walk.now → slice_index walk.now k < 2 * length map.now.chains }
-    ensures { Prints S.contents S.failure_count (out.old, printer.old) (out.new, printer.new) (flat_map (behind_start map.now.chains) walk.now) }
+    ensures { Prints S.contents S.failure_count (out.old, printer.old) (out.new, printer.new)
+        (flat_map (behind_start map.now.chains) walk.now) }
 {
     for dart in walk {
         print_dart(map, *dart, printer, out);

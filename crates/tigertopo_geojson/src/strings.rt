@@ -5,7 +5,7 @@ ghost use Rattle.arrayvec.specs.ArrayString.{array_string_len};
 ghost use Rattle.tl_record_key.specs.KeyText.{key_text};
 ghost use Rattle.tl_cert_output.specs.Printing.{Prints};
 ghost use Rattle.std.specs.List.{flat_map};
-ghost use Rattle.tigertopo_geojson.specs.Strings.{hex_digit, control_text, escaped_byte, string_text, key_string};
+ghost use Rattle.tigertopo_geojson.specs.Strings.{hex_digit, control_text, escaped_byte, string_text, key_string, whole_cenid, key_members};
 
 use arrayvec::ArrayString;
 use itoa::Buffer;
@@ -76,9 +76,41 @@ pub fn print_key<S: Sink>(key: PolyKey, printer: &mut Printer, out: &mut S)
     print_string(text.as_str().as_bytes(), printer, out);
 }
 
+/// Prints what a feature has of its polygon: the key, and the CENID and the POLYID apart.
+pub fn print_key_members<S: Sink>(key: PolyKey, printer: &mut Printer, out: &mut S)
+    ensures { Prints S.contents S.failure_count (out.old, printer.old) (out.new, printer.new) (key_members key) }
+{
+    printer.add(b"\"polygon\":", out);
+    print_key(key, printer, out);
+    printer.add(b",\"cenid\":", out);
+    print_cenid(key, printer, out);
+    printer.add(b",\"polyid\":", out);
+    printer.number(key.polyid, out);
+}
+
+// Prints the CENID as a string.
+fn print_cenid<S: Sink>(key: PolyKey, printer: &mut Printer, out: &mut S)
+    ensures { Prints S.contents S.failure_count (out.old, printer.old) (out.new, printer.new) (string_text (whole_cenid key)) }
+{
+    let text = text_of_cenid(key);
+    print_string(text.as_str().as_bytes(), printer, out);
+}
+
 // The key of a polygon, put together before it is printed.
 fn text_of_key(key: PolyKey) -> ArrayString<LONGEST_KEY>
     ensures { result.bytes ≡ key_text key }
+{
+    let mut digits = Buffer::new();
+    let mut text = text_of_cenid(key);
+    text.push_str("/");
+    text.push_str(digits.format(key.polyid));
+    text
+}
+
+// Its CENID.
+fn text_of_cenid(key: PolyKey) -> ArrayString<LONGEST_KEY>
+    ensures bytes { result.bytes ≡ whole_cenid key }
+    ensures room { array_string_len result ≤ 20 }
 {
     let [first, second, third, fourth, fifth] = key.shown_cenid();
     let mut text = ArrayString::new();
@@ -87,9 +119,6 @@ fn text_of_key(key: PolyKey) -> ArrayString<LONGEST_KEY>
     push_char(&mut text, third);
     push_char(&mut text, fourth);
     push_char(&mut text, fifth);
-    let mut digits = Buffer::new();
-    text.push_str("/");
-    text.push_str(digits.format(key.polyid));
     text
 }
 

@@ -14,9 +14,9 @@ use Rattle.tigertopo_outcome.specs.declared.outcome.Outcome.TheVariants.{Verdict
 abbrev pub counts_text : ℕ → ℕ → ℕ → List ℕ
 counts_text nodes rounds walks = codes "converted nodes=" ++ decimal nodes ++ codes " rounds=" ++ decimal rounds ++ codes " walks=" ++ decimal walks
 
--- the numbers of chains and of polygons that were exported, and that of rings where there are some
+-- the numbers of chains and of polygons that were exported, and that of rings; where there is none, that the map isn't sound
 abbrev pub exported_text : ℕ → ℕ → Option ℕ → List ℕ
-exported_text chains polygons None = codes "exported chains=" ++ (decimal chains ++ (codes " polygons=" ++ decimal polygons))
+exported_text chains polygons None = codes "exported chains=" ++ (decimal chains ++ (codes " polygons=" ++ (decimal polygons ++ codes "\nnot sound")))
 exported_text chains polygons (Some rings) =
     codes "exported chains=" ++ (decimal chains ++ (codes " polygons=" ++ (decimal polygons ++ (codes " rings=" ++ decimal rings))))
 
@@ -24,6 +24,11 @@ exported_text chains polygons (Some rings) =
 abbrev pub drawn_text : ℕ → Option ℕ → List ℕ
 drawn_text chains None = codes "drawn chains=" ++ decimal chains
 drawn_text chains (Some faults) = codes "drawn chains=" ++ decimal chains ++ codes " faults=" ++ decimal faults
+
+-- the status of an export: that of a fault where the map isn't sound
+abbrev pub exported_status : Option ℕ → ℕ
+exported_status None = 1
+exported_status (Some rings) = 0
 
 -- the text of a verdict
 abbrev pub verdict_text : TheVerdict → List ℕ
@@ -50,7 +55,7 @@ abbrev pub outcome_status : Outcome → ℕ
 outcome_status (Verdict verdict) = verdict_status verdict
 outcome_status (Built report) = 0
 outcome_status (Converted counts) = 0
-outcome_status (Exported exported) = 0
+outcome_status (Exported exported) = exported_status exported.rings
 outcome_status (Drawn drawn) = 0
 
 -- the status of a stop

@@ -27,12 +27,12 @@ pub struct Converted {
     pub walks: usize,
 }
 
-/// How many chains, polygons and rings were exported. There are no rings of a map that isn't sound.
+/// How many chains, polygons and rings were exported. Of a map that isn't sound no number of rings is told.
 #[derive(Clone, Copy)]
 pub struct Exported {
     pub chains: u32,
     pub polygons: u32,
-    pub rings: Option<u32>,
+    pub rings: Option<u64>,
 }
 
 /// How many chains a picture shows, and how many faults, where they are asked for.
@@ -61,8 +61,9 @@ impl Outcome {
             Outcome::Verdict(Verdict::MapFault(_)) => MAP_FAULT,
             Outcome::Verdict(Verdict::CertFault(_)) => CERT_FAULT,
             Outcome::Verdict(Verdict::Sound(_)) => DONE,
+            Outcome::Exported(Exported { rings: None, .. }) => MAP_FAULT,
             Outcome::Built(_) | Outcome::Converted(_) | Outcome::Exported(_) | Outcome::Drawn(_) =>
-                DONE,
+                { DONE }
         }
     }
 }
@@ -116,7 +117,7 @@ impl fmt::Display for Exported {
             ),
             None => write!(
                 f,
-                "exported chains={} polygons={}",
+                "exported chains={} polygons={}\nnot sound",
                 self.chains, self.polygons
             ),
         }

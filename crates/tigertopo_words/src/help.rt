@@ -138,10 +138,11 @@ pub const EXPORT_ABOUT: &str = "Writes the map as GeoJSON";
 
 pub const EXPORT_EXAMPLE: &str = "\
 OUT is a collection of features of RFC 7946, in degrees: each chain as a line with its TLID and the
-polygons on both sides, each polygon's point with its landmarks, and where the map is sound, each
-polygon's rings with its area in square millionths of a degree. OUT is written as OUT.unfinished and takes
-its name when it is whole. A file that this command hasn't made, or that is one of FILES, is not replaced.
-The line is `exported chains=C polygons=P rings=R`, with no rings where the map isn't sound.
+polygons on both sides, each polygon's point with its landmarks, where the map is sound each polygon with
+its holes and its area in square millionths of a degree, and each landmark's point. OUT is written as
+OUT.unfinished and takes its name when it is whole. A file that this command hasn't made, or that is one
+of FILES, is not replaced. The line is `exported chains=C polygons=P rings=R`; of a map that isn't sound
+no rings are told, the line `not sound` follows, and the status is 1.
 
 Example:
   tigertopo export --geojson TGR24001.geojson TGR24001.RT*";

@@ -11,6 +11,7 @@ use Rattle.tl_check_verdict.specs.declared.fault.MapFault.{MapFault as TheMapFau
 use Rattle.tl_check_verdict.specs.declared.verdict.Verdict.TheVariants.{MapFault}
 use Rattle.tl_check_verdict.specs.Sound.{IsSound}
 use Rattle.tl_build.specs.Auditing.{IsMemoryStop}
+use Rattle.tigertopo_geojson.specs.Holes.{ring_count}
 use Rattle.tigertopo_geojson.specs.Rings.{county_text, county_text_with}
 use Rattle.tigertopo_files.specs.Files.{Under, StandsUnder}
 use Rattle.tigertopo_files.specs.Log.{Log}
@@ -35,7 +36,7 @@ exported_plain w name m faulty kept = record {
 }
 
 -- a sound one was, whose walks these are
-pub exported_whole : (w : World) (name : List ℕ) (m : TheMap) (walks : List (List ℕ)) (count : ℕ) → IsSound m → AreWalks m.chains walks → count ≡ length walks → StandsUnder w.after name (county_text_with m walks)
+pub exported_whole : (w : World) (name : List ℕ) (m : TheMap) (walks : List (List ℕ)) (count : ℕ) → IsSound m → AreWalks m.chains walks → count ≡ ring_count m.chains walks → StandsUnder w.after name (county_text_with m walks)
     → IsExportedOf w name m (answer_of (Exported (counts_of m (Some count))))
 exported_whole w name m walks count sound are counted kept = record {
   rings = Some count;

@@ -9,13 +9,14 @@ use Rattle.tigertopo_files.specs.World.{World, Unmade}
 use Rattle.tl_cert_output.specs.Writing.{line_of}
 use Rattle.tl_check_sides.specs.Walks.{AreWalks}
 use Rattle.tl_check_verdict.specs.Sound.{IsSound}
+use Rattle.tigertopo_geojson.specs.Holes.{ring_count}
 use Rattle.tigertopo_geojson.specs.Rings.{county_text, county_text_with}
 use Rattle.tigertopo_outcome.specs.declared.outcome.Exported.{Exported}
 use Rattle.tigertopo_outcome.specs.declared.outcome.Outcome.TheVariants.{Exported as Export}
 use Rattle.tigertopo_outcome.specs.declared.said.Answer.{Answer}
 use Rattle.tigertopo_outcome.specs.declared.said.Said.{Said}
 use Rattle.tigertopo_outcome.specs.Answers.{answer_of, TellsRecordFault}
-use Rattle.tigertopo_outcome.specs.Outcomes.{exported_text}
+use Rattle.tigertopo_outcome.specs.Outcomes.{exported_text, exported_status}
 use Rattle.tigertopo_outcome.specs.Records.{IsMapOf}
 
 -- the numbers that are told of a map with so many rings
@@ -28,12 +29,12 @@ pub record IsPlain (m : TheMap) (rings : Option ℕ) (text : List ℕ) : Type 0 
   pub none : rings ≡ None
   pub is : text ≡ county_text m
 
--- the text of a sound map: the polygons' boundaries stand behind these, of walks that are the map's
+-- the text of a sound map: the polygons stand behind these, with rings of walks that are the map's, and so many rings
 pub record IsWhole (m : TheMap) (rings : Option ℕ) (text : List ℕ) : Type 0 where
   pub sound : IsSound m
   pub walks : List (List ℕ)
   pub are : AreWalks m.chains walks
-  pub some : rings ≡ Some (length walks)
+  pub some : rings ≡ Some (ring_count m.chains walks)
   pub is : text ≡ county_text_with m walks
 
 -- the text that is exported of a map with so many rings stands under the name
@@ -48,13 +49,13 @@ pub record IsExportedOf (w : World) (name : List ℕ) (m : TheMap) (answer : Ans
   pub exported : IsExported w name m rings
   pub is : answer ≡ answer_of (Export (counts_of m rings))
 
--- with the status 0 the line of the records' map, which was exported
+-- the line of the records' map, which was exported, and with the status 1 that it isn't sound
 pub record TellsExport (w : World) (layout : Layout) (known : Option (List ℕ)) (name : List ℕ) (status : ℕ) (text : List ℕ) : Type 0 where
   pub map : TheMap
   pub drawn : IsMapOf layout known map
   pub rings : Option ℕ
   pub exported : IsExported w name map rings
-  pub is : status ≡ 0
+  pub is : status ≡ exported_status rings
   pub line : text ≡ line_of (exported_text (length map.chains) (length map.polygons) rings)
 
 -- what `export` answers: that, or the fault of the records, and then no file was made

@@ -1,12 +1,13 @@
 //! Counties that are exported.
 
-ghost use Rattle.std.specs.Prelude.{◌≡◌, ◌<◌, ◌^◌, [], Some, length, map as map_list, string_bytes};
+ghost use Rattle.std.specs.Prelude.{◌≡◌, [], Some, map as map_list, string_bytes};
 ghost use Rattle.tl_record.specs.Layout.{layout_with};
 ghost use Rattle.tigertopo_files.specs.Files.{IsFree};
 ghost use Rattle.tigertopo_files.specs.World.{Does, world};
 ghost use Rattle.tigertopo_files.specs.declared.beginning.FileKind.TheVariants.{Collection};
 ghost use Rattle.tl_check_verdict.specs.Sound.{IsSound};
 ghost use Rattle.tl_check_sides.specs.Walks.{AreWalks};
+ghost use Rattle.tigertopo_geojson.specs.Holes.{AreShapes};
 ghost use Rattle.tigertopo_outcome.specs.Answers.{IsSaid};
 ghost use Rattle.tigertopo_files.specs.Reading.{text_under};
 ghost use Rattle.tigertopo_outcome.specs.Records.{StopsNever, StopsRecords};
@@ -15,7 +16,7 @@ ghost use Rattle.tigertopo_program.specs.Export.Exports.{ExportAnswers, IsExport
 use std::alloc::Global;
 use std::hash::RandomState;
 use tigertopo_files::{FileKind, FileSystem, make_file};
-use tigertopo_geojson::{CountyText, CountyTextWith};
+use tigertopo_geojson::{CountyText, CountyTextWith, Shapes};
 use tigertopo_outcome::outcome::{Exported, Outcome};
 use tigertopo_outcome::reading::over_records;
 use tigertopo_outcome::records::MapOf;
@@ -26,7 +27,7 @@ use tl_map_county::Map;
 use tl_record::Options;
 
 /// Exports the map of the records in the files of these names as GeoJSON, to a file of the name `made`, which it may take. The map need
-/// not be sound: of one that isn't there are no boundaries. The file takes its name when it is whole.
+/// not be sound: of one that isn't there are no polygons, and the answer says so. The file takes its name when it is whole.
 pub fn export<F: FileSystem>(
     files: &mut F,
     alloc: Global,
@@ -47,7 +48,7 @@ pub fn export<F: FileSystem>(
     }
 }
 
-// Exports a map, with its polygons' boundaries where it is sound.
+// Exports a map, with its polygons where it is sound.
 fn export_map<F: FileSystem>(
     files: &mut F,
     alloc: Global,
@@ -60,13 +61,13 @@ fn export_map<F: FileSystem>(
         Does w [] (Some (string_bytes made.now)) (IsExportedOf w (string_bytes made.now) map.now) StopsNever result }
 {
     match find_walks(alloc, map)? {
-        Some(walks) => export_sound(files, alloc, names, made, map, &walks),
+        Some(walks) => export_walked(files, alloc, names, made, map, &walks),
         None => export_faulty(files, alloc, names, made, map),
     }
 }
 
 // Exports a sound map, whose walks these are.
-fn export_sound<F: FileSystem>(
+fn export_walked<F: FileSystem>(
     files: &mut F,
     alloc: Global,
     names: &[String],
@@ -77,11 +78,33 @@ fn export_sound<F: FileSystem>(
     requires free { IsFree (F.under files.old) (string_bytes made.now) (map_list string_bytes names.now) Collection }
     requires sound { IsSound map.now }
     requires walks { AreWalks map.now.chains (map_list (λ w. w.items) walks.now) }
-    requires counted { length walks.now < 2 ^ 32 }
     ensures { let w = world F.under F.log F.knows files.old files.new in
         Does w [] (Some (string_bytes made.now)) (IsExportedOf w (string_bytes made.now) map.now) StopsNever result }
 {
-    let text = CountyTextWith { map, walks };
+    match Shapes::new(alloc, map, walks) {
+        Ok(shapes) => export_sound(files, alloc, names, made, map, walks, &shapes),
+        Err(_) => Err(Stop::Memory),
+    }
+}
+
+// Exports a sound map, whose polygons have these shapes.
+fn export_sound<F: FileSystem>(
+    files: &mut F,
+    alloc: Global,
+    names: &[String],
+    made: &String,
+    map: &Map,
+    walks: &[Vec<u32>],
+    shapes: &Shapes,
+) -> Result<Answer<Said>, Stop>
+    requires free { IsFree (F.under files.old) (string_bytes made.now) (map_list string_bytes names.now) Collection }
+    requires sound { IsSound map.now }
+    requires walks { AreWalks map.now.chains (map_list (λ w. w.items) walks.now) }
+    requires shapes { AreShapes map.now (map_list (λ w. w.items) walks.now) shapes.now }
+    ensures { let w = world F.under F.log F.knows files.old files.new in
+        Does w [] (Some (string_bytes made.now)) (IsExportedOf w (string_bytes made.now) map.now) StopsNever result }
+{
+    let text = CountyTextWith { map, walks, shapes };
     make_file(
         files,
         alloc,
@@ -90,7 +113,7 @@ fn export_sound<F: FileSystem>(
         FileKind::Collection,
         &text,
     )?;
-    Ok(Answer::of(Outcome::Exported(counts(map, Some(walks.len() as u32)))))
+    Ok(Answer::of(Outcome::Exported(counts(map, Some(shapes.rings())))))
 }
 
 // Exports a map that isn't sound.
@@ -119,7 +142,7 @@ fn export_faulty<F: FileSystem>(
 }
 
 // The numbers of a map that was exported, with so many rings.
-fn counts(map: &Map, rings: Option<u32>) -> Exported
+fn counts(map: &Map, rings: Option<u64>) -> Exported
     ensures { result ≡ counts_of map.now rings }
 {
     Exported {

@@ -1,8 +1,12 @@
+use Rattle.std.proofs.Common.{ap}
+use Rattle.tigertopo_geojson.specs.Features.{landmark_features}
 use Rattle.tigertopo_geojson.specs.Rings.{county_text_with}
-use Rattle.tl_cert_output.proofs.PrinterLemmas.{both, ends_text}
+use Rattle.tl_cert_output.proofs.PrinterLemmas.{both, as_text, ends_text}
 use Rattle.tigertopo_geojson.proofs.county.print_county_with.Goals as goal
 
 pub returns : goal.returns
 unfolding county_text_with
 returns g c =
-    ends_text c.finish.result c.new-printer.ensures (both (both c.print_front.ensures c.print_boundaries.ensures) c.add.ensures) c.finish.ensures.prints c.finish.ensures.stop
+    let m = c.args.map.now in
+    let landmarks = as_text c.print_landmarks.ensures (ap (λ k. landmark_features k m.polygons m.landmarks) c.shapes_of.ensures.count) in
+    ends_text c.finish.result c.new-printer.ensures (both (both (both c.print_front.ensures c.print_boundaries.ensures) landmarks) c.add.ensures) c.finish.ensures.prints c.finish.ensures.stop

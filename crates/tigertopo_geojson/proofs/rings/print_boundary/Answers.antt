@@ -9,8 +9,8 @@ use Rattle.tigertopo_geojson.proofs.rings.print_boundary.Goals as goal
 pub returns : goal.returns
 unfolding boundary_text
 returns g c =
-    let rings = c.print_rings.ensures _ (c.requires.groups.each c.args.number c.requires.number) in
+    let shape = c.print_shape.ensures _ (c.requires.outers.each c.args.number c.requires.number) in
     let area = c.requires.areas.each c.args.number c.requires.number in
     let back = to_z-of_z {z = doubled_area c.args.map.now.chains c.args.number} (fits_signed_from_abs w128 _ (c.requires.areas.small c.args.number c.requires.number)) in
-    as_text (both (both (both (both (both (both c.add.ensures rings) c.add-2.ensures) c.print_key.ensures) c.add-3.ensures) c.print_half.ensures) c.add-4.ensures)
+    as_text (both (both (both (both (both (both c.add.ensures shape) c.add-2.ensures) c.print_key_members.ensures) c.add-3.ensures) c.print_half.ensures) c.add-4.ensures)
     (rw (c.polygon.ensures, area, back) refl)

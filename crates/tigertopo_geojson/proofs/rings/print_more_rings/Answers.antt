@@ -9,10 +9,10 @@ use Rattle.tigertopo_geojson.proofs.rings.print_more_rings.Goals as goal
 pub loop-at-preserved : goal.loop-at-preserved
 loop-at-preserved g c ns goes =
     rw c.next-at.ensures.next
-    (one_on (λ n. codes "," ++ ring_text c.args.map.now.chains (list_at (map (λ w. w.items) c.args.walks.now) n)) c.args.groups.now.next c.loop-at.at ns (omega (arith, c.loop-at-test.true, c.items.ensures))
+    (one_on (λ n. codes "," ++ ring_text c.args.map.now.chains (list_at (map (λ w. w.items) c.args.walks.now) n)) c.args.holes.now.next c.loop-at.at ns (omega (arith, c.loop-at-test.true, c.items.ensures))
     (c.loop-at.invariant ns goes) (both c.add.ensures c.print_ring.ensures))
 
 pub returns : goal.returns
 returns g c ns goes =
-    at_end (λ n. codes "," ++ ring_text c.args.map.now.chains (list_at (map (λ w. w.items) c.args.walks.now) n)) c.args.groups.now.next c.loop-at.at ns (omega (arith, c.loop-at-test.false, c.items.ensures))
+    at_end (λ n. codes "," ++ ring_text c.args.map.now.chains (list_at (map (λ w. w.items) c.args.walks.now) n)) c.args.holes.now.next c.loop-at.at ns (omega (arith, c.loop-at-test.false, c.items.ensures))
     (c.loop-at.invariant ns goes)

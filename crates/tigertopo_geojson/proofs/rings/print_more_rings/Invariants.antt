@@ -8,9 +8,9 @@ use Rattle.tigertopo_geojson.proofs.GroupLemmas.{IsOnTheWay}
 use Rattle.tigertopo_geojson.proofs.rings.print_more_rings.Given as goal
 
 abbrev pub invariant-loop-at : goal.invariant-loop-at
-invariant-loop-at g l = (ns : List ℕ) → GoesThrough l.groups.next l.initial.at ns
-    → IsOnTheWay (λ n. codes "," ++ ring_text l.map.chains (list_at (map (λ w. w.items) l.walks) n)) l.groups.next l.at ns
+invariant-loop-at g l = (ns : List ℕ) → GoesThrough l.holes.next l.initial.at ns
+    → IsOnTheWay (λ n. codes "," ++ ring_text l.map.chains (list_at (map (λ w. w.items) l.walks) n)) l.holes.next l.at ns
     (Prints g.S.Sink.contents g.S.Sink.failure_count (l.initial.out, l.initial.printer) (l.out, l.printer))
 
 abbrev pub decreases-loop-at : goal.decreases-loop-at
-decreases-loop-at g l = length l.groups.next - l.at
+decreases-loop-at g l = length l.holes.next - l.at

@@ -6,5 +6,5 @@ use Rattle.tigertopo_geojson.proofs.strings.text_of_key.Goals as goal
 pub returns : goal.returns
 returns c =
     let k = c.args.key in
-    rw (c.push_str-2.ensures.bytes, c.format.ensures.text, c.push_str.ensures.bytes, c.push_char-5.ensures.bytes, c.push_char-4.ensures.bytes, c.push_char-3.ensures.bytes, c.push_char-2.ensures.bytes, c.push_char.ensures.bytes, c.new-text.ensures, c.shown_cenid.ensures)
+    rw (c.push_str-2.ensures.bytes, c.format.ensures.text, c.push_str.ensures.bytes, c.text_of_cenid-text.ensures.bytes)
     (key_parts (cenid_text k 0) (cenid_text k 1) (cenid_text k 2) (cenid_text k 3) (cenid_text k 4) (codes "/") (decimal k.polyid))

@@ -1,5 +1,4 @@
-use Rattle.std.proofs.Common.{Some, [], Ok, length, map, string_bytes, sym}
-use Rattle.std.proofs.lemmas.List.{length-map}
+use Rattle.std.proofs.Common.{Some, [], Ok, map, string_bytes, ◌∙◌}
 use Rattle.tigertopo_geojson.specs.Rings.{county_text_with}
 use Rattle.tigertopo_files.specs.Files.{StandsUnder}
 use Rattle.tigertopo_files.specs.World.{world}
@@ -27,4 +26,4 @@ returns g c =
     does_answer w [] (Some name) (λ (done : Unit {0}). StandsUnder w.after name text) StopsNever tt
     (does_make {T = Unit {0}} w.before w.after w.log w.logged w.knows name text StopsNever (Ok tt) made c.in_ok-make_file.ensures.logged)
     (IsExportedOf w name c.args.map.now) c.of.result
-    (rw (c.of.ensures, c.counts.ensures) (exported_whole w name c.args.map.now walks (length c.args.walks.now) c.requires.sound c.requires.walks (sym (length-map c.args.walks.now (λ w. w.items))) made.1))
+    (rw (c.of.ensures, c.counts.ensures) (exported_whole w name c.args.map.now walks c.rings.result c.requires.sound c.requires.walks (c.rings.ensures ∙ c.requires.shapes.counted) made.1))

@@ -1,0 +1,11 @@
+use Rattle.std.proofs.Common.{◌<◌, length, ◌++◌, ◌∷◌, [], ◌∙◌, sym, ap, arith, map}
+use Rattle.tigertopo_geojson.specs.Holes.{home}
+use Rattle.tigertopo_geojson.proofs.RingLemmas.{mapped_more, many_lists}
+use Rattle.tigertopo_geojson.proofs.holes.list_homes.Goals as goal
+
+pub loop-number-preserved : goal.loop-number-preserved
+loop-number-preserved c =
+    let lists = map (λ w. w.items) c.args.walks.now in
+    let n = c.loop-number.number in
+    let within : n < length lists = omega (arith, c.loop-number-test.true, many_lists c.args.walks.now) in
+    c.in_ok-push.ensures.items ∙ ap (λ l. l ++ c.home.result ∷ []) c.loop-number.invariant ∙ rw c.home.ensures (sym (mapped_more (home c.args.map.now.chains lists) lists n within))

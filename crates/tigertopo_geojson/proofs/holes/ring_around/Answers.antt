@@ -1,0 +1,16 @@
+use Rattle.std.proofs.Common.{ℕ, List, ◌<◌, ◌≤◌, length, map, arith}
+use Rattle.std.specs.Prelude.{slice_index}
+use Rattle.tl_check_sides.specs.Lists.{list_at}
+use Rattle.tigertopo_geojson.proofs.RingLemmas.{few_walks, many_lists}
+use Rattle.tigertopo_geojson.proofs.HoleLemmas.{around_none, around_one, around_more}
+use Rattle.tigertopo_geojson.proofs.holes.ring_around.Goals as goal
+
+pub overflow_cast-result : goal.overflow_cast-result
+overflow_cast-result c =
+    let few = few_walks c.args.map.now.chains (map (λ w. w.items) c.args.walks.now) c.requires.walks in
+    omega (arith, few, many_lists c.args.walks.now, c.darts-darts.ensures, c.darts-darts.type_inv, c.requires.beside, c.items.ensures, c.if-first-items.false)
+
+pub overflow_cast-result-2 : goal.overflow_cast-result-2
+overflow_cast-result-2 c =
+    let few = few_walks c.args.map.now.chains (map (λ w. w.items) c.args.walks.now) c.requires.walks in
+    omega (arith, few, many_lists c.args.walks.now, c.darts-darts.ensures, c.darts-darts.type_inv, c.innermost.ensures.within)
