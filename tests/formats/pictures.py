@@ -21,6 +21,7 @@ sys.path.append(str(Path(__file__).resolve().parents[1]))
 from folders import EXAMPLES, PROGRAM
 
 import skipped
+from layout import line_of
 
 COUNTY = EXAMPLES / "county"
 TOWN = EXAMPLES / "faults" / "town"
@@ -104,6 +105,21 @@ def faulty(program, folder):
     draw(program, folder, b"drawn chains=5 faults=0\n", "--faults", COUNTY)
 
 
+def many(program, folder):
+    """Twenty squares in a row, each with its polygon's point just west of it: of so many faults the places are found by the keys."""
+    lines = []
+    for k in range(20):
+        west, east, own = 20 * k + 10, 20 * k + 20, f"A0001/{k + 1}"
+        lines += [f"chain {k + 1} {west},10 {west},10", f"shape {k + 1} 1 {east},10 {east},20 {west},20",
+                  f"sides {k + 1} {own} -", f"point {own} {west - 1},15"]
+    records = folder / "squares"
+    records.write_bytes(b"".join(map(line_of, lines)))
+    picture = draw(program, folder, b"drawn chains=20 faults=20\n", "--faults", records)
+    # The squares reach from 10 to 400, and 390 are 9800 tenths of a pixel.
+    want("circles", picture.circles, [((20 * k - 1) * 9800 // 390, 5 * 9800 // 390) for k in range(20)])
+    want("titles", picture.titles, [f"G4 PointOutside polygon A0001/{k + 1}" for k in range(20)])
+
+
 def escaped(program, folder):
     """A key with bytes that would begin markup stands in a title as it is printed."""
     keyed = folder / "keyed"
@@ -177,7 +193,7 @@ def browser():
 
 def play_all(program=PROGRAM):
     """How many pictures are as they have to be, and how many aren't."""
-    parts = [whole, part, faulty, escaped, refused]
+    parts = [whole, part, faulty, many, escaped, refused]
     shows = browser()
     if shows:
         parts.append(lambda program, folder: shown(shows, program, folder))

@@ -1,10 +1,11 @@
 -- What is drawn of chains, told by what is still to come.
-use Rattle.std.proofs.Common.{◌≡◌, ℕ, suc, ◌+◌, ◌<◌, ◌≤◌, List, [], ◌∷◌, length, get_or, drop, Some, refl, sym, ap, subst, ◌∙◌, arith}
+use Rattle.std.proofs.Common.{◌≡◌, ℕ, suc, ◌+◌, ◌<◌, ◌≤◌, List, [], ◌∷◌, length, get_or, drop, Some, refl, sym, ap, ◌∙◌, arith}
 use Rattle.std.specs.Int.{from_bool}
 use Rattle.std.specs.Prelude.{Bool, true, false, if◌then◌else◌, cond, not, ◌==◌, nat_le, slice_get, fold, Option, None, is_some, MatchOption}
 use Rattle.std.proofs.lemmas.List.{drop_more, at_drop_more, at_drop_all}
 use Rattle.std.proofs.lemmas.Bool.Decides.{nat_tests}
 use Rattle.std.proofs.lemmas.Option.{slice_get_within, get_or_from_slice_get}
+use Rattle.std.specs.Map.{lookup}
 use Rattle.tl_geom.specs.declared.point.Point.{Point}
 use Rattle.tl_map_county.specs.declared.sides.Side.{Side}
 use Rattle.tl_map_county.specs.TheMap.{TheMap, MapChain, IsChain}
@@ -88,6 +89,27 @@ found_behind polygons n polygon key is same before =
     sym (ap (λ b. if b then Some polygon.point else point_of_key (drop (n + 1) polygons) key) same)
     ∙ sym (ap (λ ps. point_of_key ps key) (from_place polygons n polygon is)) ∙ before
 
+-- ---- points by their keys, from the last polygon to the first
+
+-- before the first, the index has nothing
+pub keyed_none : (polygons : List Polygon) (entries : List (PolyKey × Point)) (n : ℕ) → entries ≡ [] → length polygons ≤ n
+    → (key : PolyKey) → lookup (is_key key) entries ≡ point_of_key (drop n polygons) key
+keyed_none polygons entries n none past key = ap (lookup (is_key key)) none ∙ sym (at_drop_all (λ ps. point_of_key ps key) polygons n past)
+
+-- one more stands in the stead of those behind it with the same key
+pub keyed_more : (polygons : List Polygon) (old new : List (PolyKey × Point)) (n m : ℕ) (polygon : Polygon) → n + 1 ≡ m → slice_get polygons n ≡ Some polygon
+    → ((key : PolyKey) → lookup (is_key key) old ≡ point_of_key (drop m polygons) key)
+    → ((key : PolyKey) → lookup (is_key key) new ≡ cond (is_key polygon.key key) (Some polygon.point) (lookup (is_key key) old))
+    → (key : PolyKey) → lookup (is_key key) new ≡ point_of_key (drop n polygons) key
+keyed_more polygons old new n m polygon next is before more key =
+    more key ∙ ap (λ o. if is_key polygon.key key then Some polygon.point else o) (before key ∙ ap (λ k. point_of_key (drop k polygons) key) (sym next))
+    ∙ sym (ap (λ ps. point_of_key ps key) (from_place polygons n polygon is))
+
+-- all are there
+pub keyed_all : (polygons : List Polygon) (entries : List (PolyKey × Point)) (n : ℕ) → n ≤ 0
+    → ((key : PolyKey) → lookup (is_key key) entries ≡ point_of_key (drop n polygons) key) → (key : PolyKey) → lookup (is_key key) entries ≡ point_of_key polygons key
+keyed_all polygons entries n first before key = before key ∙ ap (λ k. point_of_key (drop k polygons) key) (let e : n ≡ 0 = omega arith in e)
+
 -- ---- one where it is so
 
 pub one_if : (b c : Bool) (n count : ℕ) → n ≡ from_bool b → b ≡ c → count + n ≡ count + cond c 1 0
@@ -115,16 +137,28 @@ fits n most few = grind (arith, nat_tests)
 fits_not : (n most : ℕ) → most < n → nat_le n most ≡ false
 fits_not n most many = grind (arith, nat_tests)
 
-pub fitting_here : (f : Frame) (chains : List MapChain) (xs : List ℕ) (i count whole : ℕ) → i < length xs → count ≡ stroke_count f (get_or xs i 0) chains → count ≤ 300000
-    → first_fitting f chains (drop i xs) ≡ whole → get_or xs i 0 ≡ whole
-fitting_here f chains xs i count whole within is few before =
-    sym (ap (λ b. if b then get_or xs i 0 else first_fitting f chains (drop (i + 1) xs)) (fits _ 300000 (subst (λ n. n ≤ 300000) is few)))
+-- so few are counted of all
+pub counted_few : (count most whole : ℕ) → count ≤ most → count ≡ whole → true ≡ nat_le whole most
+counted_few count most whole few is = sym (fits whole most (omega (arith, is)))
+
+counted_more : (count : ℕ) (ds : List Drawing) → count ≤ fold (λ a (d : Drawing). a + length d.strokes) count ds
+counted_more count [] = omega arith
+counted_more count (d ∷ ds) = omega (arith, counted_more (count + length d.strokes) ds)
+
+-- more are counted of some
+pub counted_many : (count most whole : ℕ) (ds : List Drawing) → most < count → fold (λ a (d : Drawing). a + length d.strokes) count ds ≡ whole → false ≡ nat_le whole most
+counted_many count most whole ds many is = sym (fits_not whole most (omega (arith, counted_more count ds, is)))
+
+pub fitting_here : (f : Frame) (chains : List MapChain) (xs : List ℕ) (i : ℕ) (few : Bool) (whole : ℕ) → i < length xs → few ≡ nat_le (stroke_count f (get_or xs i 0) chains) 300000
+    → few ≡ true → first_fitting f chains (drop i xs) ≡ whole → get_or xs i 0 ≡ whole
+fitting_here f chains xs i few whole within is here before =
+    sym (ap (λ b. if b then get_or xs i 0 else first_fitting f chains (drop (i + 1) xs)) (sym is ∙ here))
     ∙ sym (at_drop_more (first_fitting f chains) xs i 0 within) ∙ before
 
-pub fitting_behind : (f : Frame) (chains : List MapChain) (xs : List ℕ) (i count whole : ℕ) → i < length xs → count ≡ stroke_count f (get_or xs i 0) chains → 300000 < count
-    → first_fitting f chains (drop i xs) ≡ whole → first_fitting f chains (drop (i + 1) xs) ≡ whole
-fitting_behind f chains xs i count whole within is many before =
-    sym (ap (λ b. if b then get_or xs i 0 else first_fitting f chains (drop (i + 1) xs)) (fits_not _ 300000 (subst (λ n. 300000 < n) is many)))
+pub fitting_behind : (f : Frame) (chains : List MapChain) (xs : List ℕ) (i : ℕ) (few : Bool) (whole : ℕ) → i < length xs → few ≡ nat_le (stroke_count f (get_or xs i 0) chains) 300000
+    → few ≡ false → first_fitting f chains (drop i xs) ≡ whole → first_fitting f chains (drop (i + 1) xs) ≡ whole
+fitting_behind f chains xs i few whole within is here before =
+    sym (ap (λ b. if b then get_or xs i 0 else first_fitting f chains (drop (i + 1) xs)) (sym is ∙ here))
     ∙ sym (at_drop_more (first_fitting f chains) xs i 0 within) ∙ before
 
 pub fitting_none : (f : Frame) (chains : List MapChain) (xs : List ℕ) (i whole : ℕ) → length xs ≤ i → first_fitting f chains (drop i xs) ≡ whole → 511 ≡ whole

@@ -1,9 +1,11 @@
 -- How a map is drawn: how much of it is left out, and what is marked.
-use Rattle.std.specs.Prelude.{ℕ, ◌==◌, nat_le, Bool, false, ◌&&◌, if◌then◌else◌, List, [], ◌∷◌, length, sum_by, count_by, ℤ, pos, negsuc, int_le, Option, Some, None}
+use Rattle.std.specs.Prelude.{◌≡◌, ℕ, ◌==◌, nat_le, Bool, false, ◌&&◌, if◌then◌else◌, List, [], ◌∷◌, length, sum_by, count_by, ℤ, pos, negsuc, int_le, Option, Some, None, IfSome}
 use Rattle.std.specs.Int.{int_div_euclid}
+use Rattle.indexmap.specs.IndexMap.{IndexMap, get}
 use Rattle.std.specs.Option.{option_map_or}
 use Rattle.std.specs.Prelude.{nat_eq}
 use Rattle.std.specs.Cmp.Lexicographic.{pointwise}
+use Rattle.std.specs.declared.random_state.RandomState.{RandomState}
 use Rattle.tl_geom.specs.declared.point.Point.{Point}
 use Rattle.tl_geom.specs.declared.rational.Rational.{Rational}
 use Rattle.tl_record_key.specs.declared.key.PolyKey.{PolyKey}
@@ -16,6 +18,7 @@ use Rattle.tl_check_faces.specs.declared.fault.FaceFault.TheVariants.{Facing, Ou
 use Rattle.tl_check_verdict.specs.declared.fault.MapFault.{MapFault}
 use Rattle.tl_check_verdict.specs.declared.fault.MapFault.TheVariants.{Records, Meet, Side, PolygonPoint, Cell, Face}
 use Rattle.tigertopo_svg.specs.declared.frame.Frame.{Frame}
+use Rattle.tigertopo_svg.specs.declared.keyed.KeyedPoints.{KeyedPoints}
 use Rattle.tigertopo_svg.specs.declared.picture.Picture.{Picture}
 use Rattle.tigertopo_svg.specs.Frames.{spot_of, is_seen}
 use Rattle.tigertopo_svg.specs.Strokes.{drawings, Drawing, is_shown}
@@ -94,6 +97,14 @@ is_key a b = pointwise nat_eq a.cenid b.cenid && (a.polyid == b.polyid)
 abbrev pub point_of_key : List Polygon → PolyKey → Option Point
 point_of_key [] key = None
 point_of_key (polygon ∷ rest) key = if is_key polygon.key key then Some polygon.point else point_of_key rest key
+
+-- of each key that has a polygon the index gives the point of the first that has it, and of no other key one
+abbrev pub IsIndexOf : List Polygon → IndexMap PolyKey Point RandomState → Type 0
+IsIndexOf polygons index = (key : PolyKey) → get is_key index key ≡ point_of_key polygons key
+
+-- where there is an index of polygons' points, it is one of these polygons
+abbrev pub ArePointsOf : List Polygon → KeyedPoints → Type 0
+ArePointsOf polygons points = IfSome points.index (IsIndexOf polygons)
 
 -- the polygon whose point lies wrong
 abbrev pub polygon_of : Misplaced → PolyKey

@@ -2,11 +2,12 @@
 //!
 //! [`picture_of`] says how a map is drawn by a [`Frame`], which is fitted to the map or set about a point, and
 //! [`print_picture`] writes the picture with the faults that it's given: exactly which bytes, and an error comes exactly where
-//! a write failed. Nothing is allocated.
+//! a write failed. Nothing is allocated but [`KeyedPoints`], by which faults of many polygons' points find their places.
 #![tactic(auto)]
 
 mod chains;
 mod frame;
+mod keyed;
 mod marks;
 mod picture;
 mod places;
@@ -15,5 +16,6 @@ mod text;
 mod walk;
 
 pub use frame::{Frame, Spot};
+pub use keyed::KeyedPoints;
 pub use picture::{Picture, chain_count, fault_count, picture_of};
 pub use print::print_picture;

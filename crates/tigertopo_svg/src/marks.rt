@@ -5,11 +5,12 @@ ghost use Rattle.tl_cert_output.specs.Writing.{line_of};
 ghost use Rattle.tl_cert_output.specs.Printing.{Prints};
 ghost use Rattle.tigertopo_svg.specs.Frames.{spot_of};
 ghost use Rattle.tigertopo_svg.specs.Strokes.{strokes_left};
-ghost use Rattle.tigertopo_svg.specs.Pictures.{drawn};
+ghost use Rattle.tigertopo_svg.specs.Pictures.{drawn, ArePointsOf};
 ghost use Rattle.tigertopo_svg.specs.Texts.{dot_text, ends_text, polygon_text, escaped_byte, circle_text, fault_text, faults_part};
 
 use crate::chains::walk_along;
 use crate::frame::Frame;
+use crate::keyed::KeyedPoints;
 use crate::picture::Picture;
 use crate::places::{is_inside, place_of};
 use crate::text::{circle_head, dot_text};
@@ -73,15 +74,17 @@ pub fn print_points<S: Sink>(map: &Map, frame: Frame, printer: &mut Printer, out
 pub fn print_faults<S: Sink>(
     map: &Map,
     frame: Frame,
+    points: &KeyedPoints,
     faults: &[MapFault],
     printer: &mut Printer,
     out: &mut S,
 )
+    requires { ArePointsOf map.now.polygons points.now }
     ensures { Prints S.contents S.failure_count (out.old, printer.old) (out.new, printer.new)
         (faults_part frame map.now faults.now) }
 {
     for fault in faults {
-        print_fault(map, frame, fault, printer, out);
+        print_fault(map, frame, points, fault, printer, out);
     }
 }
 
@@ -89,14 +92,16 @@ pub fn print_faults<S: Sink>(
 fn print_fault<S: Sink>(
     map: &Map,
     frame: Frame,
+    points: &KeyedPoints,
     fault: &MapFault,
     printer: &mut Printer,
     out: &mut S,
 )
+    requires { ArePointsOf map.now.polygons points.now }
     ensures { Prints S.contents S.failure_count (out.old, printer.old) (out.new, printer.new)
         (fault_text frame map.now fault.now) }
 {
-    match place_of(map, fault) {
+    match place_of(map, points, fault) {
         Some(place) if is_inside(frame, place) => print_circle(frame, place, fault, printer, out),
         _ => {}
     }

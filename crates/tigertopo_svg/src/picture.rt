@@ -1,10 +1,11 @@
 //! How a map is drawn.
 
-ghost use Rattle.std.specs.Prelude.{◌≡◌, length};
-ghost use Rattle.tigertopo_svg.specs.Pictures.{stroke_count, first_fitting, point_count, is_marked, picture_of, chain_count, fault_count};
+ghost use Rattle.std.specs.Prelude.{◌≡◌, nat_le};
+ghost use Rattle.tigertopo_svg.specs.Pictures.{stroke_count, first_fitting, point_count, is_marked, picture_of, chain_count, fault_count, ArePointsOf};
 
 use crate::chains::{count_strokes, walk_along};
 use crate::frame::Frame;
+use crate::keyed::KeyedPoints;
 use crate::places::{is_fault_inside, is_inside};
 use tl_check_verdict::MapFault;
 use tl_map_county::Map;
@@ -43,9 +44,8 @@ pub fn picture_of(frame: Frame, map: &Map) -> Picture
 fn is_marked(frame: Frame, skipped: u32, map: &Map) -> bool
     ensures { result ≡ is_marked frame skipped map.now }
 {
-    let few_strokes = stroke_count(frame, skipped, map) <= MOST_MARKED;
-    let few_points = u128::from(point_count(frame, map)) <= MOST_MARKED;
-    few_strokes && few_points
+    are_strokes_few(frame, skipped, map, MOST_MARKED)
+        && u128::from(point_count(frame, map)) <= MOST_MARKED
 }
 
 // The first of these numbers of chains left out by which there are few enough strokes.
@@ -53,23 +53,26 @@ fn first_fitting(frame: Frame, map: &Map, skips: &[u32]) -> u32
     ensures { result ≡ first_fitting frame map.now.chains skips.now }
 {
     for skipped in skips {
-        if stroke_count(frame, *skipped, map) <= MOST_STROKES {
+        if are_strokes_few(frame, *skipped, map, MOST_STROKES) {
             return *skipped;
         }
     }
     511
 }
 
-// How many strokes are drawn of the map's chains.
-fn stroke_count(frame: Frame, skipped: u32, map: &Map) -> u128
-    ensures { result ≡ stroke_count frame skipped map.now.chains }
+// Whether no more strokes than so many are drawn of the map's chains. They aren't counted further.
+fn are_strokes_few(frame: Frame, skipped: u32, map: &Map, most: u128) -> bool
+    ensures { result ≡ nat_le (stroke_count frame skipped map.now.chains) most }
 {
     let mut count = 0;
     for number in 0..map.chains() {
         let mut walk = walk_along(frame, skipped, number, map.chain(number).points);
         count += u128::from(count_strokes(&mut walk));
+        if count > most {
+            return false;
+        }
     }
-    count
+    true
 }
 
 // How many polygons' points lie in the picture.
@@ -97,12 +100,13 @@ pub fn chain_count(picture: Picture, map: &Map) -> u32
 }
 
 /// How many of these faults the picture shows.
-pub fn fault_count(frame: Frame, map: &Map, faults: &[MapFault]) -> u64
+pub fn fault_count(frame: Frame, map: &Map, points: &KeyedPoints, faults: &[MapFault]) -> u64
+    requires { ArePointsOf map.now.polygons points.now }
     ensures { result ≡ fault_count frame map.now faults.now }
 {
     let mut count = 0;
     for fault in faults {
-        count += u64::from(is_fault_inside(frame, map, fault));
+        count += u64::from(is_fault_inside(frame, map, points, fault));
     }
     count
 }

@@ -2,9 +2,10 @@
 
 ghost use Rattle.std.specs.Prelude.{◌≡◌};
 ghost use Rattle.tl_map_county.specs.Darts.{dart_start};
-ghost use Rattle.tigertopo_svg.specs.Pictures.{is_inside, coordinate, floor_of, is_key, point_of_key, polygon_of, place_of, is_fault_inside};
+ghost use Rattle.tigertopo_svg.specs.Pictures.{is_inside, coordinate, floor_of, polygon_of, place_of, is_fault_inside, ArePointsOf};
 
 use crate::frame::Frame;
+use crate::keyed::KeyedPoints;
 use tl_check_faces::FaceFault;
 use tl_check_inside::Misplaced;
 use tl_check_verdict::MapFault;
@@ -21,24 +22,26 @@ pub fn is_inside(frame: Frame, p: Point) -> bool
 }
 
 /// Whether a fault lies in the picture.
-pub fn is_fault_inside(frame: Frame, map: &Map, fault: &MapFault) -> bool
+pub fn is_fault_inside(frame: Frame, map: &Map, points: &KeyedPoints, fault: &MapFault) -> bool
+    requires { ArePointsOf map.now.polygons points.now }
     ensures { result ≡ is_fault_inside frame map.now fault.now }
 {
-    match place_of(map, fault) {
+    match place_of(map, points, fault) {
         Some(place) => is_inside(frame, place),
         None => false,
     }
 }
 
 /// Where a fault of a map lies.
-pub fn place_of(map: &Map, fault: &MapFault) -> Option<Point>
+pub fn place_of(map: &Map, points: &KeyedPoints, fault: &MapFault) -> Option<Point>
+    requires { ArePointsOf map.now.polygons points.now }
     ensures { result ≡ place_of map.now fault.now }
 {
     match fault {
         MapFault::Records(_) => None,
         MapFault::Meet(meet) => floor_of(meet.at),
         MapFault::Side { node, .. } => Some(*node),
-        MapFault::PolygonPoint(misplaced) => point_of_key(map, polygon_of(*misplaced)),
+        MapFault::PolygonPoint(misplaced) => points.find(map, polygon_of(*misplaced)),
         MapFault::Cell(odds) => start_of(map, odds.first),
         MapFault::Face(FaceFault::Facing { first, .. }) => floor_of(first.at),
         MapFault::Face(FaceFault::Outward { face, .. }) => floor_of(face.at),
@@ -85,17 +88,4 @@ fn polygon_of(misplaced: Misplaced) -> PolyKey
         | Misplaced::Outside { polygon }
         | Misplaced::InOther { polygon, .. } => polygon,
     }
-}
-
-// The point of the first polygon that has the key.
-fn point_of_key(map: &Map, key: PolyKey) -> Option<Point>
-    ensures { result ≡ point_of_key map.now.polygons key }
-{
-    for number in 0..map.polygons() {
-        let polygon = map.polygon(number);
-        if polygon.key == key {
-            return Some(polygon.point);
-        }
-    }
-    None
 }

@@ -4,6 +4,7 @@ ghost use Rattle.std.specs.Prelude.{◌≡◌, [], IfOk, length, true};
 ghost use Rattle.tl_map_county.specs.Segments.{segments_before};
 ghost use Rattle.tl_check_planar.specs.Planar.{IsPlanar};
 ghost use Rattle.tl_check_planar.specs.Rectangles.{segment_rect};
+ghost use Rattle.tl_check_meets.specs.Meets.{AreAllMeets};
 ghost use Rattle.tl_check_inside.specs.Placed.{ArePlaced};
 ghost use Rattle.tl_check_planar.specs.ByHeight.Heights.{widest};
 ghost use Rattle.tl_check_sweep.specs.Gaps.{AreAllOddGaps};
@@ -20,15 +21,18 @@ use std::alloc::Global;
 use tl_check_faces::OddGap;
 use tl_check_meets::all_meets;
 use tl_check_meets::laws::planar_where_no_meet_is_listed;
-use tl_check_planar::Segments;
+use tl_check_planar::{Meet, Segments};
 use tl_check_sweep::face_search::all_face_faults;
 use tl_check_sweep::{Gaps, PlanarPart, SweepReport, Swept, planar_part, sweep};
 use tl_check_verdict::Report;
 use tl_list_text::Listing;
 use tl_map_county::Map;
-use tl_tree::FlatTree;
+use tl_tree::{FlatTree, PlainList};
 use tl_tree_index::{BoxIndex, Memory, TreeStop};
 use tl_tree_pack::pack;
+
+/// So few segments are held against all others, each by itself: that is sooner done than a tree is made.
+const FEW: u32 = 16;
 
 /// All faults of a map, or its report where it is sound: by a sweep, and where that tells that segments meet, by a
 /// search for all their meets. Of polygons' points those are looked at that the sweep doesn't know to be placed. Where
@@ -124,51 +128,66 @@ fn list_swept(alloc: Global, map: &Map, swept: Swept, suspects: Vec<u32>) -> Res
     match swept {
         Swept::Placed => list_planar(alloc, map, Vec::new(alloc)),
         Swept::Planar => list_planar(alloc, map, suspects),
-        Swept::Meet(_) => list_by_search(alloc, map, suspects),
+        Swept::Meet(meet) => list_by_search(alloc, map, meet, suspects),
     }
 }
 
-/// All faults of a map, or its report where it is sound, by a tree over its segments. Chains are taken out until the others are planar, so
-/// that only those that are have to be searched for. It is kept out of where it is called, so that calls of it can be counted.
+/// All faults of a map, or its report where it is sound, from two segments on that a sweep says to meet. Chains are taken out until the others
+/// are planar, so that only those that are have to be searched for. It is kept out of where it is called, so that calls of it can be
+/// counted.
 #[inline(never)]
-fn list_by_search(alloc: Global, map: &Map, suspects: Vec<u32>) -> Result<Listing, Memory>
+fn list_by_search(
+    alloc: Global,
+    map: &Map,
+    meet: Meet,
+    suspects: Vec<u32>,
+) -> Result<Listing, Memory>
     requires { AreSuspects map.now suspects.items }
     ensures { IfOk result (IsListingOfMap map.now) }
 {
-    let Ok(part) = planar_part(alloc, map) else {
+    let Ok(part) = planar_part(alloc, map, meet) else {
         return Err(Memory);
     };
+    let meets = meets_beside(alloc, map, &part)?;
+    // So the chains are planar where there is none.
+    planar_where_no_meet_is_listed();
+    if meets.is_empty() {
+        list_planar(alloc, map, suspects)
+    } else {
+        list_met(alloc, map, &part, meets)
+    }
+}
+
+/// All meets of a map of which this part is planar. Where few segments were taken out each is held against all, and else a tree is made.
+fn meets_beside(alloc: Global, map: &Map, part: &PlanarPart) -> Result<Vec<Meet>, Memory>
+    requires { IsPlanarPart map.now part.now }
+    ensures { IfOk result (λ meets. AreAllMeets map.now.chains meets.items) }
+{
+    if map.segments().saturating_sub(part.map.segments()) <= FEW {
+        return meets_by(alloc, &PlainList::new(map.segments()), map, part);
+    }
     let Ok(nodes) = pack(alloc, &Segments::new(map)) else {
         return Err(Memory);
     };
     match FlatTree::from_nodes(alloc, &nodes) {
-        Ok(tree) => list_by(alloc, &tree, map, &part, suspects),
+        Ok(tree) => meets_by(alloc, &tree, map, part),
         Err(TreeStop::Memory) => Err(Memory),
         // A tree that is packed is never so deep.
         Err(TreeStop::TooDeep) => unreachable!(),
     }
 }
 
-/// The same by an index that fits the map's segments, and by the planar part of the map.
-fn list_by<X: BoxIndex>(
+/// The same by an index that fits the map's segments.
+fn meets_by<X: BoxIndex>(
     alloc: Global,
     index: &X,
     map: &Map,
     part: &PlanarPart,
-    suspects: Vec<u32>,
-) -> Result<Listing, Memory>
+) -> Result<Vec<Meet>, Memory>
     requires fits { X.fits index.now (segments_before map.now.chains (length map.now.chains))
         (segment_rect map.now.chains) }
     requires part { IsPlanarPart map.now part.now }
-    requires suspects { AreSuspects map.now suspects.items }
-    ensures { IfOk result (IsListingOfMap map.now) }
+    ensures { IfOk result (λ meets. AreAllMeets map.now.chains meets.items) }
 {
-    let meets = all_meets(alloc, index, map, &part.marks)?;
-    // So the chains are planar where there is none.
-    planar_where_no_meet_is_listed();
-    if meets.is_empty() {
-        list_planar(alloc, map, suspects)
-    } else {
-        list_met(alloc, index, map, part, meets, suspects)
-    }
+    all_meets(alloc, index, map, &part.marks)
 }

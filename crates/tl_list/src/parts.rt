@@ -9,12 +9,18 @@ ghost use Rattle.tl_list.specs.Keeping.OfMap.{AddsAgreement, AddsCells, AddsPoin
 
 use crate::tell::{push_cells, push_points, push_sides};
 use std::alloc::Global;
+use tl_check_planar::Segments;
 use tl_check_sweep::PlanarPart;
 use tl_check_verdict::MapFault;
 use tl_list_map::nodes::{all_cells_at_odds, all_disagreements};
 use tl_list_map::points::all_misplaced_among;
 use tl_map_county::Map;
-use tl_tree_index::{BoxIndex, Memory};
+use tl_tree::{FlatTree, PlainList};
+use tl_tree_index::{BoxIndex, Memory, TreeStop};
+use tl_tree_pack::pack;
+
+/// So few points are held against all segments, each by itself: that is sooner done than a tree is made.
+const FEW: usize = 16;
 
 /// Appends sides that disagree, and behind them zero-cell ids that are at odds. Gives whether sides disagree.
 pub fn push_disagreements(
@@ -40,9 +46,54 @@ pub fn push_all_cells(alloc: Global, map: &Map, faults: &mut Vec<MapFault>) -> R
     push_cells(faults, &cells)
 }
 
-/// Appends what is wrong with where polygons' points lie, by an index that fits the map's segments and, where chains meet, a part of
-/// the map that is planar, where the points of all polygons but these are known to lie where they have to.
-pub fn push_misplaced<X: BoxIndex>(
+/// Appends what is wrong with where polygons' points lie, by a part of the map that is planar where chains meet, where the points of all
+/// polygons but these are known to lie where they have to. Where there is no such polygon nothing is done.
+pub fn push_suspects(
+    alloc: Global,
+    map: &Map,
+    part: Option<&PlanarPart>,
+    suspects: Vec<u32>,
+    faults: &mut Vec<MapFault>,
+) -> Result<(), Memory>
+    requires part { IfSome part (λ part. IsPlanarPart map.now part.now) }
+    requires suspects { AreSuspects map.now suspects.items }
+    ensures { OnOk result (AddsPoints map.now false faults.old.items faults.new.items) }
+{
+    if suspects.is_empty() {
+        return Ok(());
+    }
+    if suspects.len() <= FEW {
+        let list = PlainList::new(map.segments());
+        return push_misplaced(alloc, &list, map, part, suspects, faults);
+    }
+    push_by_new_tree(alloc, map, part, suspects, faults)
+}
+
+/// The same by a tree that is made for it.
+fn push_by_new_tree(
+    alloc: Global,
+    map: &Map,
+    part: Option<&PlanarPart>,
+    suspects: Vec<u32>,
+    faults: &mut Vec<MapFault>,
+) -> Result<(), Memory>
+    requires part { IfSome part (λ part. IsPlanarPart map.now part.now) }
+    requires suspects { AreSuspects map.now suspects.items }
+    ensures { OnOk result (AddsPoints map.now false faults.old.items faults.new.items) }
+{
+    let Ok(nodes) = pack(alloc, &Segments::new(map)) else {
+        return Err(Memory);
+    };
+    match FlatTree::from_nodes(alloc, &nodes) {
+        Ok(tree) => push_misplaced(alloc, &tree, map, part, suspects, faults),
+        Err(TreeStop::Memory) => Err(Memory),
+        // A tree that is packed is never so deep.
+        Err(TreeStop::TooDeep) => unreachable!(),
+    }
+}
+
+/// The same by an index that fits the map's segments.
+fn push_misplaced<X: BoxIndex>(
     alloc: Global,
     index: &X,
     map: &Map,

@@ -5,18 +5,15 @@ ghost use Rattle.tl_check_planar.specs.Planar.{IsPlanar};
 ghost use Rattle.tl_check_inside.specs.Suspects.{AreSuspects};
 ghost use Rattle.tl_list.specs.Keeping.OfMap.{IsListingOfMap, IsFaulty, HasRings, AddsPoints};
 
-use crate::parts::{push_all_cells, push_disagreements, push_misplaced};
+use crate::parts::{push_all_cells, push_disagreements, push_suspects};
 use std::alloc::Global;
 use tl_build_propose::{find_sides_at_odds, propose_walks};
-use tl_check_planar::Segments;
 use tl_check_verdict::{MapFault, report};
 use tl_list_map::nodes::laws::cells_agree_where_no_pair_is_listed;
 use tl_list_map::points::laws::placed_where_no_fault_is_listed;
 use tl_list_text::Listing;
 use tl_map_county::Map;
-use tl_tree::FlatTree;
-use tl_tree_index::{Memory, TreeStop};
-use tl_tree_pack::pack;
+use tl_tree_index::Memory;
 
 /// All faults of a map whose chains are planar, or its report where it is sound, where the points of all polygons but the
 /// suspects are known to lie where they have to. An error says that memory was refused.
@@ -77,7 +74,7 @@ fn list_agreeing(
 {
     let mut faults = Vec::new(alloc);
     push_all_cells(alloc, map, &mut faults)?;
-    push_suspects(alloc, map, suspects, &mut faults)?;
+    push_suspects(alloc, map, None, suspects, &mut faults)?;
     // So the map is sound where nothing is told.
     cells_agree_where_no_pair_is_listed();
     placed_where_no_fault_is_listed();
@@ -104,42 +101,5 @@ fn push_unless_left(
     if left {
         return Ok(());
     }
-    push_suspects(alloc, map, suspects, faults)
-}
-
-/// Appends what is wrong with where polygons' points lie.
-fn push_suspects(
-    alloc: Global,
-    map: &Map,
-    suspects: Vec<u32>,
-    faults: &mut Vec<MapFault>,
-) -> Result<(), Memory>
-    requires { AreSuspects map.now suspects.items }
-    ensures { OnOk result (AddsPoints map.now false faults.old.items faults.new.items) }
-{
-    if suspects.is_empty() {
-        return Ok(());
-    }
-    push_by_new_tree(alloc, map, suspects, faults)
-}
-
-/// Appends what is wrong with where polygons' points lie, by a tree that is made for it.
-fn push_by_new_tree(
-    alloc: Global,
-    map: &Map,
-    suspects: Vec<u32>,
-    faults: &mut Vec<MapFault>,
-) -> Result<(), Memory>
-    requires { AreSuspects map.now suspects.items }
-    ensures { OnOk result (AddsPoints map.now false faults.old.items faults.new.items) }
-{
-    let Ok(nodes) = pack(alloc, &Segments::new(map)) else {
-        return Err(Memory);
-    };
-    match FlatTree::from_nodes(alloc, &nodes) {
-        Ok(tree) => push_misplaced(alloc, &tree, map, None, suspects, faults),
-        Err(TreeStop::Memory) => Err(Memory),
-        // A tree that is packed is never so deep.
-        Err(TreeStop::TooDeep) => unreachable!(),
-    }
+    push_suspects(alloc, map, None, suspects, faults)
 }

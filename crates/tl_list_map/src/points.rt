@@ -5,6 +5,7 @@
 //! (`specs/AllMisplaced`).
 
 mod among;
+mod beside;
 pub mod laws;
 mod listed;
 mod misplaced;
@@ -14,4 +15,5 @@ mod room;
 mod telling;
 
 pub use among::all_misplaced_among;
+pub use beside::suspects_by_part;
 pub use misplaced::all_misplaced;

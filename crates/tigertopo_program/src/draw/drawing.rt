@@ -8,6 +8,7 @@ ghost use Rattle.tigertopo_files.specs.declared.beginning.FileKind.TheVariants.{
 ghost use Rattle.tigertopo_outcome.specs.Answers.{IsSaid};
 ghost use Rattle.tigertopo_files.specs.Reading.{text_under};
 ghost use Rattle.tigertopo_outcome.specs.Records.{StopsNever, StopsRecords};
+ghost use Rattle.tigertopo_svg.specs.Pictures.{ArePointsOf};
 ghost use Rattle.tigertopo_svg.specs.Texts.{picture_text};
 ghost use Rattle.tigertopo_program.specs.Draw.Drawing.{DrawAnswers, IsDrawnOf, drawn_of, picture_by};
 
@@ -18,7 +19,9 @@ use tigertopo_files::{FileKind, FileSystem, make_file};
 use tigertopo_outcome::outcome::{Drawn, Outcome};
 use tigertopo_outcome::reading::over_records;
 use tigertopo_outcome::said::{Answer, Said};
-use tigertopo_svg::{Frame, Picture, chain_count, fault_count, picture_of, print_picture};
+use tigertopo_svg::{
+    Frame, KeyedPoints, Picture, chain_count, fault_count, picture_of, print_picture,
+};
 use tigertopo_words::View;
 use tl_cert_output::{Stop, Text};
 use tl_check_verdict::MapFault;
@@ -30,18 +33,17 @@ use tl_record::{Options, Sink};
 struct PictureText<'a> {
     map: &'a Map,
     picture: Picture,
+    points: &'a KeyedPoints,
     faults: &'a [MapFault],
 }
 
 impl Text for PictureText<'_> {
-    ghost use Rattle.std.specs.Prelude.{⊤};
-
     ghost text = { λ text. picture_text text.map.now text.picture text.faults.now };
 
-    ghost is_ready = { λ text. ⊤ };
+    ghost is_ready = { λ text. ArePointsOf text.map.now.polygons text.points.now };
 
     fn print<S: Sink>(&self, _alloc: Global, out: &mut S) -> Result<(), Stop> {
-        print_picture(self.map, self.picture, self.faults, out)
+        print_picture(self.map, self.picture, self.points, self.faults, out)
     }
 }
 
@@ -69,7 +71,16 @@ pub fn draw<F: FileSystem>(
         shows_faults,
     };
     match over_records(files, alloc, hasher, names, &asked)? {
-        Ok(subject) => draw_subject(files, alloc, names, made, view, shows_faults, &subject),
+        Ok(subject) => draw_subject(
+            files,
+            alloc,
+            hasher,
+            names,
+            made,
+            view,
+            shows_faults,
+            &subject,
+        ),
         Err(fault) => Ok(Answer::of(Outcome::fault(fault))),
     }
 }
@@ -78,6 +89,7 @@ pub fn draw<F: FileSystem>(
 fn draw_subject<F: FileSystem>(
     files: &mut F,
     alloc: Global,
+    hasher: RandomState,
     names: &[String],
     made: &String,
     view: Option<View>,
@@ -89,14 +101,16 @@ fn draw_subject<F: FileSystem>(
         Does w [] (Some (string_bytes made.now))
         (IsDrawnOf w (record { name = string_bytes made.now; view = view; shows = shows_faults }) subject.now) StopsNever result }
 {
+    let points = KeyedPoints::new(alloc, hasher, &subject.map, subject.faults.as_slice())?;
     let picture = picture_by(view, &subject.map);
     let text = PictureText {
         map: &subject.map,
         picture,
+        points: &points,
         faults: subject.faults.as_slice(),
     };
     make_file(files, alloc, made.as_str(), names, FileKind::Picture, &text)?;
-    Ok(Answer::of(Outcome::Drawn(drawn_of(picture, shows_faults, subject))))
+    Ok(Answer::of(Outcome::Drawn(drawn_of(picture, &points, shows_faults, subject))))
 }
 
 // How a map is drawn: about a place, or fitted to it.
@@ -111,12 +125,18 @@ fn picture_by(view: Option<View>, map: &Map) -> Picture
 }
 
 // How much a picture shows.
-fn drawn_of(picture: Picture, shows_faults: bool, subject: &Subject) -> Drawn
+fn drawn_of(picture: Picture, points: &KeyedPoints, shows_faults: bool, subject: &Subject) -> Drawn
+    requires { ArePointsOf subject.now.map.polygons points.now }
     ensures { result ≡ drawn_of picture shows_faults subject.now }
 {
     let chains = chain_count(picture, &subject.map);
     let faults = if shows_faults {
-        Some(fault_count(picture.frame, &subject.map, subject.faults.as_slice()))
+        Some(fault_count(
+            picture.frame,
+            &subject.map,
+            points,
+            subject.faults.as_slice(),
+        ))
     } else {
         None
     };

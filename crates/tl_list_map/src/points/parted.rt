@@ -50,7 +50,7 @@ pub fn count_by_parts(
 }
 
 /// The map of the chains that are marked.
-fn taken_out(alloc: Global, map: &Map, marks: &[bool]) -> Result<Map, Memory>
+pub fn taken_out(alloc: Global, map: &Map, marks: &[bool]) -> Result<Map, Memory>
     ensures { IfOk result (λ taken. taken ≡ map_without (turned marks.now) map.now) }
 {
     let others = others_of(alloc, marks)?;

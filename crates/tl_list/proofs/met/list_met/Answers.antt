@@ -6,7 +6,7 @@ use Rattle.tl_list.proofs.OfMap.{all_told, some_told, meet_is_fault}
 use Rattle.tl_list.proofs.met.list_met.Goals as goal
 
 pub returns : goal.returns
-returns g c =
+returns c =
     let m = c.args.map.now in
     let meets = c.args.meets.items in
     let left = c.in_ok-points_left.points_left in
@@ -17,7 +17,7 @@ returns g c =
     (some_told m _ left all (meet_is_fault m meets c.requires.all c.requires.some), all)
 
 pub returns-in_err-push_meets : goal.returns-in_err-push_meets
-returns-in_err-push_meets g c = let p = err_from_is_err_and c.from_residual.result c.from_residual.ensures.1 in rw p.1 tt
+returns-in_err-push_meets c = let p = err_from_is_err_and c.from_residual.result c.from_residual.ensures.1 in rw p.1 tt
 
 pub returns-in_err-points_left : goal.returns-in_err-points_left
-returns-in_err-points_left g c = let p = err_from_is_err_and c.from_residual-in_err-points_left.result c.from_residual-in_err-points_left.ensures.1 in rw p.1 tt
+returns-in_err-points_left c = let p = err_from_is_err_and c.from_residual-in_err-points_left.result c.from_residual-in_err-points_left.ensures.1 in rw p.1 tt

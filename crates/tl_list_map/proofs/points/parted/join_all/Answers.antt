@@ -1,4 +1,3 @@
-use Rattle.std.proofs.Common.{length, ◌∙◌}
 use Rattle.tl_check_counts.proofs.Known.{none_known}
 use Rattle.tl_list_map.proofs.points.parted.join_all.Goals as goal
 

@@ -2,10 +2,11 @@ use Rattle.std.proofs.Common.{◌≡◌, ◌+◌, ◌*◌, ◌^◌, ◌≤◌, d
 use Rattle.std.specs.Prelude.{fold}
 use Rattle.tigertopo_svg.specs.Strokes.{Drawing, drawings}
 use Rattle.tigertopo_svg.specs.Pictures.{stroke_count}
-use Rattle.tigertopo_svg.proofs.picture.stroke_count.Given as goal
+use Rattle.tigertopo_svg.proofs.picture.are_strokes_few.Given as goal
 
 abbrev pub invariant-loop-number : goal.invariant-loop-number
 invariant-loop-number l = record {
   counted : fold (λ a (d : Drawing). a + length d.strokes) l.count (drawings l.frame l.skipped l.number (drop l.number l.map.chains)) ≡ stroke_count l.frame l.skipped l.map.chains;
   bound : l.count ≤ l.number * 2 ^ 64;
+  few : l.count ≤ l.most;
 }

@@ -1,6 +1,6 @@
 use Rattle.std.proofs.Common.{sym, ◌∙◌}
 use Rattle.tigertopo_svg.proofs.DrawingLemmas.{found_here, found_behind}
-use Rattle.tigertopo_svg.proofs.places.point_of_key.Goals as goal
+use Rattle.tigertopo_svg.proofs.keyed.point_of_key.Goals as goal
 
 pub returns-then-eq : goal.returns-then-eq
 returns-then-eq c =
