@@ -101,10 +101,15 @@ def wanted(told, words, folder):
     return of_refusal(asked, texts, int(refused[1]), field)
 
 
-def without(told, words, folder):
-    """What was told on standard error without the line behind the first, where that is the one that is wanted; else all of it."""
+def without(told, words, folder, is_due=False):
+    """What was told on standard error without the lines behind the first, where these are the ones that are wanted; else all of it,
+    and where they are due, since each file can be read again, and none was told, that too."""
+    words = list(words)
     first, feed, rest = told.partition(b"\n")
     first += feed
     if not (first.startswith(b"refused line ") or first == b"stopped Device\n"):
         return told
-    return first if rest == wanted(first, words, folder) else told
+    due = wanted(first, words, folder)
+    if is_due and due and not rest and all(Path(folder, it).is_file() for it in Asked(words).all_names):
+        return told + b"and no hint\n"
+    return first if rest == due else told

@@ -7,8 +7,8 @@ usage: rows.py [PROGRAM]
 A row begins with a line `== TITLE`. Then come its files:
 
     like TITLE      the files of an earlier row
-    file NAME       its lines follow indented, and `\\xNN` in its name is a byte; layout.py says how a line is written; behind `for A..B:` a line is
-                    written for each number from A to B, which stands for `{}`
+    file NAME       its lines follow indented; layout.py says how a line is written; behind `for A..B:` a line is
+                    written for each number from A to B, which stands for `{}`; in NAME `\\xNN` is a byte
     text NAME       its lines follow indented as they stand, several of them with ` / ` between two, or so for each number
     swap NAME A -> B    the file with the lines B in place of the lines A, which stand in it once, each written as in `text`
     cut NAME N      the file's first N bytes alone, or with N below 0 all but so many
@@ -18,7 +18,7 @@ A row begins with a line `== TITLE`. Then come its files:
 and then `run WORD ..`, words as a shell splits them, where `\\xNN` is a byte, run in a folder that holds the files alone;
 `status N`; and `out` and `err`, whose texts follow indented, and are empty where they are left out; `or` begins another
 output that is as good. What is said behind a refused line and behind `stopped Device` no row has: tests/judge/hints.py
-tells it. Several `run` lines in one row share its files and its answer. Each stream is compared byte for byte. A run has to leave the files as they are and to make no other, but for those of a line `makes NAME ..`, and of a line
+tells it, and it has to be there. Several `run` lines in one row share its files and its answer. Each stream is compared byte for byte. A run has to leave the files as they are and to make no other, but for those of a line `makes NAME ..`, and of a line
 `holds NAME`, behind which the lines that the file has to hold follow indented. A line
 `then WORD ..` has words that are run behind each run, in the same folder; what follows it is their answer.
 
@@ -302,7 +302,7 @@ def play_in(folder, program, row, words):
     """What is wrong with the answer in this folder, or with the files that are left in it."""
     before = files_of(folder, row.makes)
     done = subprocess.run([program, *map(bytes_of, words)], cwd=folder, stdin=subprocess.DEVNULL, capture_output=True)
-    told = STEP.sub(b"", done.stderr) if program == BENCH else hints.without(done.stderr, map(bytes_of, words), folder)
+    told = STEP.sub(b"", done.stderr) if program == BENCH else hints.without(done.stderr, map(bytes_of, words), folder, is_due=True)
     found = (done.returncode, done.stdout, told)
     if not row.is_met(found):
         return f"{row.title}: {shlex.join(words)}\n  wanted {row.wanted}\n  found  {found}"
