@@ -43,7 +43,7 @@ def newest():
 def date():
     """The time of all files, in seconds since 1970."""
     day = datetime.fromisoformat(newest()[1]).replace(tzinfo=timezone.utc)
-    return int(os.environ.get("SOURCE_DATE_EPOCH", day.timestamp()))
+    return int(os.environ.get("SOURCE_DATE_EPOCH") or day.timestamp())
 
 
 def told(program):

@@ -188,8 +188,8 @@ def play_names(count, program, folder, runs):
             is_made = word == MADE
             if not is_made and not Path(folder, word).is_file():
                 continue
-            # Of a map with a fault no certificate is made; but of its faults a file is.
-            wanted = usual if is_made and usual[0] and words[0] != "audit" else DEVICE
+            # Of a map with a fault no certificate is made; but of its faults a file is, and of its chains.
+            wanted = usual if is_made and usual[0] and words[0] not in ("audit", "export") else DEVICE
             for name in UNWRITABLE if is_made else UNREADABLE:
                 asked = [*words[:place], name, *words[place + 1 :]]
                 answer, left = answer_to(program, folder, asked)
