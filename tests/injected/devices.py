@@ -244,7 +244,7 @@ def play_pipes(count, program, folder):
         told = [it for it in listed[1].decode().split("\n") if it.startswith("map fault ")]
         features = county.drawn_faults([name], [text]).features(told)
         wanted = [unread(it) if "code" in it["properties"] else it for it in features]
-        wrong = placed.wrong_collection(made.read_bytes() if made.exists() else b"", wanted)
+        wrong = placed.wrong_collection(made.read_bytes() if made.exists() else b"", wanted, b"\npoints not looked at\n" in listed[1])
         count.count(answer == listed and not wrong, f"{name} through a pipe: {answer}: {wrong}")
 
 

@@ -182,7 +182,8 @@ def placed_complaints(table, chance, county, faults, listed, wrong, words):
         if made != stood:
             yield f"{' '.join(asked)}: a line is refused, and a file was made or changed"
         return
-    complaint = placed.wrong_collection(made or b"", faults.features(listed if is_all else listed[:1]))
+    points_left = getattr(county.audit_all(), "points_left", False)
+    complaint = placed.wrong_collection(made or b"", faults.features(listed if is_all else listed[:1]), points_left)
     if complaint:
         yield f"{' '.join(asked)}: {complaint}"
 

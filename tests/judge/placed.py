@@ -13,6 +13,7 @@ from functools import cached_property
 
 from layout import COLUMNS
 
+LEFT_CLOSING = '],"points":"not looked at"}'
 OPENING = '{"type":"FeatureCollection","name":"tigertopo","features":['
 # Of each fault that names chains the types of the records of these that it speaks of.
 OF_CHAIN = {
@@ -203,7 +204,7 @@ class Faults:
     """The faults of a county that its lines tell, with the lines of its files, and its map where there is one; of lines that are
     refused no records are read."""
 
-    def __init__(self, names, texts, released, the_map, are_refused):
+    def __init__(self, names, texts, released, the_map, are_refused=False):
         self.names, self.texts, self.released = names, texts, released
         self.lines, self.the_map = [] if are_refused else lines_of(names, texts, released), the_map
 
@@ -244,14 +245,15 @@ def chain_feature(chain):
     return {"type": "Feature", "geometry": line, "properties": {"tlid": chain.tlid, **sides}}
 
 
-def features_in(text):
-    """The features of a collection, each of which stands on a line of its own. A ValueError says that it isn't laid out so."""
+def features_in(text, points_left):
+    """The features of a collection, each of which stands on a line of its own; at its end it is said if polygons' points weren't looked
+    at. A ValueError says that it isn't laid out so."""
     first, *lines = text.split("\n")
-    if first != OPENING or lines[-2:] != ["]}", ""]:
+    if first != OPENING or lines[-2:] != [LEFT_CLOSING if points_left else "]}", ""]:
         raise ValueError(f"it begins with {first[:80]} and ends with {lines[-2:]}")
     each = lines[:-2]
     whole = json.loads(text, parse_float=Fraction)
-    if set(whole) != {"type", "name", "features"}:
+    if set(whole) != {"type", "name", "features"} | ({"points"} if points_left else set()):
         raise ValueError(f"it has {list(whole)}")
     alone = [json.loads(it.removesuffix(","), parse_float=Fraction) for it in each]
     if alone != whole["features"] or any(not it.endswith("},") for it in each[:-1]):
@@ -259,10 +261,11 @@ def features_in(text):
     return alone
 
 
-def wrong_collection(made, wanted):
-    """What is wrong with the bytes of a collection that has to have these features, or None."""
+def wrong_collection(made, wanted, points_left=False):
+    """What is wrong with the bytes of a collection that has to have these features, and to say whether polygons' points weren't looked
+    at, or None."""
     try:
-        found = features_in(made.decode())
+        found = features_in(made.decode(), points_left)
     except ValueError as error:
         return f"no such collection: {error}"
     for place, (one, other) in enumerate(zip(found, wanted)):

@@ -326,6 +326,6 @@ answer_status told faults points_left (Some text) = refl
 answer_status told faults points_left None = refl
 
 -- the collection of no fault
-pub no_features : (names : List (List ℕ)) (spoken : Spoken) → faults_text names spoken.counts.items None (held spoken.lines) [] ≡ faults_text names [] None (λ s. []) []
+pub no_features : (names : List (List ℕ)) (spoken : Spoken) → faults_text names spoken.counts.items None (held spoken.lines) [] false ≡ faults_text names [] None (λ s. []) [] false
 unfolding faults_text
 no_features names spoken = refl

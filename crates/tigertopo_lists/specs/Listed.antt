@@ -82,7 +82,7 @@ reads_again places (Some name) = true
 
 -- the report of a sound map is answered, and no fault stands in the file
 pub record IsSoundList (w : World) (asked : Asked) (report : Report) (answer : Answer Listed) : Type 0 where
-  pub kept : Made w asked.made (faults_text asked.names [] None (λ s. []) [])
+  pub kept : Made w asked.made (faults_text asked.names [] None (λ s. []) [] false)
   pub is : answer ≡ record { status = 0; text = Listing (listing.Sound report) None }
 
 -- faults that are listed, and whether the polygons' points weren't looked at
@@ -94,7 +94,7 @@ pub record Faults : Type 0 where
 pub record IsFaultList (w : World) (layout : Layout) (asked : Asked) (map : Option TheMap) (list : Faults) (answer : Answer Listed) : Type 0 where
   pub spoken : Spoken
   pub speak : reads_again asked.places asked.made ≡ true → AreSpoken layout w.before asked.names (chains_of map) (featured asked.told list.faults.items) spoken
-  pub kept : Made w asked.made (faults_text asked.names spoken.counts.items map (held spoken.lines) (featured asked.told list.faults.items))
+  pub kept : Made w asked.made (faults_text asked.names spoken.counts.items map (held spoken.lines) (featured asked.told list.faults.items) list.points_left)
   pub is : answer.status ≡ 1
   pub lines : listed_text answer.text ≡ told_text asked.names (chains_of map) spoken asked.places asked.told list.faults.items list.points_left
 
@@ -112,7 +112,7 @@ StopsList w options known asked other = StopsAgain w asked other
 pub record TellsSound (w : World) (options : Options) (known : Option (List ℕ)) (asked : Asked) (status : ℕ) (text : List ℕ) : Type 0 where
   pub report : Report
   pub sound : OfMap (layout_with options) known (IsSoundWith options.faces report)
-  pub kept : Made w asked.made (faults_text asked.names [] None (λ s. []) [])
+  pub kept : Made w asked.made (faults_text asked.names [] None (λ s. []) [] false)
   pub is : status ≡ 0
   pub line : text ≡ listing_text None (listing.Sound report)
 
@@ -126,7 +126,7 @@ pub record TellsFaults (w : World) (options : Options) (known : Option (List ℕ
   pub unsound : IfSome known (λ held. ¬ HaveMap (records_of (layout_with options) held) (IsSoundFor options.faces))
   pub spoken : Spoken
   pub speak : reads_again asked.places asked.made ≡ true → AreSpoken (layout_with options) w.before asked.names (chains_of map) (featured asked.told faults.items) spoken
-  pub kept : Made w asked.made (faults_text asked.names spoken.counts.items map (held spoken.lines) (featured asked.told faults.items))
+  pub kept : Made w asked.made (faults_text asked.names spoken.counts.items map (held spoken.lines) (featured asked.told faults.items) points_left)
   pub is : status ≡ 1
   pub lines : text ≡ told_text asked.names (chains_of map) spoken asked.places asked.told faults.items points_left
 

@@ -24,11 +24,12 @@ pub(crate) fn make_collection<F: FileSystem>(
     drawn: Option<&Map>,
     spoken: &Spoken,
     faults: &[MapFault],
+    points_left: bool,
 ) -> Result<(), Stop>
     requires { MayMake (F.under files.old) (option_map string_bytes made.now) (map string_bytes names.now) Collection }
     ensures { let w = world F.under F.log F.knows files.old files.new in
         let text = faults_text (map string_bytes names.now) spoken.now.counts.items (option_copied drawn.entry)
-        (held spoken.now.lines) faults.now in
+        (held spoken.now.lines) faults.now points_left in
         Does w [] (option_map string_bytes made.now) (λ done. Made w (option_map string_bytes made.now) text) StopsNever result }
 {
     let Some(name) = made else {
@@ -40,6 +41,7 @@ pub(crate) fn make_collection<F: FileSystem>(
         drawn,
         lines: &spoken.lines,
         faults,
+        points_left,
     };
     make_file(
         files,

@@ -120,7 +120,7 @@ fn tell_sound<F: FileSystem>(
         Does w [] asked.made (IsSoundList w asked report) StopsNever result }
 {
     let nothing = Spoken::nothing(alloc, hasher)?;
-    make_collection(files, alloc, wanted.made, names, None, &nothing, &[])?;
+    make_collection(files, alloc, wanted.made, names, None, &nothing, &[], false)?;
     Ok(Answer {
         status: DONE,
         text: Listed::Listing {
@@ -267,7 +267,7 @@ fn tell_faults<F: FileSystem>(
         listed,
         points_left,
     )?;
-    make_collection(files, alloc, wanted.made, names, drawn, &spoken, shown)?;
+    make_collection(files, alloc, wanted.made, names, drawn, &spoken, shown, points_left)?;
     Ok(faults_answer(text, faults, points_left, wanted.told))
 }
 

@@ -59,8 +59,12 @@ abbrev pub chains_text : Option TheMap → List ℕ → List ℕ
 chains_text None tlids = []
 chains_text (Some m) tlids = flat_map (named_chain m.polygons tlids) m.chains
 
+-- the end of the collection, which says where they weren't that polygons' points weren't looked at
+abbrev pub closing_text : Bool → List ℕ
+closing_text points_left = if points_left then codes "\n],\"points\":\"not looked at\"}\n" else collection_closing
+
 -- all faults, and behind them the chains that they name; where there is no fault, there is no such chain
-unfoldable pub faults_text : List (List ℕ) → List ℕ → Option TheMap → (Subject → List RecordLine) → List MapFault → List ℕ
-faults_text names counts drawn about faults =
+unfoldable pub faults_text : List (List ℕ) → List ℕ → Option TheMap → (Subject → List RecordLine) → List MapFault → Bool → List ℕ
+faults_text names counts drawn about faults points_left =
     collection_opening ++ features_below 0 (fault_feature names counts (chains_of drawn) about faults) (length faults)
-    ++ chains_text drawn (named_tlids (chains_of drawn) faults) ++ collection_closing
+    ++ chains_text drawn (named_tlids (chains_of drawn) faults) ++ closing_text points_left

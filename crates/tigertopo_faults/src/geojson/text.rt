@@ -20,6 +20,8 @@ pub struct FaultsText<'a> {
     /// The lines of the records that the faults speak of.
     pub lines: &'a RecordLines,
     pub faults: &'a [MapFault],
+    /// Whether the polygons' points weren't looked at.
+    pub points_left: bool,
 }
 
 impl Text for FaultsText<'_> {
@@ -28,7 +30,7 @@ impl Text for FaultsText<'_> {
     ghost use Rattle.tigertopo_faults.specs.Geojson.Texts.{faults_text};
 
     ghost text = { λ told. faults_text (map_list string_bytes told.names.now) told.counts.now (option_copied told.drawn)
-        (held told.lines.now) told.faults.now };
+        (held told.lines.now) told.faults.now told.points_left };
 
     ghost is_ready = { λ told. ⊤ };
 
@@ -40,6 +42,7 @@ impl Text for FaultsText<'_> {
             self.drawn,
             self.lines,
             self.faults,
+            self.points_left,
             out,
         )
     }

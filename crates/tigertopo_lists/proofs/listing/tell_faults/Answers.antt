@@ -63,8 +63,8 @@ returns g c =
     let m = g.F.FileSystem.log c.speak_of.new.files in
     let q = g.F.FileSystem.log c.make_collection.new.files in
     let done = made_behind u v after l m q g.F.FileSystem.knows asked c.in_ok-spoken.ensures.stays c.in_ok-spoken.ensures.logged _ _ c.in_ok-make_collection.ensures in
-    let same = ap (λ (m : Option TheMap). faults_text names spoken.counts.items m (held spoken.lines) c.featured-shown.result.now) drawn
-    ∙ ap (λ (fs : List MapFault). faults_text names spoken.counts.items c.args.map (held spoken.lines) fs) shown in
+    let same = ap (λ (m : Option TheMap). faults_text names spoken.counts.items m (held spoken.lines) c.featured-shown.result.now c.args.points_left) drawn
+    ∙ ap (λ (fs : List MapFault). faults_text names spoken.counts.items c.args.map (held spoken.lines) fs c.args.points_left) shown in
     let prepared = subst (λ (m : Option TheMap). IsPrepared names (chains_of m) spoken c.args.wanted.places c.args.wanted.told c.args.faults.items c.args.points_left text) drawn
     (subst (λ (fs : List MapFault). IsPrepared names (chains_of (option_copied c.as_ref-drawn.result)) spoken c.args.wanted.places c.args.wanted.told fs c.args.points_left text) listed c.in_ok-text.ensures) in
     does_answer w [] asked.made _ _ c.in_ok-make_collection.field-0 done _ _ (record {
