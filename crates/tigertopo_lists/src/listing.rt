@@ -267,7 +267,16 @@ fn tell_faults<F: FileSystem>(
         listed,
         points_left,
     )?;
-    make_collection(files, alloc, wanted.made, names, drawn, &spoken, shown, points_left)?;
+    make_collection(
+        files,
+        alloc,
+        wanted.made,
+        names,
+        drawn,
+        &spoken,
+        shown,
+        points_left,
+    )?;
     Ok(faults_answer(text, faults, points_left, wanted.told))
 }
 

@@ -10,7 +10,6 @@ use Rattle.tl_record.specs.Lines.{line_feed, raw_lines, first_line, after_first_
 use Rattle.tl_record.proofs.LineLemmas.{raw_lines-first}
 use Rattle.tigertopo_where.specs.declared.lines.Found.{Found}
 use Rattle.tigertopo_where.specs.declared.lines.Found.TheVariants.{Missing}
-use Rattle.tigertopo_where.specs.LinePlaces.{line_count}
 use Rattle.tigertopo_where.specs.Finding.{Answers, IsCount, IsFound, Passes, PassesTo}
 
 pub passes_none : (text : Option (List ℕ)) → PassesTo 0 text text

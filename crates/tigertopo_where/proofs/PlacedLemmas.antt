@@ -1,5 +1,5 @@
 -- Refused lines and where they stand.
-use Rattle.std.proofs.Common.{◌≡◌, ◌⊎◌, ℕ, zero, suc, ◌+◌, ◌≤◌, ◌<◌, nat_le, Bool, true, List, [], ◌∷◌, ◌++◌, Option, None, Some, map, length, take, drop, get_or, slice_get, refl, sym, ap, subst, ◌∙◌, arith, append_assoc, append-nil, drop-cons, add-one, inl, inr}
+use Rattle.std.proofs.Common.{◌≡◌, ℕ, zero, suc, ◌+◌, ◌≤◌, ◌<◌, nat_le, Bool, true, List, [], ◌∷◌, ◌++◌, Option, None, Some, map, length, take, drop, get_or, slice_get, refl, sym, ap, subst, ◌∙◌, arith, append_assoc, append-nil, drop-cons, add-one}
 use Rattle.std.specs.Prelude.{option_map, IfSome, codes}
 use Rattle.std.specs.Option.{option_map_or}
 use Rattle.std.proofs.lemmas.Option.{slice_get-map, slice_get-get_or, slice_get_within, IfSome_then}
@@ -9,14 +9,13 @@ use Rattle.tl_record.specs.declared.layout.Layout.{Layout}
 use Rattle.tl_record.specs.declared.refusal.Refusal.{Refusal}
 use Rattle.tl_record.specs.declared.stop.Cause.{Cause}
 use Rattle.tl_record.specs.Limits.{most_line_bytes}
-use Rattle.tl_record.specs.Lines.{raw_lines}
 use Rattle.tigertopo_text.specs.Joining.{joined}
 use Rattle.tigertopo_text.proofs.JoiningLemmas.{joined_bytes-known}
 use Rattle.tigertopo_files.specs.Files.{Under, bytes_under}
 use Rattle.tigertopo_files.specs.Reading.{text_under, SomePassing}
 use Rattle.tigertopo_where.specs.declared.lines.Found.TheVariants.{Line, Missing}
 use Rattle.tigertopo_where.specs.Finding.{PassesTo, Shows}
-use Rattle.tigertopo_where.specs.LinePlaces.{line_at, line_count, place_of, StandsAt}
+use Rattle.tigertopo_where.specs.LinePlaces.{line_count, place_of, StandsAt}
 use Rattle.tigertopo_where.specs.Hint.Hints.{place_text}
 use Rattle.tigertopo_where.specs.Hint.Telling.{HaveTexts}
 use Rattle.tigertopo_where.specs.Hint.Placed.{refused_text, placed_text, place_among, places_of, RiseFrom, IsPlaced}

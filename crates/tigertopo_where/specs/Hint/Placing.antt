@@ -1,5 +1,5 @@
 -- Kept on the way: places that are found in the joined text of files. No public contract cites this file.
-use Rattle.std.specs.Prelude.{◌≡◌, ◌⊎◌, ℕ, List, [], ◌++◌, Option, IfSome, map, take, slice_get}
+use Rattle.std.specs.Prelude.{◌≡◌, ◌⊎◌, ℕ, List, [], Option, IfSome, map, take, slice_get}
 use Rattle.std.specs.Option.{option_map_or}
 use Rattle.tl_record.specs.declared.layout.Layout.{Layout}
 use Rattle.tl_record.specs.declared.stop.Cause.{Cause}

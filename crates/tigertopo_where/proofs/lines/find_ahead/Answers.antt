@@ -1,4 +1,4 @@
-use Rattle.std.proofs.Common.{◌∙◌, ◌+◌, ◌≡◌, refl, arith}
+use Rattle.std.proofs.Common.{◌∙◌, refl, arith}
 use Rattle.tigertopo_where.proofs.FindingLemmas.{finds_none, finds_shown, passes_more}
 use Rattle.tigertopo_where.proofs.lines.find_ahead.Goals as goal
 

@@ -1,4 +1,4 @@
-use Rattle.std.proofs.Common.{◌≡◌, ◌-◌, ◌+◌, ◌<◌, List, ℕ}
+use Rattle.std.proofs.Common.{◌≡◌, ◌+◌, List, ℕ}
 use Rattle.std.specs.Prelude.{Option}
 use Rattle.std.specs.Io.KnownBytes.{prepend_known}
 use Rattle.tigertopo_where.specs.Finding.{PassesTo}

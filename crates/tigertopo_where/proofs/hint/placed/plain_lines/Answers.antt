@@ -1,5 +1,3 @@
-use Rattle.std.proofs.Common.{◌∙◌, ap, List, ℕ, ◌++◌}
-use Rattle.tigertopo_where.specs.Hint.Placed.{refused_text}
 use Rattle.tigertopo_where.proofs.PlacedLemmas.{plain_one_more, same_got}
 use Rattle.tigertopo_where.proofs.hint.placed.plain_lines.Goals as goal
 

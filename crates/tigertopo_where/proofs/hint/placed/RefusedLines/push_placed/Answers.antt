@@ -1,9 +1,9 @@
-use Rattle.std.proofs.Common.{◌≡◌, ◌<◌, ◌++◌, ℕ, List, Some, map, string_bytes, take, append_assoc, append-nil, refl, ◌∙◌, ap, [], sym}
+use Rattle.std.proofs.Common.{◌++◌, ℕ, List, Some, map, string_bytes, take, append_assoc, append-nil, ◌∙◌, ap, [], sym}
 use Rattle.tl_record.specs.Layout.{layout_with}
 use Rattle.tl_record.specs.Lines.{raw_lines}
 use Rattle.tigertopo_where.specs.LinePlaces.{line_at}
 use Rattle.tigertopo_where.specs.Hint.Placed.{refused_text}
-use Rattle.tigertopo_where.specs.Hint.Placing.{found_text, place_in}
+use Rattle.tigertopo_where.specs.Hint.Placing.{found_text}
 use Rattle.tigertopo_where.proofs.PlacedLemmas.{shown_in, missing_in}
 use Rattle.tigertopo_where.proofs.hint.placed.RefusedLines.push_placed.Goals as goal
 

@@ -2,7 +2,7 @@ use Rattle.std.proofs.Common.{◌∙◌, List, ℕ, map, string_bytes, arith, re
 use Rattle.tl_record.specs.Layout.{layout_with}
 use Rattle.tl_record.specs.declared.refusal.Refusal.{Refusal}
 use Rattle.tigertopo_where.specs.Hint.Placing.{place_in}
-use Rattle.tigertopo_where.proofs.FindingLemmas.{passes_none, passes_fresh}
+use Rattle.tigertopo_where.proofs.FindingLemmas.{passes_fresh}
 use Rattle.tigertopo_where.proofs.PlacedLemmas.{placed_all, placed_none, placed_one_more, same_got, tells_in}
 use Rattle.tigertopo_where.proofs.hint.placed.RefusedLinesReading.read.Goals as goal
 
