@@ -9,6 +9,7 @@ usage: wrong_bodies.py [CRATE..]     with no CRATE, each crate that has such edi
 """
 
 import os
+import shutil
 import sys
 from concurrent.futures import ThreadPoolExecutor
 
@@ -27,11 +28,21 @@ def crates_with_some():
 
 
 def tried(rt, crate):
-    """Tries the edits of a crate in turn, prints what the prover says of each, and gives how many it doesn't refuse."""
+    """Tries the edits of a crate in turn over what a check of it as it stands proved, prints what the prover says of each, and gives
+    how many it doesn't refuse."""
+    room = rt.seeded(crate, FLAGS)
+    if not room:
+        print(f"wrong-bodies {crate.name}: NOT TRIED: the crate isn't proved as it stands", flush=True)
+        return len(edits_of(crate.name))
     failed = 0
-    for is_refused, text in rt.must_fail_all(crate, edits_of(crate.name), FLAGS):
+    for edit in edits_of(crate.name):
+        over = f"{room}/over"
+        rt.linked(f"{room}/seed", over)
+        told, text = rt.must_fail(crate, edit, FLAGS, over)
+        shutil.rmtree(over, ignore_errors=True)
         print(text.replace("must-fail ", "wrong-bodies ", 1), flush=True)
-        failed += not is_refused
+        failed += told not in (rt.REFUSED, rt.AT_LIMIT)
+    shutil.rmtree(room, ignore_errors=True)
     return failed
 
 
