@@ -20,7 +20,7 @@
 # make geojson             reads what `export` and `audit --geojson` make by GDAL
 # make pictures            reads what `draw` makes, and shows it by a browser where one is there
 # make pages               looks at the manual page and the completions, which are made of the program's help, and at what
-#                          `--progress` shows
+#                          `--progress` shows, and mends a broken county as docs/faults.md says
 # make real-maps           fetches Debian's r-cran-maps, audits its maps, and prints the table of docs/real-maps.md, with what GEOS
 #                          says of the same lines where python3-shapely is there
 # make promises            makes docs/promises.md anew behind its first page, from the contracts and their comments
@@ -105,6 +105,7 @@ real-maps: build
 pages: build
 	python3 tests/installed/installed.py
 	python3 tests/installed/progress.py
+	python3 tests/pages/mended.py
 
 promises:
 	python3 proving/promises.py

@@ -25,6 +25,7 @@ import installed
 import judged
 import made_files
 import memory
+import mended
 import packaged
 import pictures
 import progress
@@ -78,6 +79,7 @@ def parts():
         ("manual page, completions and programs of the libraries", installed.play_all),
         ("what is taken away", packaged.play_all),
         ("progress", progress.play_all),
+        ("a county mended", mended.play_all),
         ("rows", rows.play_all),
         ("rows over the core", core.play_all),
         ("what pages name", cited.play_all),
