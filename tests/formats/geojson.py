@@ -13,6 +13,7 @@ their positions, add up to the area that is written beside them; and of what is 
 import csv
 import io
 import json
+import math
 import subprocess
 import sys
 import tempfile
@@ -52,6 +53,12 @@ DRAWN_LANDMARKS = [
     {"geometry": {"type": "Point", "coordinates": (-5, -6)}, "properties": {"land": 9, "polygons": []}},
 ]
 
+# The ellipsoid of NAD83: its radius at the equator, in metres, and the square of its eccentricity.
+EQUATOR, ECCENTRICITY = 6378137.0, 0.00669438002290
+# Where squares stand that are a tenth of a degree wide.
+AFAR = [(100, 30), (-78_762_000, 39_652_000), (-156_000_000, -18_900_000), (-150_000_000, 64_800_000), (10, -71_000_000)]
+# The layers, in the order of the whole file, and what features of each alone have.
+LAYERS = {"chains": "tlid", "points": "landmarks", "polygons": "area", "landmarks": "land"}
 # Faults: the switches, the file, the status, how many features of each kind of geometry, and where the points are, in millionths of
 # a degree, by the records of the file.
 FAULTS = [
@@ -134,6 +141,21 @@ def wrong_areas(path, shapes):
     return None
 
 
+def wrong_metres(features):
+    """What is wrong with the areas in square metres: beside the radii of the ellipsoid at the latitude of each polygon's point."""
+    latitudes = {it["properties"]["polygon"]: float(it["geometry"]["coordinates"][1]) for it in features if "landmarks" in it["properties"]}
+    for it in features:
+        if "area" in it["properties"]:
+            named = it["properties"]
+            sine = math.sin(math.radians(latitudes[named["polygon"]]))
+            flat = 1 - ECCENTRICITY * sine**2
+            degree = math.radians(1) ** 2 * EQUATOR**2 * (1 - ECCENTRICITY) / flat**2 * math.sqrt(1 - sine**2)
+            wanted = float(Fraction(named["area"])) * 1e-12 * degree
+            if abs(named["square_metres_rounded"] - wanted) > 0.5 + 2e-5 * abs(wanted):
+                return f"{named['polygon']}: {named['square_metres_rounded']} square metres, and not {wanted}"
+    return None
+
+
 def layer_of(path):
     return json.loads(Path(path).read_text())["name"]
 
@@ -143,7 +165,7 @@ def wrong_shapes(path):
     features = json.loads(Path(path).read_text(), parse_float=Fraction)["features"]
     shapes = [it for it in features if it["geometry"]["type"] in ("Polygon", "MultiPolygon")]
     told = [wrong_shape(it) for it in shapes] + [wrong_names(it) for it in features if "polygon" in it["properties"]]
-    return next((it for it in told if it), None) or (wrong_areas(path, shapes) if shapes else None)
+    return next((it for it in told if it), None) or (wrong_areas(path, shapes) or wrong_metres(features) if shapes else None)
 
 
 def wrong_file(path, kinds):
@@ -224,6 +246,9 @@ def wrong_drawn(program, folder):
     if wrong:
         return wrong
     features = json.loads(made.read_text(), parse_float=Fraction)["features"]
+    files = {it["properties"].pop("file", None) for it in features}
+    if files != {str(records)}:
+        return f"files: {files}"
     found = {it["properties"]["polygon"]: [[as_ring(ring, False) for ring in part] for part in parts_of(it)] for it in features if "area" in it["properties"]}
     wanted = {name: [[as_ring(square(*SQUARES[n][:3]), place > 0) for place, n in enumerate(part)] for part in parts] for name, parts in DRAWN_SHAPES.items()}
     if found != wanted:
@@ -231,6 +256,36 @@ def wrong_drawn(program, folder):
     landmarks = [{"geometry": {"type": "Point", "coordinates": in_millionths(it["geometry"]["coordinates"])}, "properties": it["properties"]}
                  for it in features if "land" in it["properties"]]
     return None if landmarks == DRAWN_LANDMARKS else f"landmarks: {landmarks}"
+
+
+def wrong_afar(program, folder):
+    """What is wrong with the export of squares a tenth of a degree wide, at several latitudes."""
+    records, lines = Path(folder) / "records", []
+    for number, (x, y) in enumerate(AFAR, 1):
+        first, *between, last = [f"{it[0]},{it[1]}" for it in square(x, y, 100_000)]
+        lines += [f"chain {number} {first} {last}", f"shape {number} 1 {' '.join(between)}", f"sides {number} A0001/{number} -"]
+        lines += [f"point A0001/{number} {x + 50_000},{y + 50_000}"]
+    records.write_bytes(b"".join(map(layout.line_of, lines)))
+    count = len(AFAR)
+    line = f"exported chains={count} polygons={count} rings={count}\n"
+    return wrong_export(program, folder, [records], line, {"LineString": count, "Point": count, "Polygon": count})
+
+
+def wrong_layers(program, folder):
+    """What is wrong with the layers of what is drawn, each by itself and on its way through a pipe: together they are the whole."""
+    records = Path(folder) / "records"
+    records.write_bytes(b"".join(map(layout.line_of, drawn_lines())))
+    made = Path(folder) / "made.geojson"
+    wrong, found = wrong_export(program, folder, [records], DRAWN_LINE, DRAWN_KINDS), []
+    for layer in () if wrong else LAYERS:
+        done = run(program, "export", "--geojson", "/dev/stdout", "--layer", layer, records)
+        if (done.returncode, done.stderr) != (0, DRAWN_LINE):
+            return f"{layer}: status {done.returncode}: {done.stderr}"
+        features = json.loads(done.stdout)["features"]
+        if any(LAYERS[layer] not in it["properties"] for it in features):
+            return f"{layer}: {features}"
+        found += features
+    return wrong or (None if found == json.loads(made.read_text())["features"] else f"layers: {found}")
 
 
 def wrong_refusal(program, folder):
@@ -251,6 +306,10 @@ def play_all(program=PROGRAM):
             wrong.append((" ".join(files), wrong_export(program, folder, [EXAMPLES / it for it in files], line, kinds)))
     with tempfile.TemporaryDirectory() as folder:
         wrong.append(("squares in one another", wrong_drawn(program, folder)))
+    with tempfile.TemporaryDirectory() as folder:
+        wrong.append(("layers", wrong_layers(program, folder)))
+    with tempfile.TemporaryDirectory() as folder:
+        wrong.append(("squares at several latitudes", wrong_afar(program, folder)))
     for switches, file, *wanted in FAULTS:
         with tempfile.TemporaryDirectory() as folder:
             wrong.append((f"{' '.join(switches)} {file}", wrong_faults(program, folder, switches, file, *wanted)))

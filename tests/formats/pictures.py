@@ -3,10 +3,12 @@
 
 usage: pictures.py [PROGRAM]
 
-Each picture is parsed as XML, and its strokes, dots, circles and titles are counted. Where Chromium is there, pictures are
-shown by it, and what it shows may not be blank.
+Each picture is parsed as XML. What it shows, and where, is compared with places that are reckoned here by fractions, from
+docs/commands.md alone, or were by hand. Where Chromium is there, pictures are shown by it at three widths: what it shows may not be
+blank, and is as wide as the window.
 """
 
+import math
 import re
 import shutil
 import struct
@@ -14,6 +16,7 @@ import subprocess
 import sys
 import tempfile
 import zlib
+from fractions import Fraction
 from pathlib import Path
 from xml.etree import ElementTree
 
@@ -52,10 +55,15 @@ class Picture:
         text = made.read_bytes()
         want("how a picture begins", text[: len(BEGINNING)], BEGINNING)
         root = ElementTree.fromstring(text)
-        self.size = int(root.get("width")), int(root.get("height"))
+        want("its width", (root.get("width"), root.get("height"), root.get("style")), (None, None, "width:100%;height:auto"))
+        self.box = tuple(map(int, root.get("viewBox").split()))
         self.paths = {path.get("class"): path.get("d") for path in root.iter(SVG + "path")}
         self.circles = [(int(it.get("cx")), int(it.get("cy"))) for it in root.iter(SVG + "circle")]
-        self.titles = [it.text for it in root.iter(SVG + "title")]
+        self.titles = [it.text.split("\n")[0] for it in root.iter(SVG + "title")]
+        self.closer = [it.text.split("\n")[1:] for it in root.iter(SVG + "title")]
+        texts = [(it.get("class"), int(it.get("x")), int(it.get("y")), it.text) for it in root.iter(SVG + "text")]
+        self.codes = [it[1:] for it in texts if it[0] == "code"]
+        self.key = [it[3] for it in texts if it[0] != "code"]
 
     def count(self, path, command):
         return self.paths[path].count(command)
@@ -72,9 +80,12 @@ def draw(program, folder, answer, *words):
 
 
 def whole(program, folder):
-    """A county that is fitted: its longer side is 980 pixels, and north is up."""
+    """A county that is fitted: its longer side is 980 pixels, and north is up. Fifty pixels above say what is drawn. It is 60 millionths
+    of a degree wide, of which nine are a metre."""
     picture = draw(program, folder, b"drawn chains=5\n", COUNTY)
-    want("its size", picture.size, (1000, 673))
+    want("what it shows", picture.box, (-100, -600, 9800 + 200, 6533 + 700))
+    want("what its marks mean", picture.key, ["chain", "node", "polygon's point", "1 m"])
+    want("its scale", picture.paths["scale"], "M0 -240v80m0 -40h1470m0 -40v80")
     want("its strokes", picture.count("chains", "l"), 12)
     want("the ends of chains", len(picture.dots("nodes")), 10)
     want("nodes", sorted(set(picture.dots("nodes"))), [(1633, 4900), (4900, 0), (4900, 6533), (8166, 3266)])
@@ -85,7 +96,7 @@ def whole(program, folder):
 def part(program, folder):
     """A place: what lies outside isn't drawn, and what meets the border is."""
     picture = draw(program, folder, b"drawn chains=1\n", "--at", "@55,30", "--width", "10", COUNTY)
-    want("its size", picture.size, (1000, 1000))
+    want("what it shows", picture.box, (-100, -600, 9800 + 200, 9800 + 700))
     want("its strokes", picture.count("chains", "l"), 4)
     want("nodes", set(picture.dots("nodes")), {(9800, 4900)})
     want("polygons' points", picture.dots("points"), [(4900, 4900)])
@@ -102,7 +113,134 @@ def faulty(program, folder):
     picture = Picture(folder / "map.svg")
     want("titles", picture.titles, told)
     want("circles", len(picture.circles), len(told))
+    # Less than forty pixels from the eastern border a code stands to the west of its circle.
+    beside = [(x - 80 if x + 400 > picture.box[2] - 200 else x + 80, y + 45, line[:2]) for (x, y), line in zip(picture.circles, told)]
+    want("codes", picture.codes, beside)
+    want("what its marks mean", picture.key[:4], ["chain", "node", "polygon's point", "fault"])
+    meets = [tuple(map(int, line.split()[-3:])) for line in told if line.startswith("G1 ")]
+    want("meets", len(meets) > 2 and any(d > 1 for _, _, d in meets), True)
+    frame = Shown(*bounds(program, TOWN))
+    want("where they are", picture.circles[: len(meets)], [frame.spot(Fraction(x, d), Fraction(y, d)) for x, y, d in meets])
+    closer = [[f"--at @{x // d},{y // d} --width {frame.closer}"] for x, y, d in meets]
+    want("what to type", picture.closer[: len(meets)], closer)
+    for (words,) in picture.closer:
+        _, at, _, width = words.split()
+        status, out, _ = run(program, "draw", "--faults", "--out", folder / "map.svg", "--at", at, "--width", width, TOWN)
+        want(f"a picture {words}", (status, out.endswith(b"faults=0\n")), (0, False))
     draw(program, folder, b"drawn chains=5 faults=0\n", "--faults", COUNTY)
+
+
+def bounds(program, records):
+    """The least and the greatest longitude and latitude of the points of all chains, by `show`."""
+    _, out, _ = run(program, "show", records)
+    points = [tuple(map(int, it.split(","))) for line in out.decode().splitlines() if line.startswith("tlid") for it in line.split()[2:]]
+    xs, ys = zip(*points)
+    return min(xs), min(ys), max(xs), max(ys)
+
+
+class Shown:
+    """Which part of the plane a picture shows, with places in tenths of a pixel as docs/commands.md says."""
+
+    def __init__(self, west, south, east, north):
+        self.west, self.north = west, north
+        degrees = Fraction(south + north, 2 * 10**6)
+        self.cosine = math.floor(10**4 * (180**2 - 4 * degrees**2) / (180**2 + degrees**2) + Fraction(1, 2)) * Fraction(1, 10**4)
+        self.side = max((east - west) * self.cosine, north - south, 1)
+        self.closer = max(max(east - west, north - south) // 10, 2)
+
+    def spot(self, x, y):
+        scale = 9800 / Fraction(self.side)
+        return math.floor((x - self.west) * self.cosine * scale), math.floor((self.north - y) * scale)
+
+
+def made(folder, *lines):
+    """A file of records with these lines."""
+    records = folder / "records"
+    records.write_bytes(b"".join(map(line_of, lines)))
+    return records
+
+
+def crossing(program, folder):
+    """Two chains that cross at (6/7, 4/7): 3 millionths are 9800 tenths of a pixel, so that is 2800 to the east, and 14000 / 3 to the
+    south of the northern border. Behind `--at` stands the whole millionth to its south-west."""
+    records = made(folder, "chain 1 0,0 3,2", "chain 2 0,1 2,0", "sides 1 - -", "sides 2 - -")
+    picture = draw(program, folder, b"drawn chains=2 faults=1\n", "--faults", records)
+    want("circles", picture.circles, [(2800, 4666)])
+    want("codes", picture.codes, [(2880, 4711, "G1")])
+    want("what to type", picture.closer, [["--at @0,0 --width 2"]])
+    # One millionth is 9800 tenths now, from -1/2 to 1/2, so 6/7 lies 9/14 of a pixel's width beyond the picture.
+    draw(program, folder, b"drawn chains=1 faults=0\n", "--faults", "--at", "@0,0", "--width", "1", records)
+    draw(program, folder, b"drawn chains=2 faults=1\n", "--faults", "--at", "@0,0", "--width", "2", records)
+    picture = draw(program, folder, b"drawn chains=2 faults=1\n", "--faults", "--at", "@1,1", "--width", "1", records)
+    want("circles", picture.circles, [(math.floor(Fraction(6 * 9800, 7) - 4900), math.floor(Fraction(3, 2) * 9800 - Fraction(4 * 9800, 7)))])
+
+
+def at_the_border(program, folder):
+    """At the eastern border of what is shown, a code stands to the west of its circle."""
+    records = made(folder, "chain 1 0,0 100,0", "chain 2 100,-5 100,5", "chain 3 0,2 2,-2", "sides 1 - -", "sides 2 - -", "sides 3 - -")
+    picture = draw(program, folder, b"drawn chains=3 faults=2\n", "--faults", records)
+    want("codes", sorted(picture.codes), [(98 + 80, 490 + 45, "G1"), (9800 - 80, 490 + 45, "G1")])
+
+
+def centred(program, folder):
+    """The point that is asked for is in the middle, whether the width is odd or even."""
+    records = made(folder, "chain 1 50,50 60,60", "sides 1 - -")
+    for width in (1, 2, 21, 22, 1001):
+        picture = draw(program, folder, b"drawn chains=1\n", "--at", "@50,50", "--width", width, records)
+        want(f"the point in the middle of {width}", picture.dots("nodes")[0], (4900, 4900))
+
+
+def seen(program, folder):
+    """A chain is counted and drawn where it has a point in the picture: not where it passes by a corner outside, though the rectangle
+    about it meets the picture. With its margin the picture's corner is at 44.898, 35.102."""
+    place = ("--at", "@50,30", "--width", "10")
+    for ends, count in (("43,34 46,37", 0), ("44,34 46,36", 1), ("40,30 60,30", 1), ("44,20 44,40", 0), ("40,20 60,40", 1), ("54,37 57,34", 0), ("54,36 56,34", 1)):
+        records = made(folder, f"chain 1 {ends}", "sides 1 - -")
+        picture = draw(program, folder, b"drawn chains=%d\n" % count, *place, records)
+        want(f"strokes of {ends}", picture.count("chains", "l"), count)
+
+
+def thirds(program, folder):
+    """Nothing that is a third of a pixel wide or high is left out: of 29,400 millionths, 10 are a third of a pixel."""
+    wide = ["chain 1 0,0 29400,0", "sides 1 - -"]
+    for points, count in (("500,500 509,509", 1), ("500,500 510,500", 2), ("500,500 500,510", 2), ("500,500 509,490", 2)):
+        records = made(folder, *wide, f"chain 2 {points}", "sides 2 - -")
+        draw(program, folder, b"drawn chains=%d\n" % count, records)
+    # A chain that closes, and one that goes to both sides of its start.
+    for middle, count in (("510,500", 2), ("509,500", 1), ("506,500 494,500", 2), ("505,500 496,500", 1)):
+        records = made(folder, *wide, "chain 2 500,500 500,500", f"shape 2 1 {middle}", "sides 2 - -")
+        draw(program, folder, b"drawn chains=%d\n" % count, records)
+
+
+def shortened(program, folder):
+    """A degree of longitude is as much shorter as the cosine of the middle latitude says, but for 17 ten-thousandths."""
+    for latitude in (0, 18, 25, 39, -39, 45, 49, 60, 71, 80):
+        south = latitude * 10**6 - 500
+        records = made(folder, f"chain 1 0,{south} 0,{south}", f"shape 1 1 1000,{south} 1000,{south + 1000} 0,{south + 1000}", "sides 1 - -")
+        picture = draw(program, folder, b"drawn chains=1\n", records)
+        x, y, *steps = map(int, re.findall(r"-?\d+", picture.paths["chains"]))
+        want("a square", (x, y, steps[1], steps[3], steps[5], steps[7]), (0, 9800, 0, -9800, 0, 9800))
+        want(f"its width at {latitude}", abs(steps[0] / 9800 - math.cos(math.radians(latitude))) < 0.0018, True)
+        frame = Shown(0, south, 1000, south + 1000)
+        want(f"its width at {latitude}", steps[0], frame.spot(1000, south)[0])
+        want("what it shows", picture.box, (-100, -600, max(steps[0], 5800) + 200, 9800 + 700))
+
+
+def scales(program, folder):
+    """The line of the scale is of a round length, a quarter of the longer side at most. A metre is nine millionths of a degree."""
+    for wide, length, tenths in ((1, "2 cm", 1764), (9, "20 cm", 1960), (900, "20 m", 1960), (100000, "2 km", 1764), (900000, "20 km", 1960), (179000000, "2000 km", 985)):
+        records = made(folder, f"chain 1 0,0 {wide},0", "sides 1 - -")
+        picture = draw(program, folder, b"drawn chains=1\n", records)
+        want(f"the scale of {wide}", (picture.key[-1], picture.paths["scale"]), (length, f"M0 -240v80m0 -40h{tenths}m0 -40v80"))
+
+
+def crowded(program, folder):
+    """Nodes and polygons' points are marked where there are no more than 20,000 strokes."""
+    for count in (20000, 20001):
+        lines = [f"chain {k + 1} {10 * k},0 {10 * k},1000" for k in range(count)]
+        picture = draw(program, folder, b"drawn chains=%d\n" % count, made(folder, *lines, *(f"sides {k + 1} - -" for k in range(count))))
+        want("strokes", picture.count("chains", "l"), count)
+        want("what its marks mean", picture.key[:-1], ["chain", "node", "polygon's point"] if count == 20000 else ["chain"])
 
 
 def many(program, folder):
@@ -162,6 +300,15 @@ def pixels(image):
 def shown(browser, program, folder):
     """What a browser shows isn't blank."""
     sizes = []
+    page, made = folder / "page.html", folder / "map.svg"
+    for width in (400, 1000, 2000):
+        run(program, "draw", "--faults", "--out", made, TOWN)
+        page.write_text(f"""<!doctype html><body style="margin:0">{made.read_text()}<script>
+            const wide = document.querySelector("svg").getBoundingClientRect().width, root = document.documentElement;
+            document.body.textContent = `${{wide}} ${{root.clientWidth}} ${{root.scrollWidth}}`</script>""")
+        done = subprocess.run([browser, *HEADLESS, f"--window-size={width},800", "--dump-dom", page.as_uri()], capture_output=True, check=True, timeout=120)
+        wide, window, scrolled = map(float, re.search(rb">([\d.]+) (\d+) (\d+)", done.stdout).groups())
+        want(f"as wide as a window of {width}", (abs(wide - window) < 1, scrolled), (True, window))
     for words in (["--at", "@-40,-40", "--width", "10", COUNTY], [COUNTY], ["--faults", TOWN]):
         made, image = folder / "map.svg", folder / "shown.png"
         run(program, "draw", "--out", made, *words)
@@ -193,7 +340,7 @@ def browser():
 
 def play_all(program=PROGRAM):
     """How many pictures are as they have to be, and how many aren't."""
-    parts = [whole, part, faulty, many, escaped, refused]
+    parts = [whole, part, crossing, at_the_border, centred, seen, thirds, shortened, scales, crowded, faulty, many, escaped, refused]
     shows = browser()
     if shows:
         parts.append(lambda program, folder: shown(shows, program, folder))

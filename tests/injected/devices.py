@@ -16,6 +16,7 @@ time for the lines that faults speak of.
 """
 
 import os
+import re
 import subprocess
 import sys
 import tempfile
@@ -214,26 +215,22 @@ def play_streams(count, program, folder, runs):
     os.close(closed)
 
 
-def unread(feature):
-    """What is made of a fault whose records can't be read a second time."""
-    told = {**feature["properties"], "records": []}
-    if told["code"] in ("G3", "G4", "G5"):
-        # Where a polygon's point lies is told by its record.
-        return {**feature, "geometry": None, "properties": {**told, "at": None}}
-    return {**feature, "properties": told}
-
-
 def play_pipes(count, program, folder):
-    """Gives records through a pipe. The faults are told without the lines of their records."""
+    """Gives records through a pipe, by itself and behind a file. They are told as those of a file are, and so are the lines behind a
+    refused one."""
     made = Path(folder, MADE)
+    Path(folder, "skipped").write_text("a line that holds no record\n")
     for name in ("town", "G2", "M8", "L2"):
         file = EXAMPLES / "faults" / name
         text = file.read_bytes()
         listed = answer_to(program, folder, ["audit", "--all", file])[0]
         ask = {"cwd": folder, "input": text, "capture_output": True}
-        done = subprocess.run([program, "audit", "--all", "--where", "/dev/stdin"], **ask)
-        answer = (done.returncode, done.stdout, done.stderr)
-        count.count(answer == listed, f"{name} through a pipe: {answer}")
+        for words in (["--all", "--where"], ["--where"], ["--all", "--where", "skipped"]):
+            done = subprocess.run([program, "audit", *words, file], **ask)
+            wanted = (done.returncode, *(it.replace(bytes(file), b"/dev/stdin") for it in (done.stdout, done.stderr)))
+            done = subprocess.run([program, "audit", *words, "/dev/stdin"], **ask)
+            answer = (done.returncode, done.stdout, done.stderr)
+            count.count(answer == wanted, f"{name} through a pipe: {' '.join(words)}: {answer}, and not {wanted}")
         made.unlink(missing_ok=True)
         done = subprocess.run([program, "audit", "--all", "--geojson", MADE, "/dev/stdin"], **ask)
         answer = (done.returncode, done.stdout, done.stderr)
@@ -242,9 +239,9 @@ def play_pipes(count, program, folder):
             count.count(answer == listed and not made.exists(), f"{name} through a pipe: {answer}, or a file was made")
             continue
         told = [it for it in listed[1].decode().split("\n") if it.startswith("map fault ")]
-        features = county.drawn_faults([name], [text]).features(told)
-        wanted = [unread(it) if "code" in it["properties"] else it for it in features]
-        wrong = placed.wrong_collection(made.read_bytes() if made.exists() else b"", wanted, b"\npoints not looked at\n" in listed[1])
+        wanted = county.drawn_faults(["/dev/stdin"], [text]).features(told)
+        touched = re.search(rb"\ntouched polygons=(\d+) ", listed[1])
+        wrong = placed.wrong_collection(made.read_bytes() if made.exists() else b"", wanted, int(touched[1]) if touched else 0)
         count.count(answer == listed and not wrong, f"{name} through a pipe: {answer}: {wrong}")
 
 

@@ -11,6 +11,7 @@ and the program is killed at each of its writes. What stood under OUT has to sta
 compiler, cc, and glibc, whose write it stands before.
 """
 
+import errno
 import fcntl
 import os
 import resource
@@ -110,8 +111,11 @@ class Play:
             ("draw", ["draw", "--faults", "--out", out, "town"]),
         ]
 
+    def run(self, words, **more):
+        return subprocess.run([self.program, *words], cwd=self.folder, capture_output=True, stdin=subprocess.DEVNULL, **more)
+
     def ask(self, words, **more):
-        ran = subprocess.run([self.program, *words], cwd=self.folder, capture_output=True, stdin=subprocess.DEVNULL, **more)
+        ran = self.run(words, **more)
         return ran.returncode, ran.stdout, hints.without(ran.stderr, words, self.folder)
 
     def count(self, is_well, wrong):
@@ -252,12 +256,17 @@ class Play:
             words = dict(self.commands("/dev/stdout"))[name]
             status, printed, told = self.done[name]
             answer = self.ask(words)
-            self.count(answer == (status, self.whole[name] + printed, told), f"{name} to a pipe: {answer[0]} {answer[2]}")
+            # A certificate has its line behind it; any other file stands alone, and its line goes to the error output.
+            is_behind = KINDS[name] is CERTIFICATE
+            wanted = (status, self.whole[name] + printed, told) if is_behind else (status, self.whole[name], printed + told)
+            self.count(answer == wanted, f"{name} to a pipe: {answer[0]} {answer[2]}")
             answer = self.ask(dict(self.commands("/dev/null"))[name])
-            self.count(answer == self.done[name], f"{name} to nowhere: {answer}")
-            for out in ("none/made", ".", "/proc/made", "/dev/full"):
-                answer = self.ask(dict(self.commands(out))[name])
-                self.count(answer == DEVICE, f"{name} to {out}: {answer}")
+            wanted = self.done[name] if is_behind else (status, b"", printed + told)
+            self.count(answer == wanted, f"{name} to nowhere: {answer}")
+            for out, error in (("none/made", errno.ENOENT), (".", errno.EISDIR), ("/proc/made", errno.ENOENT), ("/dev/full", errno.ENOSPC)):
+                ran = self.run(dict(self.commands(out))[name])
+                why = f"stopped Device\n  {out}: {os.strerror(error)}\n".encode()
+                self.count((ran.returncode, ran.stdout, ran.stderr) == (4, b"", why), f"{name} to {out}: {ran}")
 
     def beside_it(self):
         """What lies where the new file is written."""
@@ -316,7 +325,8 @@ class Play:
                 printed, told = ran.communicate()
             answer = ran.returncode, printed, told
             stays = self.made.read_bytes() == b"another's" and not self.beside.exists()
-            self.count(answer == DEVICE and stays, f"{words[0]} under a name that is taken meanwhile: {answer}")
+            why = b"stopped Device\n  made: entity already exists\n"
+            self.count(answer == (4, b"", why) and stays, f"{words[0]} under a name that is taken meanwhile: {answer}")
             self.clear()
         pipe.unlink()
 

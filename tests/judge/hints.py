@@ -1,9 +1,10 @@
 """The lines that the program says behind `refused ..` and behind `stopped Device`, by the files' bytes: in which file the line
 stands, in which of its lines and columns, and what it holds there, whether the other columns of type I would take it, and what
-the file is where it holds no records; or which file can't be read, and why.
+the file is where it holds no records; or which file can't be read or made, and why.
 
 It is said here once more, by docs/records.md, and compared wherever the program is played."""
 
+import os
 import re
 from pathlib import Path
 
@@ -11,18 +12,20 @@ import placed
 from judge import Line, Refused, record_of
 
 REFUSED = re.compile(rb"refused line (\d+) L\d \w+ ?(\w+)?\n")
+# What the system, and the program's own library, says of a file that can't be made.
+WORDS = {os.strerror(it) for it in range(1, 134)} | {"entity already exists", "operation would block"}
 # The options that have a value, and that of them which names a certificate that is read.
-VALUED = {"--cert", "--out", "--tests", "--most", "--at", "--width", "--geojson"}
+VALUED = {"--cert", "--out", "--tests", "--most", "--at", "--width", "--geojson", "--layer"}
 
 
 class Asked:
-    """What words ask for: the command, its switches, and the names of the files that are read, a certificate behind the
-    records."""
+    """What words ask for: the command, its switches, the names of the files that are read, a certificate behind the records, and
+    that of the file that is made."""
 
     def __init__(self, words):
         words = [it.decode(errors="surrogateescape") if isinstance(it, bytes) else str(it) for it in words]
         self.command, *rest = words or [""]
-        self.switches, self.names, cert = set(), [], []
+        self.switches, self.names, cert, self.made = set(), [], [], None
         while rest:
             word, *rest = rest
             if word == "--":
@@ -33,6 +36,7 @@ class Asked:
                 if not equals and rest:
                     value, *rest = rest
                 cert += [value] if option == "--cert" else []
+                self.made = value if option in ("--out", "--geojson") else self.made
             elif word.startswith("-") and word != "-":
                 self.switches.add(word)
             else:
@@ -40,6 +44,7 @@ class Asked:
         if self.command == "locate":
             self.names = self.names[1:]
         if self.command == "convert":
+            self.made = self.names[-1]
             self.names = self.names[:1]
         self.all_names = self.names + cert
 
@@ -88,6 +93,13 @@ def of_trouble(folder, names):
     return b""
 
 
+def is_of_obstacle(rest, words):
+    """It is said of the file that is made why it can't be."""
+    made = Asked(words).made
+    head, tail = b"  " + placed.shown_name(made or "") + b": ", b"\n"
+    return made is not None and rest.startswith(head) and rest.endswith(tail) and rest[len(head) : -1].decode() in WORDS
+
+
 def wanted(told, words, folder):
     """What has to stand behind the first line that was told on standard error."""
     asked = Asked(words)
@@ -112,4 +124,5 @@ def without(told, words, folder, is_due=False):
     due = wanted(first, words, folder)
     if is_due and due and not rest and all(Path(folder, it).is_file() for it in Asked(words).all_names):
         return told + b"and no hint\n"
-    return first if rest == due else told
+    is_made_so = first == b"stopped Device\n" and is_of_obstacle(rest, words)
+    return first if rest == due or is_made_so else told

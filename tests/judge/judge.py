@@ -698,17 +698,23 @@ def chains_through(the_map, point):
     return [the_map.chains[number].tlid for number in numbers]
 
 
-def point_faults(the_map):
-    """Each fault of where the points of polygons lie."""
+def touched_polygons(the_map):
+    """The polygons that sides at odds name: what is on the left of a dart, or on the right of the next one."""
+    pairs = [(the_map.left(first), the_map.right(second)) for first, second in the_map.next_pairs]
+    return {side for pair in pairs if pair[0] != pair[1] for side in pair if side is not None}
+
+
+def point_faults(the_map, left_out=()):
+    """Each fault of where the points of polygons lie, but that one lies outside of a polygon that is left out, or in one."""
     faults = []
     for polygon in the_map.polygons:
         crossed = crossed_sides(the_map, polygon.point)
         on = chains_through(the_map, polygon.point)
         faults += [f"map fault G3 PointOnChain polygon {polygon.key} tlid {tlid}" for tlid in on]
-        if count(crossed, [polygon.key]) != 1:
+        if polygon.key not in left_out and count(crossed, [polygon.key]) != 1:
             faults.append(f"map fault G4 PointOutside polygon {polygon.key}")
         for other in the_map.polygons:
-            if other.key != polygon.key and count(crossed, [other.key]) != 0:
+            if other.key != polygon.key and other.key not in left_out and count(crossed, [other.key]) != 0:
                 faults.append(f"map fault G5 PointInOther polygon {polygon.key} other {other.key}")
     return faults
 
@@ -951,13 +957,13 @@ class Opinion:
 @dataclass
 class Listing:
     """What `audit --all` prints of a county that has faults, or lines that are refused: all of them in their order, or
-    with `most` so many at most; whether polygons' points weren't looked at; and how many there are, unless nothing is
+    with `most` so many at most; how many polygons sides at odds name; and how many faults there are, unless nothing is
     counted. The line of two segments that meet where they may not may name any point that is true of them."""
 
     faults: list
     counted: str | None
     most: int | None = None
-    points_left: bool = False
+    touched: int = 0
     the_map: Map | None = None
 
     @property
@@ -970,7 +976,7 @@ class Listing:
         if self.counted is None:
             return printed
         count = f"{self.counted}={len(self.faults)}" + (f" printed={len(printed)}" if self.most is not None else "")
-        return [*printed, *(["points not looked at"] if self.points_left else []), count]
+        return [*printed, *([f"touched polygons={self.touched} not looked at"] if self.touched else []), count]
 
     @property
     def answers(self):
@@ -1080,22 +1086,22 @@ class County:
         return Opinion([f"{word} {self.report}"] if self.report else self.map_faults, self.map)
 
     def audit_all(self, most=None):
-        """All lines that are refused; or all faults of the records; or all of the map, where polygons' points are
-        looked at if sides agree."""
+        """All lines that are refused; or all faults of the records; or all of the map, but what is wrong with points by the sides that
+        name a polygon which sides at odds name."""
         if self.records.refusals:
             return Listing(self.records.refusals, "refused", most)
         if self.record_faults:
             return Listing(self.record_faults, "faults", most)
-        points = [] if self.side_faults else self.point_faults
-        faults = self.meets + self.side_faults + listed_cell_faults(self.map) + points
-        return Listing(faults, "faults", most, bool(self.side_faults), self.map) if faults else self.audit()
+        touched = touched_polygons(self.map)
+        faults = self.meets + self.side_faults + listed_cell_faults(self.map) + point_faults(self.map, touched)
+        return Listing(faults, "faults", most, len(touched), self.map) if faults else self.audit()
 
     def audit_first(self):
         """The first line of that list and no count, where more than a fault's line is asked for; a refused line as ever."""
         listing = self.audit_all()
         if self.records.refusals or isinstance(listing, Opinion):
             return self.audit()
-        return replace(listing, faults=listing.faults[:1], counted=None, points_left=False)
+        return replace(listing, faults=listing.faults[:1], counted=None, touched=0)
 
     def drawn_faults(self, names, texts):
         """The faults with the lines of their records in files of these names and texts, and with the map, where there is one; or the

@@ -182,8 +182,8 @@ def placed_complaints(table, chance, county, faults, listed, wrong, words):
         if made != stood:
             yield f"{' '.join(asked)}: a line is refused, and a file was made or changed"
         return
-    points_left = getattr(county.audit_all(), "points_left", False)
-    complaint = placed.wrong_collection(made or b"", faults.features(listed if is_all else listed[:1]), points_left)
+    touched = getattr(county.audit_all(), "touched", 0)
+    complaint = placed.wrong_collection(made or b"", faults.features(listed if is_all else listed[:1]), touched)
     if complaint:
         yield f"{' '.join(asked)}: {complaint}"
 

@@ -13,12 +13,12 @@ from functools import cached_property
 
 from layout import COLUMNS
 
-LEFT_CLOSING = '],"points":"not looked at"}'
+TOUCHED_CLOSING = '],"touched":%d}'
 OPENING = '{"type":"FeatureCollection","name":"tigertopo","features":['
 # Of each fault that names chains the types of the records of these that it speaks of.
 OF_CHAIN = {
     **{"M1": "1", "M2": "2", "M3": "2", "M4": "2", "M5": "1", "M6": "I", "M7": "I", "M9": "I", "M12": "12"},
-    **{"G1": "12", "G2": "I", "G3": "12", "G6": "I", "G7": "I"},
+    **{"G2": "I", "G3": "12", "G6": "I", "G7": "I"},
 }
 # The faults that speak of the type P records of the polygons that they name.
 OF_POLYGON = ("M8", "G3", "G4", "G5")
@@ -27,7 +27,8 @@ OF_POLYGON = ("M8", "G3", "G4", "G5")
 @dataclass(frozen=True)
 class Line:
     """A record's line: its file and its number there, its type, and what it is of: a TLID, the bytes of a CENID with a
-    POLYID, a LAND; and of a type P record its point."""
+    POLYID, a LAND; of a type P record its point; and of types 1 and 2 the points of the chain that it holds, by what each is called,
+    with the RTSQ."""
 
     file: str
     number: int
@@ -36,6 +37,8 @@ class Line:
     polygon: tuple | None = None
     land: int | None = None
     point: tuple | None = None
+    rtsq: int = 0
+    held: tuple = ()
 
     @property
     def key(self):
@@ -65,7 +68,14 @@ def line_of(file, number, raw, released):
     polygon = (field("CENID"), int(field("POLYID"))) if kind in ("P", "8") else None
     land = int(field("LAND")) if kind in ("7", "8") else None
     point = (int(field("POLYLONG")), int(field("POLYLAT"))) if kind == "P" else None
-    return Line(file, number, kind, tlid, polygon, land, point)
+    rtsq = int(field("RTSQ")) if kind == "2" else 0
+    held = ()
+    if kind == "1":
+        held = tuple((end, (int(field(f"{side}LONG")), int(field(f"{side}LAT")))) for end, side in (("start", "FR"), ("end", "TO")))
+    if kind == "2":
+        pairs = [(k, (field(f"LONG{k}").strip(), field(f"LAT{k}").strip())) for k in range(1, 11)]
+        held = tuple((k, (int(x), int(y))) for k, (x, y) in pairs if x and y and (int(x), int(y)) != (0, 0))
+    return Line(file, number, kind, tlid, polygon, land, point, rtsq, held)
 
 
 def shown(data):
@@ -116,6 +126,42 @@ def lines_of(names, texts, released=False):
     return [it for it in found if it is not None]
 
 
+@dataclass(frozen=True)
+class Spoken:
+    """A record's line as a fault speaks of it: with the ends that it holds of a segment, and the segment's number within its chain."""
+
+    line: Line
+    segment: int | None = None
+    ends: tuple = ()
+
+    @property
+    def told(self):
+        """What is printed of it before the place."""
+        if self.segment is None:
+            return self.line.told
+        pairs = [it for it in self.ends if it not in ("start", "end")]
+        ends = " and ".join(map(str, self.ends))
+        ends = f"pair{'s' * (len(pairs) > 1)} {ends}" if pairs else ends
+        return f"{self.line.told}, {ends}, segment {self.segment} of its chain"
+
+    @property
+    def made(self):
+        """What stands of it in a file of faults."""
+        more = {} if self.segment is None else {"segment": self.segment, "ends": list(self.ends)}
+        return {"file": self.line.file, "line": self.line.number, "type": self.line.kind, **more}
+
+
+def of_segment(lines, tlid, segment):
+    """The lines that hold the ends of the chain's segment with this number, counted from 0, with these ends: in the order of the files."""
+    of_chain = [it for it in lines if it.kind in "12" and it.tlid == tlid]
+    ends = [(it, *held) for it in of_chain if it.kind == "1" for held in it.held]
+    shapes = sorted((it for it in of_chain if it.kind == "2"), key=lambda it: it.rtsq)
+    points = [ends[0], *[(it, *held) for it in shapes for held in it.held], ends[1]]
+    joined = [it for it in zip(points, points[1:]) if it[0][2] != it[1][2]][segment]
+    found = sorted({(it[0].file, it[0].number): it[0] for it in joined}.values(), key=lambda line: lines.index(line))
+    return [Spoken(line, segment, tuple(end for at, end, _ in joined if at == line)) for line in found]
+
+
 def degrees(value, places):
     """A coordinate in millionths of a degree in degrees with so many places, rounded to the nearest, half away from zero."""
     units = (2 * abs(Fraction(value)) * 10 ** (places - 6) + 1) // 2
@@ -131,13 +177,15 @@ class Fault:
         self.told = told.removeprefix("map fault ")
         self.code, self.name, *words = self.told.split(" ")
         self.tlids, self.keys, self.lands, self.at = [], [], [], None
-        self.lines, darts = lines, []
+        self.lines, self.the_map, self.segments, darts = lines, the_map, [], []
         while words:
             word = words.pop(0)
             if word == "tlid":
                 self.tlids.append(int(words.pop(0)))
             elif word in ("polygon", "other"):
                 self.keys.append(words.pop(0))
+            elif word == "segment":
+                self.segments.append((self.tlids[-1], int(words.pop(0))))
             elif word == "land":
                 self.lands.append(int(words.pop(0)))
             elif word == "darts":
@@ -150,11 +198,15 @@ class Fault:
         if self.code == "G6":
             self.at = (*the_map.start(darts[0]), 1)
         if self.code in ("G3", "G4", "G5"):
-            self.at = (*next(it.point for it in self.records), 1)
+            self.at = (*next(it.line.point for it in self.records), 1)
 
     @cached_property
     def records(self):
         """The lines of the records that it speaks of."""
+        if self.code == "G1":
+            chains = self.the_map.chains
+            before = {it.tlid: sum(len(earlier.points) - 1 for earlier in chains[:place]) for place, it in enumerate(chains)}
+            return [it for tlid, number in self.segments for it in of_segment(self.lines, tlid, number - before[tlid])]
         keys = self.keys if self.code in OF_POLYGON else []
         found = [it for key in keys for it in self.lines if it.kind == "P" and it.key == key]
         kinds = OF_CHAIN.get(self.code, "")
@@ -164,7 +216,7 @@ class Fault:
             found += links
         if self.code == "M11":
             found += [it for it in links if it.key in self.keys]
-        return found
+        return list(map(Spoken, found))
 
     def place(self, places):
         """Its longitude and its latitude in degrees with so many places."""
@@ -195,7 +247,7 @@ class Fault:
             "tlids": self.tlids,
             "polygons": self.keys,
             "landmarks": self.lands,
-            "records": [{"file": it.file, "line": it.number, "type": it.kind} for it in self.records],
+            "records": [it.made for it in self.records],
         }
         return {"type": "Feature", "geometry": point, "properties": told}
 
@@ -245,15 +297,15 @@ def chain_feature(chain):
     return {"type": "Feature", "geometry": line, "properties": {"tlid": chain.tlid, **sides}}
 
 
-def features_in(text, points_left):
-    """The features of a collection, each of which stands on a line of its own; at its end it is said if polygons' points weren't looked
-    at. A ValueError says that it isn't laid out so."""
+def features_in(text, touched):
+    """The features of a collection, each of which stands on a line of its own; at its end it is said how many polygons sides at
+    odds name. A ValueError says that it isn't laid out so."""
     first, *lines = text.split("\n")
-    if first != OPENING or lines[-2:] != [LEFT_CLOSING if points_left else "]}", ""]:
+    if first != OPENING or lines[-2:] != [TOUCHED_CLOSING % touched if touched else "]}", ""]:
         raise ValueError(f"it begins with {first[:80]} and ends with {lines[-2:]}")
     each = lines[:-2]
     whole = json.loads(text, parse_float=Fraction)
-    if set(whole) != {"type", "name", "features"} | ({"points"} if points_left else set()):
+    if set(whole) != {"type", "name", "features"} | ({"touched"} if touched else set()):
         raise ValueError(f"it has {list(whole)}")
     alone = [json.loads(it.removesuffix(","), parse_float=Fraction) for it in each]
     if alone != whole["features"] or any(not it.endswith("},") for it in each[:-1]):
@@ -261,11 +313,11 @@ def features_in(text, points_left):
     return alone
 
 
-def wrong_collection(made, wanted, points_left=False):
-    """What is wrong with the bytes of a collection that has to have these features, and to say whether polygons' points weren't looked
-    at, or None."""
+def wrong_collection(made, wanted, touched=0):
+    """What is wrong with the bytes of a collection that has to have these features, and to say how many polygons sides at odds name,
+    or None."""
     try:
-        found = features_in(made.decode(), points_left)
+        found = features_in(made.decode(), touched)
     except ValueError as error:
         return f"no such collection: {error}"
     for place, (one, other) in enumerate(zip(found, wanted)):

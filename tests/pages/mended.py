@@ -22,12 +22,16 @@ OPTIONS = ["--all", "--where", "--faces", "--zero-cells"]
 ROUNDS = [
     ("lines", {"L1", "L2", "L3", "L4"}),
     ("records", {f"M{k}" for k in range(1, 13)}),
-    ("chains and sides", {"G1", "G2", "G6"}),
-    ("points", {"G3", "G4", "G5"}),
+    ("the map", {"G1", "G2", "G3", "G4", "G5", "G6"}),
+    ("touched polygons", {"touched G4"}),
     ("faces", {"G7"}),
 ]
-# The step at which a code is told.
+# The step at which a code is told; that of a polygon that sides at odds name when they don't any more.
 STEP = {code: step for step, (_, codes) in enumerate(ROUNDS) for code in codes}
+
+
+def code_of(broken):
+    return broken.split()[-1]
 
 
 class Line:
@@ -180,6 +184,9 @@ def break_map(county):
     for code, column, x, y in [("G3", 5, SIDE * 5 + 50, at), ("G4", 6, SIDE * 3 + 20, SIDE * 2 + 20), ("G4", 7, -50, -50), ("G5", 4, SIDE + 10, at + 20)]:
         key = square(column, 7)
         county.wrong(code, county.find("RTP", f"polygon {key}"), f"point {key} {x},{y}")
+    # Sides at odds name this polygon.
+    key = square(3, 6)
+    county.wrong("touched G4", county.find("RTP", f"polygon {key}"), f"point {key} -50,-60")
     elsewhere = square(6, 7)
     sides = county.find("RTI", f"tlid {county.street}")
     county.wrong("G7", sides, f"sides {county.street} {elsewhere} {elsewhere} TZIDS=997 TZIDE=996")
@@ -220,14 +227,14 @@ def wrong_round(county, step, faults):
     found = set()
     for code, names, places in faults:
         named = lines_named(county, names, places) & broken
-        if code not in codes:
+        if code not in map(code_of, codes):
             return f"{name}: {code} is told"
         if not named:
             return f"{name}: {code} of {sorted(names)} names no line that is broken"
         found |= named
     if found != broken:
         return f"{name}: nothing is told of {[it.about for it in broken - found]}"
-    lacking = {it.broken for it in broken} - {code for code, _, _ in faults}
+    lacking = {code_of(it.broken) for it in broken} - {code for code, _, _ in faults}
     return f"{name}: no {sorted(lacking)} is told" if lacking else None
 
 

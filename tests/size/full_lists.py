@@ -90,7 +90,7 @@ def play_list(plays, name, made, switches=()):
     plays.file(name, text)
     status = 3 if word == "refused" else 1
     count = wanted if isinstance(wanted, int) else len(wanted)
-    left = "points not looked at\n" if name == "streets of two sides" else ""
+    left = "touched polygons=1 not looked at\n" if name == "streets of two sides" else ""
     audited = lambda title, words, lines, tail: plays.ends(f"{name}, {title}", ["--all", *switches, *words, name], status, lines, tail)
     audited("all", [], wanted, f"{left}{word}={count}\n")
     audited("none printed", ["--most", "0"], [], f"{left}{word}={count} printed=0\n")

@@ -33,11 +33,8 @@ POLYGON_LIMIT = 1_048_576
 LANDMARK_LIMIT = 1_048_576
 SEGMENT_LIMIT = 16_777_216
 LINE_LIMIT = 67_108_864
-# How many strokes a picture is to have at most, by leaving out small chains, how many of them behind each that is shown, and how
-# many bytes it may have.
-STROKES = 300_000
-SKIPS = [0, 1, 2, 3, 4, 5, 6, 7, 9, 12, 16, 24, 32, 64, 128, 256]
-PICTURE_LIMIT = 6_000_000
+# How many bytes a picture may have.
+PICTURE_LIMIT = 24 * 1_048_576
 # Rows of tests/rows/check.rows: a tree of depth 64, and one of depth 65.
 TREES = ["a tree as deep as may be", "a tree that is too deep"]
 
@@ -225,7 +222,7 @@ def play_checks(plays):
     plays.decide("two streets that meet", touched, 1, "", f"map fault G1 Meet {meet}\n")
     # Each street has two lines.
     at = ",".join(placed.degrees(it, 6) for it in (x, y))
-    lines = [f"  {touched} line {2 * k - 1}, type 1, tlid {k}, at {at}\n" for k in (CHAIN_LIMIT - 1, CHAIN_LIMIT)]
+    lines = [f"  {touched} line {2 * k - 1}, type 1, tlid {k}, start and end, segment 0 of its chain, at {at}\n" for k in (CHAIN_LIMIT - 1, CHAIN_LIMIT)]
     told = f"map fault G1 Meet {meet}\n{''.join(lines)}"
     plays.play("two streets that meet, and where", ["--where", touched], 1, told, command="audit")
     plays.play("two streets that meet, and where, by a list", ["--all", "--where", touched], 1, f"{told}faults=1\n", command="audit")
@@ -261,23 +258,6 @@ def play_path(plays):
     checked("a round that falls", ["--cert", plays.file("falling", falling), path], 2, fault)
 
 
-def drawn_of(count):
-    """How many chains a picture shows of a map of so many by so many squares: 980 pixels are as long as its side, and where
-    there are too many chains that can be seen, only one in so many of those is shown that are small."""
-    at = [9_800 * k // count for k in range(count + 1)]
-    length = [after - before for before, after in zip(at, at[1:])]
-    lengths = []
-    for row in range(count + 1):
-        for column in range(count + 1):
-            lengths += length[column : column + 1]
-            lengths += length[count - row - 1 : count - row] if row < count else []
-    for skipped in SKIPS:
-        shown = sum(it > 3 * (skipped + 1) or it > 3 and k % (skipped + 1) == 0 for k, it in enumerate(lengths))
-        if shown <= STROKES:
-            return shown
-    return None
-
-
 def play_squares(plays):
     """Answers to as many squares as fit the limit of chains: each of the most polygons that share their chains has its point."""
     across = next(k for k in range(1, CHAIN_LIMIT) if 2 * (k + 1) * (k + 2) > CHAIN_LIMIT)
@@ -287,7 +267,8 @@ def play_squares(plays):
     exported = f"exported chains={2 * across * (across + 1)} polygons={across**2} rings={across**2}\n"
     plays.play("the most squares, exported", ["--geojson", made.name, squares], 0, exported, command="export")
     made.unlink(missing_ok=True)
-    plays.play("the most squares, drawn", ["--out", made.name, squares], 0, f"drawn chains={drawn_of(across)}\n", command="draw")
+    # Each side of a square is longer than a third of a pixel, so all are drawn.
+    plays.play("the most squares, drawn", ["--out", made.name, squares], 0, f"drawn chains={2 * across * (across + 1)}\n", command="draw")
     plays.count(made.exists() and made.stat().st_size < PICTURE_LIMIT, "a picture of the most squares is too large")
     made.unlink(missing_ok=True)
     # The last square's point lies west of all squares.

@@ -13,7 +13,7 @@ use tl_record::MeterOut;
 fn main(rt: HostRuntime) -> ExitCode {
     let mut out = MeterOut::new(rt.stdout());
     let mut err = MeterOut::new(rt.stderr());
-    let mut files = SystemFiles::new(&rt, rt.stderr().is_terminal());
+    let mut files = SystemFiles::new(&rt, rt.alloc(), rt.stderr().is_terminal());
     let words = words_of(&rt, rt.alloc());
     let status = answer(
         &Whole,

@@ -1,5 +1,5 @@
 -- What becomes of commands.
-use Rattle.std.proofs.Common.{◌≡◌, ℕ, Bool, true, false, List, map, Option, Some, None, Result, Ok, Err, refl, sym, subst}
+use Rattle.std.proofs.Common.{◌≡◌, ◌⊎◌, inl, inr, ℕ, Bool, true, false, List, map, Option, Some, None, Result, Ok, Err, refl, sym, subst}
 use Rattle.std.specs.Prelude.{string_bytes, option_map, String, OnOk, is_err}
 use Rattle.std.specs.Global.{Global}
 use Rattle.tl_cert_output.specs.declared.stop.Stop.{Stop}
@@ -21,7 +21,7 @@ use Rattle.tigertopo_outcome.specs.Answers.{IsSaid}
 use Rattle.tigertopo_command.specs.Commands.{PlainAnswers, PlainStops, IsPlain, is_plain, names_with, names_read, inputs_with, kind_of}
 use Rattle.tigertopo_outcome.specs.Telling.{Tells}
 use Rattle.tigertopo_command.specs.declared.run.Outcome.{Outcome}
-use Rattle.tigertopo_command.specs.Running.{IsRoomWith, Streams, Terms, IsTold, Answered, stop_in, told_of}
+use Rattle.tigertopo_command.specs.Running.{IsRoomWith, Streams, Terms, TellsOn, IsTold, IsToldAside, IsUnknown, Answered, stop_in, told_of}
 
 -- what a command does, by what it asks
 pub by_asked : (command : Command) (asked : Asked) → command.asked ≡ asked → (w : World) (r : Result (Answer Said) Stop)
@@ -48,7 +48,7 @@ may_make (Audit told places (Some name)) names under room = room
 may_make (Build made) names under room = room
 may_make (Check cert budget) names under room = tt
 may_make (Convert cert made) names under room = room
-may_make (Export made) names under room = room
+may_make (Export made layer) names under room = room
 may_make (Draw made view faults) names under room = room
 
 -- a file that may not be made has a name
@@ -69,7 +69,7 @@ is_one (Audit (All most) places made) test = absurd (cc)
 is_one (Build made) test = tt
 is_one (Check cert budget) test = tt
 is_one (Convert cert made) test = tt
-is_one (Export made) test = absurd (cc)
+is_one (Export made layer) test = absurd (cc)
 is_one (Draw made view faults) test = absurd (cc)
 
 pub is_none : (asked : Asked) → is_plain asked ≡ false → ¬ IsPlain asked
@@ -83,7 +83,7 @@ is_none (Audit (All most) places made) test = λ no. no
 is_none (Build made) test = absurd (cc)
 is_none (Check cert budget) test = absurd (cc)
 is_none (Convert cert made) test = absurd (cc)
-is_none (Export made) test = λ no. no
+is_none (Export made layer) test = λ no. no
 is_none (Draw made view faults) test = λ no. no
 
 -- ---- what is told
@@ -106,14 +106,24 @@ tells_so : {T : Type 0} (text_of : T → List ℕ) (s : Streams) (outcome : Outc
 tells_so text_of s outcome (Ok a) tells is = (tells, is)
 tells_so text_of s outcome (Err stop) tells is = (tells, is)
 
+-- so it is where the answer was told on the error output
+aside_so : {T : Type 0} (text_of : T → List ℕ) (s : Streams) (outcome : Outcome) (r : Result (Answer T) Stop) → TellsOn true text_of s.out s.err outcome.status r → outcome.stop ≡ stop_in r → IsToldAside s outcome (told_of text_of r)
+aside_so text_of s outcome (Ok a) tells is = (tells.0, tells.1, is)
+aside_so text_of s outcome (Err stop) tells is = ((tells.1.0, tells.1.1, tells.0), is)
+
+told_on : {T : Type 0} (text_of : T → List ℕ) (under : Under) (command : Command) (s : Streams) (outcome : Outcome) (r : Result (Answer T) Stop) (aside : Bool) → (aside ≡ true → IsUnknown under command)
+    → TellsOn aside text_of s.out s.err outcome.status r → outcome.stop ≡ stop_in r → IsTold s outcome (told_of text_of r) ⊎ (IsUnknown under command × IsToldAside s outcome (told_of text_of r))
+told_on text_of under command s outcome r false unknown tells is = inl (tells_so text_of s outcome r tells is)
+told_on text_of under command s outcome r true unknown tells is = inr (unknown refl, aside_so text_of s outcome r tells is)
+
 -- the answer to a command was told
 pub answered : {T : Type 0} (t : Terms) (command : Command) (w : World) (s : Streams) (outcome : Outcome) (P : Answer T → Type 0) (text_of : T → List ℕ) (r : Result (Answer T) Stop)
-    → Does w (names_read command) (made_of command.asked) P t.stops r → ((a : Answer T) → P a → t.answers a.status (text_of a.text)) → Tells text_of s.out s.err outcome.status r → outcome.stop ≡ stop_in r
-    → MayMake w.before (made_of command.asked) (names_read command) (kind_of command.asked) → Answered t command w s outcome
-answered t command w s outcome P text_of r does so tells is free = record {
+    → Does w (names_read command) (made_of command.asked) P t.stops r → ((a : Answer T) → P a → t.answers a.status (text_of a.text)) → (aside : Bool) → (aside ≡ true → IsUnknown w.before command)
+    → TellsOn aside text_of s.out s.err outcome.status r → outcome.stop ≡ stop_in r → MayMake w.before (made_of command.asked) (names_read command) (kind_of command.asked) → Answered t command w s outcome
+answered t command w s outcome P text_of r does so aside unknown tells is free = record {
   result = told_of text_of r;
   does = does_told w (names_read command) (made_of command.asked) P t.answers t.stops text_of r does so;
-  told = tells_so text_of s outcome r tells is;
+  told = told_on text_of w.before command s outcome r aside unknown tells is;
   free = free;
 }
 

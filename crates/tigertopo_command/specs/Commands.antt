@@ -36,7 +36,7 @@ inputs_of command = inputs_with command.asked (map string_bytes command.files.it
 -- the kind of the file that is made, where one is
 abbrev pub kind_of : Asked → FileKind
 kind_of (Audit told places made) = Collection
-kind_of (Export made) = Collection
+kind_of (Export made layer) = Collection
 kind_of (Draw made view faults) = Picture
 kind_of other = Certificate
 
@@ -62,7 +62,7 @@ PlainStops other options names w = StopsRecords (layout_with options) (text_unde
 abbrev pub IsPlain : Asked → Type 0
 IsPlain (Audit One false None) = ⊤
 IsPlain (Audit told places made) = ⊥
-IsPlain (Export made) = ⊥
+IsPlain (Export made layer) = ⊥
 IsPlain (Draw made view faults) = ⊥
 IsPlain other = ⊤
 
@@ -70,6 +70,6 @@ IsPlain other = ⊤
 abbrev pub is_plain : Asked → Bool
 is_plain (Audit One false None) = true
 is_plain (Audit told places made) = false
-is_plain (Export made) = false
+is_plain (Export made layer) = false
 is_plain (Draw made view faults) = false
 is_plain other = true

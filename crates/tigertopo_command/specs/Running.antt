@@ -1,5 +1,5 @@
 -- What becomes of a command: what is told, with which status, and what is done with files.
-use Rattle.std.specs.Prelude.{◌≡◌, ◌⊎◌, ℕ, ◌-◌, Bool, true, List, length, Option, Some, None, Result, Ok, Err, codes, option_map, slice_get, string_bytes}
+use Rattle.std.specs.Prelude.{◌≡◌, ◌⊎◌, ℕ, ◌-◌, Bool, true, false, List, length, Option, Some, None, Result, Ok, Err, codes, option_map, slice_get, string_bytes}
 use Rattle.tl_cert_output.specs.declared.stop.Stop.{Stop}
 use Rattle.tl_cert_output.specs.Stops.{StopsFor}
 use Rattle.tl_cert_output.specs.Writing.{line_of}
@@ -13,7 +13,9 @@ use Rattle.tigertopo_files.specs.Log.{Log}
 use Rattle.tigertopo_files.specs.World.{World, Does, MayMake}
 use Rattle.tigertopo_outcome.specs.declared.said.Answer.{Answer}
 use Rattle.tl_cert_output.specs.Streams.{Stream, Tries}
-use Rattle.tigertopo_outcome.specs.Telling.{TellsText, TellsStop}
+use Rattle.tigertopo_outcome.specs.Telling.{Tells, TellsText, TellsStop}
+use Rattle.tigertopo_outcome.specs.Outcomes.{stop_status}
+use Rattle.tl_cert_output.specs.Stops.{stop_text}
 use Rattle.tigertopo_outcome.specs.Rooms.{RefusesName}
 use Rattle.tigertopo_command.specs.declared.run.Outcome.{Outcome}
 use Rattle.tigertopo_command.specs.Commands.{names_read, inputs_of, kind_of}
@@ -46,16 +48,38 @@ abbrev pub told_of : {T : Type 0} → (T → List ℕ) → Result (Answer T) Sto
 told_of text_of (Ok answer) = Ok (answer.status, text_of answer.text)
 told_of text_of (Err stop) = Err stop
 
+-- it isn't known what stands under the name of the file that is made
+abbrev pub IsUnknown : Under → Command → Type 0
+IsUnknown under command = (name : List ℕ) × (made_of command.asked ≡ Some name) × (under name ≡ None)
+
+-- an answer was told on the error output, with its status, or a write of it failed; or why there is none was told
+abbrev pub TellsAside : {T : Type 0} → (text_of : T → List ℕ) → (err : Stream) → ℕ → Result (Answer T) Stop → Type 0
+TellsAside text_of err status (Ok answer) =
+    ((status ≡ answer.status) × err.wrote (text_of answer.text)) ⊎ ((status ≡ 4) × (err.part (text_of answer.text) ⊎ err.same))
+TellsAside text_of err status (Err stop) = (status ≡ stop_status stop) × Tries err (line_of (stop_text stop))
+
+-- it was told so, or on both outputs
+abbrev pub TellsOn : {T : Type 0} → (aside : Bool) → (text_of : T → List ℕ) → (out err : Stream) → ℕ → Result (Answer T) Stop → Type 0
+TellsOn true text_of out err status answer = out.same × TellsAside text_of err status answer
+TellsOn false text_of out err status answer = Tells text_of out err status answer
+
 -- an answer was told, its text with its status, or why there is none; and that is told to whoever may help
 abbrev pub IsTold : Streams → Outcome → Result (ℕ × List ℕ) Stop → Type 0
 IsTold s outcome (Ok answer) = TellsText s.out s.err outcome.status answer.0 answer.1 × (outcome.stop ≡ None)
 IsTold s outcome (Err stop) = TellsStop s.out s.err outcome.status stop × (outcome.stop ≡ Some stop)
 
--- the files of a command were read and made, and what came of it was told
+-- the same where the answer was told on the error output
+abbrev pub IsToldAside : Streams → Outcome → Result (ℕ × List ℕ) Stop → Type 0
+IsToldAside s outcome (Ok answer) =
+    s.out.same × (((outcome.status ≡ answer.0) × s.err.wrote answer.1) ⊎ ((outcome.status ≡ 4) × (s.err.part answer.1 ⊎ s.err.same)))
+    × (outcome.stop ≡ None)
+IsToldAside s outcome (Err stop) = IsTold s outcome (Err stop)
+
+-- the files of a command were read and made, and what came of it was told: on the error output only where what is made may be no file
 pub record Answered (t : Terms) (command : Command) (w : World) (s : Streams) (outcome : Outcome) : Type 0 where
   pub result : Result (ℕ × List ℕ) Stop
   pub does : Does w (names_read command) (made_of command.asked) (λ answer. t.answers answer.0 answer.1) t.stops result
-  pub told : IsTold s outcome result
+  pub told : IsTold s outcome result ⊎ (IsUnknown w.before command × IsToldAside s outcome result)
   pub free : MayMake w.before (made_of command.asked) (names_read command) (kind_of command.asked)
 
 -- what is said of a command that a program doesn't have
@@ -95,10 +119,6 @@ pub record Refused (command : Command) (w : World) (s : Streams) (outcome : Outc
   pub refuses : RefusesName s.out s.err outcome.status (kind_of command.asked) (IsRoom w.before name (inputs_of command) (kind_of command.asked))
   pub none : outcome.stop ≡ None
   pub untouched : Untouched w
-
--- it isn't known what stands under the name of the file that is made
-abbrev pub IsUnknown : Under → Command → Type 0
-IsUnknown under command = (name : List ℕ) × (made_of command.asked ≡ Some name) × (under name ≡ None)
 
 -- nothing was begun: memory was refused, or it can't be told whether the file may be made; that was told
 pub record Unbegun (command : Command) (w : World) (s : Streams) (outcome : Outcome) : Type 0 where

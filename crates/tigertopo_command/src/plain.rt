@@ -46,7 +46,7 @@ impl Program for Plain {
     ) -> Outcome {
         if is_plain(&command.asked) {
             let answer = answer(files, alloc, hasher, command);
-            tell_answer(alloc, answer, out, err)
+            tell_answer(alloc, answer, false, out, err)
         } else {
             say_not_here(err)
         }

@@ -9,9 +9,8 @@ ghost use Rattle.tl_cert_output.specs.Stops.{stop_text};
 ghost use Rattle.tl_cert_output.specs.Writing.{line_of};
 ghost use Rattle.tigertopo_outcome.specs.Outcomes.{stop_status};
 ghost use Rattle.tl_cert_output.specs.Streams.{Tries, stream};
-ghost use Rattle.tigertopo_outcome.specs.Telling.{Tells};
 ghost use Rattle.tigertopo_command.specs.Commands.{names_read, kind_of};
-ghost use Rattle.tigertopo_command.specs.Running.{Performs, Runs, stop_in, streams, terms, last_of, watched};
+ghost use Rattle.tigertopo_command.specs.Running.{IsUnknown, Performs, Runs, TellsAside, TellsOn, stop_in, streams, terms, last_of, watched};
 
 use crate::room::{kind_of, room_of};
 use std::alloc::{AllocError, Global};
@@ -19,7 +18,7 @@ use std::hash::RandomState;
 use tigertopo_files::{FileSystem, Room};
 use tigertopo_outcome::room::say_refusal;
 use tigertopo_outcome::said::Answer;
-use tigertopo_outcome::stop::stopped;
+use tigertopo_outcome::stop::{STOPPED, stopped};
 use tigertopo_outcome::telling::tell;
 use tigertopo_words::Command;
 use tl_cert_output::{Stop, Text};
@@ -101,24 +100,53 @@ fn stop_by<E: Sink>(stop: Stop, err: &mut E) -> Outcome
     }
 }
 
-/// Tells an answer, or why there is none.
+/// Tells an answer, or why there is none; an answer on the error output where `aside` says so.
 pub fn tell_answer<T: Text + Drop, W: Sink, E: Sink>(
     alloc: Global,
     answer: Result<Answer<T>, Stop>,
+    aside: bool,
     out: &mut W,
     err: &mut E,
 ) -> Outcome
     requires { IfOk answer (λ answer. T.is_ready answer.text) }
-    ensures told { Tells T.text (stream W.contents W.failure_count out.old out.new)
+    ensures told { TellsOn aside T.text (stream W.contents W.failure_count out.old out.new)
         (stream E.contents E.failure_count err.old err.new) result.status answer }
     ensures stop { result.stop ≡ stop_in answer }
 {
-    let status = tell(alloc, &answer, out, err);
+    let status = if aside {
+        tell_aside(alloc, &answer, err)
+    } else {
+        tell(alloc, &answer, out, err)
+    };
     let stop = match answer {
         Ok(_) => None,
         Err(stop) => Some(stop),
     };
     Outcome { status, stop }
+}
+
+// Tells an answer on the error output, or why there is none. Where a write of it fails, nobody can be told.
+fn tell_aside<T: Text, E: Sink>(alloc: Global, answer: &Result<Answer<T>, Stop>, err: &mut E) -> u8
+    requires { IfOk answer.now (λ answer. T.is_ready answer.text) }
+    ensures { TellsAside T.text (stream E.contents E.failure_count err.old err.new) result answer.now }
+{
+    match answer {
+        Ok(answer) => match answer.text.print(alloc, err) {
+            Ok(()) => answer.status,
+            Err(_) => STOPPED,
+        },
+        Err(stop) => stopped(stop, err),
+    }
+}
+
+/// Whether the answer to a command is told on the error output: where what it makes is no file, and may go to the output itself.
+pub fn is_aside<F: FileSystem>(files: &F, command: &Command) -> bool
+    ensures { result ≡ true → IsUnknown (F.under files.now) command.now }
+{
+    match command.made() {
+        Some(name) => files.passes(name.as_str()),
+        None => false,
+    }
 }
 
 // Has it shown how far the reading of the command's files is, where that is asked for.

@@ -1,1 +1,3 @@
 pub mod AgainLemmas
+pub mod PlacesLemmas
+pub mod SpokenLemmas

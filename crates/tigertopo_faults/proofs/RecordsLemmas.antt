@@ -1,2 +1,4 @@
 pub mod LinesLemmas
 pub mod ReadingLemmas
+pub mod WalkLemmas
+pub mod SegmentLemmas

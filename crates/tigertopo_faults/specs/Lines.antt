@@ -1,3 +1,5 @@
 -- What the contracts of faults with their places cite.
+pub mod Places
+pub mod Keyed
 pub mod Texts
 pub mod Again

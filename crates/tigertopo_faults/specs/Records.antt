@@ -5,3 +5,5 @@ pub mod Keeping
 pub mod Wanting
 pub mod Finding
 pub mod Reading
+pub mod Ends
+pub mod Walking

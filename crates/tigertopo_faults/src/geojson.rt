@@ -5,6 +5,7 @@
 //! As a [`FaultsText`] the same can be handed to whoever makes a file of it.
 
 mod chains;
+mod ends;
 mod fault;
 mod faults;
 mod named;

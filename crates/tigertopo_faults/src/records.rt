@@ -2,15 +2,19 @@
 //!
 //! [`subjects_of`] says what a fault speaks of: the records of a TLID and of some types, of a polygon's key, of a LAND. A
 //! county's text is read a second time for them, once for all faults: [`record_lines`] gives the [`RecordLines`] that hold
-//! each such record with its line's number. Of the text nothing is kept but what the faults speak of.
+//! each such record with its line's number. Of the text nothing is kept but what the faults speak of. [`segment_lines`] picks the records
+//! that hold the ends of one segment of a chain.
 
 mod line;
 mod lines;
 mod read;
+mod segment;
 mod subject;
+mod walk;
 mod wanted;
 
-pub use line::RecordLine;
+pub use line::{Part, RecordLine, SegmentEnds};
 pub use lines::RecordLines;
 pub use read::record_lines;
+pub use segment::{segment_lines, segment_within};
 pub use subject::{Subject, Subjects, subjects_of, tlid_of};

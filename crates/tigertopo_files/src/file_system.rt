@@ -104,10 +104,25 @@ pub trait FileSystem {
         ensures { IfOk result (λ words. IfSome (under self.now name.now) (λ file.
             option_map string_bytes words ≡ trouble_of file)) };
 
+    /// Whether what is made under this name is no file: it goes straight to a pipe or a device, which stands there.
+    fn passes(&self, name: &str) -> bool
+        ensures { result ≡ true → under self.now name.now ≡ None };
+
+    /// Why the last new file that wasn't made couldn't be, in the system's words: it couldn't be begun, a write of it failed, or it
+    /// couldn't take its name. `None` where there is no such file. The error is that memory was refused.
+    fn obstacle(&self, alloc: Global) -> Result<Option<String>, AllocError>
+        ensures { IfOk result (λ words. knows ≡ true → words ≡ None) };
+
     /// From now on it is shown how far the reading of files is, where someone may see it; the file of this name is read last.
     fn show_progress(&mut self, last: String)
         ensures stays { under self.new ≡ under self.old }
         ensures logged { knows ≡ true → log self.new ≡ record (log self.old) { watched = Some (string_bytes last) } };
+
+    /// What the next [`FileSystem::read`] reads of files that can be read but once is kept in memory, as far as that holds it, so that
+    /// they can be read again.
+    fn keep_passing(&mut self)
+        ensures stays { under self.new ≡ under self.old }
+        ensures logged { knows ≡ true → log self.new ≡ log self.old };
 
     /// Whether a new file of this kind may take a name, where those of these names are read.
     fn room(&self, alloc: Global, name: &str, read: &[String], kind: FileKind) -> Result<Room, Stop>

@@ -1,5 +1,5 @@
 -- Features, one behind the other.
-use Rattle.std.proofs.Common.{◌≡◌, ℕ, suc, ◌+◌, ◌<◌, ◌≤◌, List, [], ◌∷◌, ◌++◌, length-append, append_assoc, refl, sym, ap, ◌∙◌, add-one, add-zero, add-suc, take, get_or, slice_get, length, Some, arith}
+use Rattle.std.proofs.Common.{◌≡◌, Option, ℕ, suc, ◌+◌, ◌<◌, ◌≤◌, List, [], ◌∷◌, ◌++◌, length-append, append_assoc, refl, sym, ap, ◌∙◌, add-one, add-zero, add-suc, take, get_or, slice_get, length, Some, arith}
 use Rattle.std.proofs.lemmas.List.{take_more, length-take-le}
 use Rattle.std.proofs.lemmas.List.Sums.{length-filter, count_by-le-length}
 use Rattle.std.proofs.lemmas.List.Elements.{filter-append}
@@ -19,9 +19,9 @@ pub one_feature_more : (k n before : ℕ) (feature : ℕ → List ℕ) → k + n
 one_feature_more k n before feature same = rw (add-one, ← same) refl
 
 -- the feature of a chain that was looked up
-pub feature_of_chain : (m : TheMap) (c tlid : ℕ) (points : List Point) (left right : Side) → IsChain (slice_get m.chains c) tlid points left right
-    → chain_text m.polygons tlid points left right ≡ chain_feature m c
-feature_of_chain m c tlid points left right is = rw (is.is, is.tlid_is, is.points_are, is.left_is, is.right_is) refl
+pub feature_of_chain : (file : Option (List ℕ)) (m : TheMap) (c tlid : ℕ) (points : List Point) (left right : Side) → IsChain (slice_get m.chains c) tlid points left right
+    → chain_text file m.polygons tlid points left right ≡ chain_feature file m c
+feature_of_chain file m c tlid points left right is = rw (is.is, is.tlid_is, is.points_are, is.left_is, is.right_is) refl
 
 -- each link has a LAND and a polygon
 links_of : (land : ℕ) (polygons : List ℕ) → length (flat_map (λ p. land ∷ []) polygons) ≡ length (flat_map (λ p. Some p ∷ []) polygons)
@@ -48,11 +48,11 @@ landmarks_taken landmarks i x within here =
     let same : get_or landmarks i x ≡ x = cc (slice_get-get_or landmarks i x within, here) in
     ap with_points (take_more landmarks i x within ∙ ap (λ y. take i landmarks ++ y ∷ []) same) ∙ filter-append (λ (landmark : MapLandmark). is_some landmark.point) (take i landmarks) (x ∷ [])
 
-pub one_landmark_more : (k told : ℕ) (polygons : List Polygon) (landmarks : List MapLandmark) (i : ℕ) (x : MapLandmark) → i < length landmarks → slice_get landmarks i ≡ Some x
+pub one_landmark_more : (file : Option (List ℕ)) (k told : ℕ) (polygons : List Polygon) (landmarks : List MapLandmark) (i : ℕ) (x : MapLandmark) → i < length landmarks → slice_get landmarks i ≡ Some x
     → told ≡ k + length (with_points (take i landmarks))
-    → landmark_features k polygons (take i landmarks) ++ landmark_features told polygons (x ∷ []) ≡ landmark_features k polygons (take (i + 1) landmarks)
-one_landmark_more k told polygons landmarks i x within here counted =
-    rw (landmarks_taken landmarks i x within here, counted) (sym (features_both k (landmark_feature polygons) (with_points (take i landmarks)) (with_points (x ∷ []))))
+    → landmark_features file k polygons (take i landmarks) ++ landmark_features file told polygons (x ∷ []) ≡ landmark_features file k polygons (take (i + 1) landmarks)
+one_landmark_more file k told polygons landmarks i x within here counted =
+    rw (landmarks_taken landmarks i x within here, counted) (sym (features_both k (landmark_feature file polygons) (with_points (take i landmarks)) (with_points (x ∷ []))))
 
 pub one_counted_more : (k told : ℕ) (landmarks : List MapLandmark) (i : ℕ) (x : MapLandmark) → i < length landmarks → slice_get landmarks i ≡ Some x
     → told ≡ k + length (with_points (take i landmarks)) → told + length (with_points (x ∷ [])) ≡ k + length (with_points (take (i + 1) landmarks))

@@ -5,3 +5,4 @@ pub mod GroupLemmas
 pub mod TextLemmas
 pub mod RingLemmas
 pub mod HoleLemmas
+pub mod MetresLemmas

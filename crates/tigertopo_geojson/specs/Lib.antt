@@ -3,6 +3,7 @@ pub mod Strings
 pub mod Positions
 pub mod Groups
 pub mod Areas
+pub mod Metres
 pub mod Features
 pub mod Holes
 pub mod Rings

@@ -1,17 +1,20 @@
 -- The rings and the shapes of polygons, and the whole text of a county.
-use Rattle.std.specs.Prelude.{ℕ, ◌+◌, Bool, if◌then◌else◌, List, [], ◌∷◌, ◌++◌, drop, length, slice_get, codes}
+use Rattle.std.specs.Prelude.{ℕ, ◌+◌, ℤ, Bool, if◌then◌else◌, Option, List, [], ◌∷◌, ◌++◌, drop, length, slice_get, codes}
 use Rattle.std.specs.Option.{option_map_or}
 use Rattle.tl_map_county.specs.declared.polygons.Polygon.{Polygon}
 use Rattle.tl_map_county.specs.TheMap.{TheMap, MapChain}
 use Rattle.tl_map_county.specs.Darts.{dart_start}
 use Rattle.tl_check_sides.specs.Lists.{list_at}
 use Rattle.std.specs.List.{flat_map}
+use Rattle.tigertopo_words.specs.declared.layer.Layer.{Layer}
+use Rattle.tigertopo_words.specs.declared.layer.Layer.TheVariants as layers
 use Rattle.tigertopo_geojson.specs.Strings.{key_members}
 use Rattle.tigertopo_geojson.specs.Positions.{position_text, comma_position}
 use Rattle.tigertopo_geojson.specs.Groups.{is_one}
 use Rattle.tigertopo_geojson.specs.Areas.{dart_points, doubled_area, half_text}
+use Rattle.tigertopo_geojson.specs.Metres.{metres_text}
 use Rattle.tigertopo_geojson.specs.Holes.{outer_rings, holes_in}
-use Rattle.tigertopo_geojson.specs.Features.{features_below, separated, chain_feature, polygon_feature, landmark_features, collection_opening, collection_closing}
+use Rattle.tigertopo_geojson.specs.Features.{shown, those_shown, file_member, features_below, separated, chain_feature, polygon_feature, landmark_features, collection_opening, collection_closing}
 
 -- the point where a walk starts
 abbrev pub start_text : List MapChain → List ℕ → List ℕ
@@ -45,35 +48,53 @@ shape_closing one = if one then codes "}" else codes "]}"
 abbrev pub shape_text : List MapChain → List (List ℕ) → List ℕ → List ℕ
 shape_text chains walks ns = shape_opening (is_one ns) ++ separated (part_text chains walks) ns ++ shape_closing (is_one ns)
 
--- a polygon: its shape, what names it, and its area in square millionths of a degree
-unfoldable pub boundary_text : Polygon → (shape area : List ℕ) → List ℕ
-boundary_text polygon shape area =
+-- a polygon: its shape, what names it, its area in square millionths of a degree and in square metres, and its file
+unfoldable pub boundary_text : Option (List ℕ) → Polygon → (shape : List ℕ) → (doubled : ℤ) → List ℕ
+boundary_text file polygon shape doubled =
     codes "{\"type\":\"Feature\",\"geometry\":" ++ shape
     ++ codes ",\"properties\":{" ++ key_members polygon.key
-    ++ codes ",\"area\":\"" ++ area ++ codes "\"}}"
+    ++ codes ",\"area\":\"" ++ half_text doubled
+    ++ codes "\",\"square_metres_rounded\":" ++ metres_text doubled polygon.point.y ++ file_member file ++ codes "}}"
 
 -- the polygon with this number
-abbrev pub boundary_feature : TheMap → List (List ℕ) → ℕ → List ℕ
-boundary_feature m walks p =
-    option_map_or (λ (polygon : Polygon). boundary_text polygon (shape_text m.chains walks (outer_rings m.chains walks p)) (half_text (doubled_area m.chains p)))
+abbrev pub boundary_feature : Option (List ℕ) → TheMap → List (List ℕ) → ℕ → List ℕ
+boundary_feature file m walks p =
+    option_map_or (λ (polygon : Polygon). boundary_text file polygon (shape_text m.chains walks (outer_rings m.chains walks p)) (doubled_area m.chains p))
     (slice_get m.polygons p) []
 
--- the chains, and then the polygons' points
-abbrev pub chains_and_points : TheMap → List ℕ
-chains_and_points m = features_below 0 (chain_feature m) (length m.chains) ++ features_below (length m.chains) (polygon_feature m) (length m.polygons)
+-- how many chains, polygons' points and polygons are written: those of the layer that is asked for, or all
+abbrev pub chains_shown : Option Layer → TheMap → ℕ
+chains_shown layer m = shown layer layers.Chains (length m.chains)
+
+abbrev pub points_shown : Option Layer → TheMap → ℕ
+points_shown layer m = shown layer layers.Points (length m.polygons)
+
+abbrev pub polygons_shown : Option Layer → TheMap → ℕ
+polygons_shown layer m = shown layer layers.Polygons (length m.polygons)
+
+-- the chains, and then the polygons' points, with their file if one is told
+abbrev pub chains_and_points : Option (List ℕ) → Option Layer → TheMap → List ℕ
+chains_and_points file layer m =
+    features_below 0 (chain_feature file m) (chains_shown layer m)
+    ++ features_below (chains_shown layer m) (polygon_feature file m) (points_shown layer m)
 
 -- the polygons' boundaries behind them, by these walks
-abbrev pub boundaries : TheMap → List (List ℕ) → List ℕ
-boundaries m walks = features_below (length m.chains + length m.polygons) (boundary_feature m walks) (length m.polygons)
+abbrev pub boundaries : Option (List ℕ) → Option Layer → TheMap → List (List ℕ) → List ℕ
+boundaries file layer m walks =
+    features_below (chains_shown layer m + points_shown layer m) (boundary_feature file m walks) (polygons_shown layer m)
 
--- a county: the landmarks' points stand last
-unfoldable pub county_text : TheMap → List ℕ
-county_text m =
-    collection_opening ++ chains_and_points m
-    ++ landmark_features (length m.chains + length m.polygons) m.polygons m.landmarks ++ collection_closing
+-- the landmarks' points, behind so many features
+abbrev pub landmarks_text : Option (List ℕ) → Option Layer → ℕ → TheMap → List ℕ
+landmarks_text file layer k m = landmark_features file k m.polygons (those_shown layer layers.Landmarks m.landmarks)
 
--- a county with its boundaries
-unfoldable pub county_text_with : TheMap → List (List ℕ) → List ℕ
-county_text_with m walks =
-    collection_opening ++ chains_and_points m ++ boundaries m walks
-    ++ landmark_features (length m.chains + length m.polygons + length m.polygons) m.polygons m.landmarks ++ collection_closing
+-- a county, or one layer of it: the landmarks' points stand last
+unfoldable pub county_text : Option (List ℕ) → Option Layer → TheMap → List ℕ
+county_text file layer m =
+    collection_opening ++ chains_and_points file layer m
+    ++ landmarks_text file layer (chains_shown layer m + points_shown layer m) m ++ collection_closing
+
+-- a county with its boundaries, or one layer of it
+unfoldable pub county_text_with : Option (List ℕ) → Option Layer → TheMap → List (List ℕ) → List ℕ
+county_text_with file layer m walks =
+    collection_opening ++ chains_and_points file layer m ++ boundaries file layer m walks
+    ++ landmarks_text file layer (chains_shown layer m + points_shown layer m + polygons_shown layer m) m ++ collection_closing

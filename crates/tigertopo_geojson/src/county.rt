@@ -1,16 +1,17 @@
 //! A county as one FeatureCollection.
 
-ghost use Rattle.std.specs.Prelude.{◌≡◌, ◌+◌, ◌<◌, ◌^◌, ◌++◌, IfOk, length, map as map_list, count_by, is_some};
+ghost use Rattle.std.specs.Prelude.{◌≡◌, ◌+◌, ◌<◌, ◌^◌, ◌++◌, IfOk, length, map as map_list, option_map, count_by, is_some};
 ghost use Rattle.tl_check_sides.specs.Walks.{AreWalks};
 ghost use Rattle.tl_cert_output.specs.Printing.{Prints};
 ghost use Rattle.tl_cert_output.specs.Texts.{PrintsText};
 ghost use Rattle.tigertopo_geojson.specs.Features.{linked_lands, linked_polygons, collection_opening};
 ghost use Rattle.tigertopo_geojson.specs.Groups.{AreGroups};
 ghost use Rattle.tigertopo_geojson.specs.Holes.{AreShapes};
-ghost use Rattle.tigertopo_geojson.specs.Rings.{chains_and_points, county_text, county_text_with};
+ghost use Rattle.tigertopo_geojson.specs.Rings.{chains_and_points, landmarks_text, county_text, county_text_with};
+ghost use Rattle.tigertopo_geojson.specs.Rings.{chains_shown, points_shown, polygons_shown};
 
 use crate::areas::{doubled_areas, ring_areas};
-use crate::features::print_chains;
+use crate::features::{is_shown, print_chains, shown};
 use crate::groups::Groups;
 use crate::holes::{list_homes, list_outers};
 use crate::landmarks::print_landmarks;
@@ -18,26 +19,37 @@ use crate::polygons::{list_links, print_polygons};
 use crate::rings::print_boundaries;
 use std::alloc::{AllocError, Global};
 use std::marker::Model;
+use tigertopo_words::Layer;
 use tl_cert_output::{Printer, Stop};
 use tl_map_county::Map;
 use tl_record::Sink;
 
-/// Prints a county: each chain with its TLID and its sides, each polygon's point with its key and its landmarks, and each landmark's point.
-pub fn print_county<S: Sink>(alloc: Global, map: &Map, out: &mut S) -> Result<(), Stop>
-    ensures { PrintsText S.contents S.failure_count out.old out.new (county_text map.now) result }
+/// Prints a county, or one layer of it: each chain with its TLID and its sides, each polygon's point with its key and its landmarks, and
+/// each landmark's point; of each feature its file, if one is told.
+pub fn print_county<S: Sink>(
+    alloc: Global,
+    map: &Map,
+    layer: Option<Layer>,
+    file: Option<&str>,
+    out: &mut S,
+) -> Result<(), Stop>
+    ensures { PrintsText S.contents S.failure_count out.old out.new
+        (county_text (option_map (λ name. name.now) file.entry) layer map.now) result }
 {
     let links = Links::new(alloc, map)?;
     let mut printer = Printer::new();
-    print_front(map, &links, &mut printer, out);
-    print_landmarks(map, points_of(map), &mut printer, out);
+    print_front(map, layer, file, &links, &mut printer, out);
+    print_last(map, layer, points_of(map, layer), file, &mut printer, out);
     printer.add(b"\n]}\n", out);
     printer.finish(out)
 }
 
-/// Prints a county with the shape of each polygon, whose rings are of these walks, and its area.
+/// Prints a county, or one layer of it, with the shape of each polygon, whose rings are of these walks, and its area.
 pub fn print_county_with<S: Sink>(
     alloc: Global,
     map: &Map,
+    layer: Option<Layer>,
+    file: Option<&str>,
     walks: &[Vec<u32>],
     shapes: &Shapes,
     out: &mut S,
@@ -45,15 +57,18 @@ pub fn print_county_with<S: Sink>(
     requires walks { AreWalks map.now.chains (map_list (λ w. w.items) walks.now) }
     requires shapes { AreShapes map.now (map_list (λ w. w.items) walks.now) shapes.now }
     ensures { PrintsText S.contents S.failure_count out.old out.new
-        (county_text_with map.now (map_list (λ w. w.items) walks.now)) result }
+        (county_text_with (option_map (λ name. name.now) file.entry) layer map.now (map_list (λ w. w.items) walks.now)) result }
 {
     let links = Links::new(alloc, map)?;
     let areas = doubled_areas(alloc, map)?;
     let mut printer = Printer::new();
-    print_front(map, &links, &mut printer, out);
+    print_front(map, layer, file, &links, &mut printer, out);
     let (outers, holes) = (&shapes.outers, &shapes.holes);
     print_boundaries(
         map,
+        points_of(map, layer),
+        shown(layer, Layer::Polygons, map.polygons()),
+        file,
         walks,
         outers,
         holes,
@@ -61,25 +76,26 @@ pub fn print_county_with<S: Sink>(
         &mut printer,
         out,
     );
-    print_landmarks(map, shapes_of(map), &mut printer, out);
+    print_last(map, layer, shapes_of(map, layer), file, &mut printer, out);
     printer.add(b"\n]}\n", out);
     printer.finish(out)
 }
 
-// How many chains and polygons there are.
-fn points_of(map: &Map) -> u64
-    ensures count { result ≡ length map.now.chains + length map.now.polygons }
+// How many chains and polygons' points are written.
+fn points_of(map: &Map, layer: Option<Layer>) -> u64
+    ensures count { result ≡ chains_shown layer map.now + points_shown layer map.now }
     ensures bound { result < 2 ^ 33 }
 {
-    u64::from(map.chains()) + u64::from(map.polygons())
+    u64::from(shown(layer, Layer::Chains, map.chains()))
+        + u64::from(shown(layer, Layer::Points, map.polygons()))
 }
 
 // How many there are with the polygons' boundaries.
-fn shapes_of(map: &Map) -> u64
-    ensures count { result ≡ length map.now.chains + length map.now.polygons + length map.now.polygons }
+fn shapes_of(map: &Map, layer: Option<Layer>) -> u64
+    ensures count { result ≡ chains_shown layer map.now + points_shown layer map.now + polygons_shown layer map.now }
     ensures bound { result < 2 ^ 34 }
 {
-    points_of(map) + u64::from(map.polygons())
+    points_of(map, layer) + u64::from(shown(layer, Layer::Polygons, map.polygons()))
 }
 
 // The links of landmarks with polygons: their LANDs, and the links of each polygon.
@@ -155,17 +171,53 @@ fn count_some(list: &[Option<u32>]) -> u64
     list.iter().filter(|it| it.is_some()).count() as u64
 }
 
+// Prints the landmarks' points, before which so many features stand, where they are written.
+fn print_last<S: Sink>(
+    map: &Map,
+    layer: Option<Layer>,
+    before: u64,
+    file: Option<&str>,
+    printer: &mut Printer,
+    out: &mut S,
+)
+    requires { before < 2 ^ 34 }
+    ensures { Prints S.contents S.failure_count (out.old, printer.old) (out.new, printer.new)
+        (landmarks_text (option_map (λ name. name.now) file.entry) layer before map.now) }
+{
+    if is_shown(layer, Layer::Landmarks) {
+        print_landmarks(map, before, file, printer, out);
+    }
+}
+
 // Prints how a county begins: all but the boundaries and the end.
-fn print_front<S: Sink>(map: &Map, links: &Links, printer: &mut Printer, out: &mut S)
+fn print_front<S: Sink>(
+    map: &Map,
+    layer: Option<Layer>,
+    file: Option<&str>,
+    links: &Links,
+    printer: &mut Printer,
+    out: &mut S,
+)
     requires lands { links.now.lands.items ≡ linked_lands map.now.landmarks }
     requires polygons { AreGroups (length map.now.polygons) (linked_polygons map.now.landmarks) links.now.polygons }
     ensures { Prints S.contents S.failure_count (out.old, printer.old) (out.new, printer.new)
-        (collection_opening ++ chains_and_points map.now) }
+        (collection_opening ++ chains_and_points (option_map (λ name. name.now) file.entry) layer map.now) }
 {
     printer.add(
         b"{\"type\":\"FeatureCollection\",\"name\":\"tigertopo\",\"features\":[",
         out,
     );
-    print_chains(map, printer, out);
-    print_polygons(map, links.lands.as_slice(), &links.polygons, printer, out);
+    let chains = shown(layer, Layer::Chains, map.chains());
+    let points = shown(layer, Layer::Points, map.polygons());
+    print_chains(map, chains, file, printer, out);
+    print_polygons(
+        map,
+        chains,
+        points,
+        file,
+        links.lands.as_slice(),
+        &links.polygons,
+        printer,
+        out,
+    );
 }

@@ -1,11 +1,11 @@
 //! Features of landmarks' points.
 
-ghost use Rattle.std.specs.Prelude.{◌≡◌, ◌+◌, ◌<◌, ◌^◌, [], ◌∷◌, length};
+ghost use Rattle.std.specs.Prelude.{◌≡◌, ◌+◌, ◌<◌, ◌^◌, [], ◌∷◌, length, option_map};
 ghost use Rattle.tl_map_county.specs.declared.sides.Side.TheVariants as side;
 ghost use Rattle.tl_cert_output.specs.Printing.{Prints};
 ghost use Rattle.tigertopo_geojson.specs.Features.{separated, comma_before, side_text, landmark_text, with_points, landmark_features};
 
-use crate::features::{print_lead, print_side};
+use crate::features::{print_file, print_lead, print_side};
 use crate::positions::print_position;
 use tl_cert_output::Printer;
 use tl_geom::Point;
@@ -13,14 +13,20 @@ use tl_map_county::{Landmark, Map, Side};
 use tl_record::Sink;
 
 /// Prints the landmarks of a map that have a point, before which so many features stand.
-pub fn print_landmarks<S: Sink>(map: &Map, before: u64, printer: &mut Printer, out: &mut S)
+pub fn print_landmarks<S: Sink>(
+    map: &Map,
+    before: u64,
+    file: Option<&str>,
+    printer: &mut Printer,
+    out: &mut S,
+)
     requires { before < 2 ^ 34 }
     ensures { Prints S.contents S.failure_count (out.old, printer.old) (out.new, printer.new)
-        (landmark_features before map.now.polygons map.now.landmarks) }
+        (landmark_features (option_map (λ name. name.now) file.entry) before map.now.polygons map.now.landmarks) }
 {
     let mut told = before;
     for number in 0..map.landmarks() {
-        told = print_pointed(map, &map.landmark(number), told, printer, out);
+        told = print_pointed(map, &map.landmark(number), told, file, printer, out);
     }
 }
 
@@ -29,6 +35,7 @@ fn print_pointed<S: Sink>(
     map: &Map,
     landmark: &Landmark<'_>,
     before: u64,
+    file: Option<&str>,
     printer: &mut Printer,
     out: &mut S,
 ) -> u64
@@ -36,13 +43,13 @@ fn print_pointed<S: Sink>(
     ensures counted { result ≡ before + length (with_points
         (record { land = landmark.now.land; point = landmark.now.point; polygons = landmark.now.polygons.now } ∷ [])) }
     ensures prints { Prints S.contents S.failure_count (out.old, printer.old) (out.new, printer.new)
-        (landmark_features before map.now.polygons
+        (landmark_features (option_map (λ name. name.now) file.entry) before map.now.polygons
         (record { land = landmark.now.land; point = landmark.now.point; polygons = landmark.now.polygons.now } ∷ [])) }
 {
     match landmark.point {
         Some(point) => {
             print_lead(before, printer, out);
-            print_landmark(map, landmark, point, printer, out);
+            print_landmark(map, landmark, point, file, printer, out);
             before + 1
         }
         None => before,
@@ -54,11 +61,12 @@ fn print_landmark<S: Sink>(
     map: &Map,
     landmark: &Landmark<'_>,
     point: Point,
+    file: Option<&str>,
     printer: &mut Printer,
     out: &mut S,
 )
     ensures { Prints S.contents S.failure_count (out.old, printer.old) (out.new, printer.new)
-        (landmark_text map.now.polygons landmark.now.land point landmark.now.polygons.now) }
+        (landmark_text (option_map (λ name. name.now) file.entry) map.now.polygons landmark.now.land point landmark.now.polygons.now) }
 {
     printer.add(
         b"{\"type\":\"Feature\",\"geometry\":{\"type\":\"Point\",\"coordinates\":",
@@ -69,7 +77,9 @@ fn print_landmark<S: Sink>(
     printer.number(landmark.land, out);
     printer.add(b",\"polygons\":[", out);
     print_keys(map, landmark.polygons, printer, out);
-    printer.add(b"]}}", out);
+    printer.add(b"]", out);
+    print_file(file, printer, out);
+    printer.add(b"}}", out);
 }
 
 // Prints the keys of polygons with a comma between two.

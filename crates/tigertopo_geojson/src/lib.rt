@@ -11,6 +11,7 @@ mod features;
 mod groups;
 mod holes;
 mod landmarks;
+mod metres;
 mod polygons;
 mod positions;
 mod rings;

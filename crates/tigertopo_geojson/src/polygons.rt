@@ -1,13 +1,13 @@
 //! Features of polygons' points, and the landmarks of polygons.
 
-ghost use Rattle.std.specs.Prelude.{◌≡◌, ◌+◌, ◌<◌, ◌++◌, [], ◌∷◌, ℕ, List};
+ghost use Rattle.std.specs.Prelude.{◌≡◌, ◌+◌, ◌<◌, ◌≤◌, ◌++◌, option_map, [], ◌∷◌, ℕ, List};
 ghost use Rattle.std.specs.Prelude.{IfOk, OnOk, Some, codes, decimal, length, slice_index, slice_index_or};
 ghost use Rattle.tl_cert_output.specs.Printing.{Prints};
 ghost use Rattle.std.specs.List.{flat_map};
 ghost use Rattle.tigertopo_geojson.specs.Groups.{GoesThrough, AreGroups};
 ghost use Rattle.tigertopo_geojson.specs.Features.{features_below, separated, linked_lands, linked_polygons, polygon_feature};
 
-use crate::features::print_lead;
+use crate::features::{print_file, print_lead};
 use crate::groups::Groups;
 use crate::positions::print_position;
 use crate::strings::print_key_members;
@@ -45,24 +45,27 @@ fn add_links(
     Ok(())
 }
 
-/// Prints the polygons of a map: their points, keys and landmarks.
+/// Prints the first so many polygons of a map, before which so many features stand: their points, keys and landmarks.
 pub fn print_polygons<S: Sink>(
     map: &Map,
+    before: u32,
+    count: u32,
+    file: Option<&str>,
     lands: &[u64],
     links: &Groups,
     printer: &mut Printer,
     out: &mut S,
 )
+    requires count { count ≤ length map.now.polygons }
     requires lands { lands.now ≡ linked_lands map.now.landmarks }
     requires links { AreGroups (length map.now.polygons) (linked_polygons map.now.landmarks) links.now }
     requires beside { length lands.now ≡ length links.now.next }
     ensures { Prints S.contents S.failure_count (out.old, printer.old) (out.new, printer.new)
-        (features_below (length map.now.chains) (polygon_feature map.now) (length map.now.polygons)) }
+        (features_below before (polygon_feature (option_map (λ name. name.now) file.entry) map.now) count) }
 {
-    let before = u64::from(map.chains());
-    for number in 0..map.polygons() {
-        print_lead(before + u64::from(number), printer, out);
-        print_polygon(map, number, lands, links, printer, out);
+    for number in 0..count {
+        print_lead(u64::from(before) + u64::from(number), printer, out);
+        print_polygon(map, number, file, lands, links, printer, out);
     }
 }
 
@@ -70,6 +73,7 @@ pub fn print_polygons<S: Sink>(
 fn print_polygon<S: Sink>(
     map: &Map,
     number: u32,
+    file: Option<&str>,
     lands: &[u64],
     links: &Groups,
     printer: &mut Printer,
@@ -79,7 +83,8 @@ fn print_polygon<S: Sink>(
     requires lands { lands.now ≡ linked_lands map.now.landmarks }
     requires links { AreGroups (length map.now.polygons) (linked_polygons map.now.landmarks) links.now }
     requires beside { length lands.now ≡ length links.now.next }
-    ensures { Prints S.contents S.failure_count (out.old, printer.old) (out.new, printer.new) (polygon_feature map.now number) }
+    ensures { Prints S.contents S.failure_count (out.old, printer.old) (out.new, printer.new)
+        (polygon_feature (option_map (λ name. name.now) file.entry) map.now number) }
 {
     let polygon = map.polygon(number);
     printer.add(
@@ -91,7 +96,9 @@ fn print_polygon<S: Sink>(
     print_key_members(polygon.key, printer, out);
     printer.add(b",\"landmarks\":[", out);
     print_lands(lands, links, number, printer, out);
-    printer.add(b"]}}", out);
+    printer.add(b"]", out);
+    print_file(file, printer, out);
+    printer.add(b"}}", out);
 }
 
 // Prints the LANDs of a polygon.

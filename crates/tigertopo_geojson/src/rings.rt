@@ -1,19 +1,21 @@
 //! Features of polygons: their shapes, of rings.
 
-ghost use Rattle.std.specs.Prelude.{◌≡◌, ◌*◌, ◌<◌, ◌++◌, ℕ, List, codes, length, map as map_list, slice_index};
+ghost use Rattle.std.specs.Prelude.{◌≡◌, ◌+◌, ◌*◌, ◌<◌, ◌≤◌, ◌^◌, ◌++◌};
+ghost use Rattle.std.specs.Prelude.{option_map, ℕ, List, codes, length, map as map_list, slice_index};
 ghost use Rattle.std.specs.List.{flat_map};
 ghost use Rattle.tl_check_sides.specs.Lists.{list_at};
 ghost use Rattle.tl_check_sides.specs.Walks.{AreWalks};
 ghost use Rattle.tl_cert_output.specs.Printing.{Prints};
 ghost use Rattle.tigertopo_geojson.specs.Groups.{GoesThrough, AreGroups};
 ghost use Rattle.tigertopo_geojson.specs.Areas.{AreAreas, half_part, half_text};
-ghost use Rattle.tigertopo_geojson.specs.Features.{separated};
+ghost use Rattle.tigertopo_geojson.specs.Features.{features_below, separated};
 ghost use Rattle.tigertopo_geojson.specs.Holes.{outer_polygon, home};
 ghost use Rattle.tigertopo_geojson.specs.Rings.{behind_start, ring_text, more_rings, part_text, shape_opening, shape_closing, shape_text};
-ghost use Rattle.tigertopo_geojson.specs.Rings.{boundary_feature, boundaries};
+ghost use Rattle.tigertopo_geojson.specs.Rings.{boundary_feature};
 
-use crate::features::print_lead;
+use crate::features::{print_file, print_lead};
 use crate::groups::Groups;
+use crate::metres::print_metres;
 use crate::positions::{print_behind, print_position, sign};
 use crate::strings::print_key_members;
 use crate::walks::walk_at;
@@ -21,9 +23,13 @@ use tl_cert_output::Printer;
 use tl_map_county::Map;
 use tl_record::Sink;
 
-/// Prints a map's polygons. `outers` are the outer rings of each, and `holes` the holes of each ring.
+/// Prints the first so many of a map's polygons, before which so many features stand. `outers` are the outer rings of each, and
+/// `holes` the holes of each ring.
 pub fn print_boundaries<S: Sink>(
     map: &Map,
+    before: u64,
+    count: u32,
+    file: Option<&str>,
     walks: &[Vec<u32>],
     outers: &Groups,
     holes: &Groups,
@@ -31,6 +37,8 @@ pub fn print_boundaries<S: Sink>(
     printer: &mut Printer,
     out: &mut S,
 )
+    requires before { before < 2 ^ 33 }
+    requires count { count ≤ length map.now.polygons }
     requires walks { AreWalks map.now.chains (map_list (λ w. w.items) walks.now) }
     requires outers { AreGroups (length map.now.polygons)
         (map_list (outer_polygon map.now.chains) (map_list (λ w. w.items) walks.now)) outers.now }
@@ -38,12 +46,11 @@ pub fn print_boundaries<S: Sink>(
         (map_list (home map.now.chains (map_list (λ w. w.items) walks.now)) (map_list (λ w. w.items) walks.now)) holes.now }
     requires areas { AreAreas map.now areas.now }
     ensures { Prints S.contents S.failure_count (out.old, printer.old) (out.new, printer.new)
-        (boundaries map.now (map_list (λ w. w.items) walks.now)) }
+        (features_below before (boundary_feature (option_map (λ name. name.now) file.entry) map.now (map_list (λ w. w.items) walks.now)) count) }
 {
-    let before = u64::from(map.chains()) + u64::from(map.polygons());
-    for number in 0..map.polygons() {
+    for number in 0..count {
         print_lead(before + u64::from(number), printer, out);
-        print_boundary(map, number, walks, outers, holes, areas, printer, out);
+        print_boundary(map, number, file, walks, outers, holes, areas, printer, out);
     }
 }
 
@@ -51,6 +58,7 @@ pub fn print_boundaries<S: Sink>(
 fn print_boundary<S: Sink>(
     map: &Map,
     number: u32,
+    file: Option<&str>,
     walks: &[Vec<u32>],
     outers: &Groups,
     holes: &Groups,
@@ -66,15 +74,19 @@ fn print_boundary<S: Sink>(
         (map_list (home map.now.chains (map_list (λ w. w.items) walks.now)) (map_list (λ w. w.items) walks.now)) holes.now }
     requires areas { AreAreas map.now areas.now }
     ensures { Prints S.contents S.failure_count (out.old, printer.old) (out.new, printer.new)
-        (boundary_feature map.now (map_list (λ w. w.items) walks.now) number) }
+        (boundary_feature (option_map (λ name. name.now) file.entry) map.now (map_list (λ w. w.items) walks.now) number) }
 {
+    let polygon = map.polygon(number);
     printer.add(b"{\"type\":\"Feature\",\"geometry\":", out);
     print_shape(map, walks, outers, holes, number, printer, out);
     printer.add(b",\"properties\":{", out);
-    print_key_members(map.polygon(number).key, printer, out);
+    print_key_members(polygon.key, printer, out);
     printer.add(b",\"area\":\"", out);
     print_half(areas[number as usize], printer, out);
-    printer.add(b"\"}}", out);
+    printer.add(b"\",\"square_metres_rounded\":", out);
+    print_metres(areas[number as usize], polygon.point, printer, out);
+    print_file(file, printer, out);
+    printer.add(b"}}", out);
 }
 
 // Prints the shape of a polygon.

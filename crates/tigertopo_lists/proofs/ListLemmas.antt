@@ -23,7 +23,7 @@ use Rattle.tl_record.proofs.RefusalLemmas.{first_refusal as first_of_judged}
 use Rattle.tl_map_county.specs.TheMap.{TheMap, MapChain}
 use Rattle.tigertopo_files.specs.Files.{Under}
 use Rattle.tigertopo_files.specs.Log.{Log, LogsAgain}
-use Rattle.tigertopo_files.specs.World.{World, Does, Failed, MayStop, Made}
+use Rattle.tigertopo_files.specs.World.{World, Does, Failed, Keeps, MayStop, Made, Unmade}
 use Rattle.tigertopo_where.specs.Hint.Again.{FailsAgain, SomeUnread}
 use Rattle.tigertopo_files.proofs.WorldLemmas.{all_kept, none_made, unmade_from, may_stop, does_so, does_then}
 use Rattle.tigertopo_words.specs.declared.budget.Told.{Told}
@@ -42,7 +42,6 @@ use Rattle.tl_list_text.specs.declared.listing.Listing.TheVariants.{Sound, Refus
 use Rattle.tl_list_text.specs.Listings.{IsListingOf}
 use Rattle.tl_list.specs.Findings.{AreFindingsOf}
 use Rattle.tl_list.proofs.Listed.{sound_alone}
-use Rattle.tigertopo_faults.specs.Records.SpokenOf.{chains_of}
 use Rattle.tigertopo_faults.specs.Records.Keeping.{held}
 use Rattle.tigertopo_faults.specs.declared.lines.again.Spoken.{Spoken}
 use Rattle.tigertopo_faults.specs.Lines.Again.{AreSpoken}
@@ -209,15 +208,15 @@ module _ (options : Options) (known : Option (List ℕ)) (asked : Asked) where
   })
 
   -- it has faults
-  pub fault_answers : (w : World) (map : Option TheMap) (faults : Vec MapFault Global) (points_left : Bool)
-      → IfSome known (λ text. AreFindingsOf options text (record { listing = Faults faults points_left; map = map })) → (answer : Answer Listed)
-      → IsFaultList w (layout_with options) asked map (record { faults = faults; points_left = points_left }) answer → ListAnswers w options known asked answer.status (listed_text answer.text)
-  fault_answers w map faults points_left are answer so = inr (inl (record {
+  pub fault_answers : (w : World) (map : Option TheMap) (faults : Vec MapFault Global) (touched : ℕ)
+      → IfSome known (λ text. AreFindingsOf options text (record { listing = Faults faults touched; map = map })) → (answer : Answer Listed)
+      → IsFaultList w (layout_with options) asked map (record { faults = faults; touched = touched }) answer → ListAnswers w options known asked answer.status (listed_text answer.text)
+  fault_answers w map faults touched are answer so = inr (inl (record {
     map = map;
     faults = faults;
-    points_left = points_left;
+    touched = touched;
     are = are;
-    unsound = IfSome_then known are (λ text is sound. (sound_alone options text (Faults faults points_left) is.told).1 sound);
+    unsound = IfSome_then known are (λ text is sound. (sound_alone options text (Faults faults touched) is.told).1 sound);
     spoken = so.spoken;
     speak = so.speak;
     kept = so.kept;
@@ -285,11 +284,11 @@ answers_from u v after l m q k options known asked status text same (inl sound) 
 answers_from u v after l m q k options known asked status text same (inr (inl faults)) = inr (inl (record {
   map = faults.map;
   faults = faults.faults;
-  points_left = faults.points_left;
+  touched = faults.touched;
   are = faults.are;
   unsound = faults.unsound;
   spoken = faults.spoken;
-  speak = λ again. subst (λ x. AreSpoken (layout_with options) x asked.names (chains_of faults.map) (featured asked.told faults.faults.items) faults.spoken) same (faults.speak again);
+  speak = λ again. subst (λ x. AreSpoken (layout_with options) x asked.names faults.map (featured asked.told faults.faults.items) faults.spoken) same (faults.speak again);
   kept = made_from u v after l m q k asked.made _ faults.kept;
   is = faults.is;
   lines = faults.lines;
@@ -314,18 +313,49 @@ stops_from u v after l m q k options known asked same Memory why = why
 stops_from u v after l m q k options known asked same Device why = (why.0, subst (λ x. SomeUnread x asked.names) same why.1)
 stops_from u v after l m q k options known asked same Budget why = why
 
+-- ---- behind what changes nothing
+
+later_keeps : (u after : Under) (l m q : Log) (k : Bool) (made : Option (List ℕ)) → Keeps (record { before = u; after = after; log = m; logged = q; knows = k }) made
+    → Keeps (record { before = u; after = after; log = l; logged = q; knows = k }) made
+later_keeps u after l m q k None keeps = keeps
+later_keeps u after l m q k (Some name) keeps = keeps
+
+later_unmade : {T : Type 0} (u after : Under) (l m q : Log) (k : Bool) (made : Option (List ℕ)) (r : Result T Stop)
+    → IfErr r (λ stop. Unmade (record { before = u; after = after; log = m; logged = q; knows = k }) made) → IfErr r (λ stop. Unmade (record { before = u; after = after; log = l; logged = q; knows = k }) made)
+later_unmade u after l m q k made (Ok t) kept = tt
+later_unmade u after l m q k None (Err stop) kept = kept
+later_unmade u after l m q k (Some name) (Err stop) kept = kept
+
+-- what is done behind it is all that is done
+pub does_later : {T : Type 0} (u after : Under) (l m q : Log) (k : Bool) (names : List (List ℕ)) (made : Option (List ℕ)) (P : T → Type 0) (S : Stop → Type 0) (r : Result T Stop) → (k ≡ true → m ≡ l)
+    → Does (record { before = u; after = after; log = m; logged = q; knows = k }) names made P S r → Does (record { before = u; after = after; log = l; logged = q; knows = k }) names made P S r
+does_later u after l m q true names made P S r same does = subst (λ (log : Log). Does (record { before = u; after = after; log = log; logged = q; knows = true }) names made P S r) (same refl) does
+does_later u after l m q false names made P S r same does = record {
+  answered = does.answered;
+  stopped = does.stopped;
+  device = λ is. failed (does.device is);
+  keeps = later_keeps u after l m q false made does.keeps;
+  unmade = later_unmade u after l m q false made r does.unmade;
+  logged = λ known. absurd (let wrong = known in cc);
+}
+  where
+    failed : Failed (record { before = u; after = after; log = m; logged = q; knows = false }) names ⊎ S Device → Failed (record { before = u; after = after; log = l; logged = q; knows = false }) names ⊎ S Device
+    failed (inl (inl missing)) = inl (inl missing)
+    failed (inl (inr fails)) = inl (inr (inl refl))
+    failed (inr why) = inr why
+
 -- ---- what is printed of faults, and what stands in the file
 
-pub answer_text : (names : List (List ℕ)) (chains : List MapChain) (spoken : Spoken) (places : Bool) (told : Told) (faults : Vec MapFault Global) (points_left : Bool) (text : Option (Vec ℕ Global))
-    → IsPrepared names chains spoken places told faults.items points_left text → listed_text (faults_answer text faults points_left told).text ≡ told_text names chains spoken places told faults.items points_left
-answer_text names chains spoken places told faults points_left (Some text) is = is
-answer_text names chains spoken places told faults points_left None is = rw (is.0, is.1.1) refl
+pub answer_text : (names : List (List ℕ)) (chains : List MapChain) (spoken : Spoken) (places : Bool) (told : Told) (faults : Vec MapFault Global) (touched : ℕ) (text : Option (Vec ℕ Global))
+    → IsPrepared names chains spoken places told faults.items touched text → listed_text (faults_answer text faults touched told).text ≡ told_text names chains spoken places told faults.items touched
+answer_text names chains spoken places told faults touched (Some text) is = is
+answer_text names chains spoken places told faults touched None is = rw (is.0, is.1.1) refl
 
-pub answer_status : (told : Told) (faults : Vec MapFault Global) (points_left : Bool) (text : Option (Vec ℕ Global)) → (faults_answer text faults points_left told).status ≡ 1
-answer_status told faults points_left (Some text) = refl
-answer_status told faults points_left None = refl
+pub answer_status : (told : Told) (faults : Vec MapFault Global) (touched : ℕ) (text : Option (Vec ℕ Global)) → (faults_answer text faults touched told).status ≡ 1
+answer_status told faults touched (Some text) = refl
+answer_status told faults touched None = refl
 
 -- the collection of no fault
-pub no_features : (names : List (List ℕ)) (spoken : Spoken) → faults_text names spoken.counts.items None (held spoken.lines) [] false ≡ faults_text names [] None (λ s. []) [] false
+pub no_features : (names : List (List ℕ)) (spoken : Spoken) → faults_text names spoken.counts.items None (held spoken.lines) spoken.places.items [] 0 ≡ faults_text names [] None (λ s. []) [] [] 0
 unfolding faults_text
 no_features names spoken = refl

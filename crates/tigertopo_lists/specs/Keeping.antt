@@ -20,9 +20,9 @@ use Rattle.tigertopo_where.specs.Hint.Placed.{TellsPlaces}
 use Rattle.tigertopo_lists.specs.Listed.{listed_text, refusals_text, told_text}
 
 -- the text of faults, or nothing where they are printed as they are listed
-abbrev pub IsPrepared : List (List ℕ) → List MapChain → Spoken → Bool → Told → List MapFault → Bool → Option (Vec ℕ Global) → Type 0
-IsPrepared names chains spoken places told faults points_left (Some text) = text.items ≡ told_text names chains spoken places told faults points_left
-IsPrepared names chains spoken places told faults points_left None = (places ≡ false) × ((most : Option ℕ) × (told ≡ All most))
+abbrev pub IsPrepared : List (List ℕ) → List MapChain → Spoken → Bool → Told → List MapFault → ℕ → Option (Vec ℕ Global) → Type 0
+IsPrepared names chains spoken places told faults touched (Some text) = text.items ≡ told_text names chains spoken places told faults touched
+IsPrepared names chains spoken places told faults touched None = (places ≡ false) × ((most : Option ℕ) × (told ≡ All most))
 
 -- why there is no answer, where these lines are refused: the first of them
 abbrev pub first_stop : List Refusal → Stop
@@ -35,9 +35,9 @@ most_of One = Some 1
 most_of (All most) = most
 
 -- what was prepared of faults, or the listing of them
-abbrev pub faults_answer : Option (Vec ℕ Global) → Vec MapFault Global → Bool → Told → Answer Listed
-faults_answer (Some text) faults points_left told = record { status = 1; text = Lines text }
-faults_answer None faults points_left told = record { status = 1; text = Listing (listing.Faults faults points_left) (most_of told) }
+abbrev pub faults_answer : Option (Vec ℕ Global) → Vec MapFault Global → ℕ → Told → Answer Listed
+faults_answer (Some text) faults touched told = record { status = 1; text = Lines text }
+faults_answer None faults touched told = record { status = 1; text = Listing (listing.Faults faults touched) (most_of told) }
 
 -- a text of refused lines, all or so many from the front, each with where it stands, and how many there are
 abbrev pub ArePlaced : Layout → Under → List (List ℕ) → Option ℕ → List Refusal → List ℕ → Type 0

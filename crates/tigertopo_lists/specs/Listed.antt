@@ -57,14 +57,14 @@ wanted_of names wanted = record { names = names; told = wanted.told; places = wa
 
 -- what is printed of faults without their records: the first line, or all, or so many from the front, and where all are told,
 -- how many there are
-abbrev pub plain_text : Told → List MapFault → Bool → List ℕ
-plain_text told faults points_left = lines map_fault_text (chosen told faults) ++ end_text told (length faults) points_left
+abbrev pub plain_text : Told → List MapFault → ℕ → List ℕ
+plain_text told faults touched = lines map_fault_text (chosen told faults) ++ end_text told (length faults) touched
 
 -- what is printed of faults, with the records that they speak of or without
-abbrev pub told_text : List (List ℕ) → List MapChain → Spoken → Bool → Told → List MapFault → Bool → List ℕ
-told_text names chains spoken false told faults points_left = plain_text told faults points_left
-told_text names chains spoken true told faults points_left =
-    placed_text names spoken.counts.items chains (held spoken.lines) told faults points_left
+abbrev pub told_text : List (List ℕ) → List MapChain → Spoken → Bool → Told → List MapFault → ℕ → List ℕ
+told_text names chains spoken false told faults touched = plain_text told faults touched
+told_text names chains spoken true told faults touched =
+    placed_text names spoken.counts.items chains (held spoken.lines) spoken.places.items told faults touched
 
 -- what is printed of refused lines, all or so many from the front, each with what is told of its place; and how many there are
 abbrev pub refusals_text : Option ℕ → List Refusal → List (List ℕ) → List ℕ
@@ -82,21 +82,21 @@ reads_again places (Some name) = true
 
 -- the report of a sound map is answered, and no fault stands in the file
 pub record IsSoundList (w : World) (asked : Asked) (report : Report) (answer : Answer Listed) : Type 0 where
-  pub kept : Made w asked.made (faults_text asked.names [] None (λ s. []) [] false)
+  pub kept : Made w asked.made (faults_text asked.names [] None (λ s. []) [] [] 0)
   pub is : answer ≡ record { status = 0; text = Listing (listing.Sound report) None }
 
--- faults that are listed, and whether the polygons' points weren't looked at
+-- faults that are listed, and how many polygons are touched
 pub record Faults : Type 0 where
   pub faults : Vec MapFault Global
-  pub points_left : Bool
+  pub touched : ℕ
 
 -- faults are answered, with the records that they speak of where these are asked for, and those that are told stand in the file
 pub record IsFaultList (w : World) (layout : Layout) (asked : Asked) (map : Option TheMap) (list : Faults) (answer : Answer Listed) : Type 0 where
   pub spoken : Spoken
-  pub speak : reads_again asked.places asked.made ≡ true → AreSpoken layout w.before asked.names (chains_of map) (featured asked.told list.faults.items) spoken
-  pub kept : Made w asked.made (faults_text asked.names spoken.counts.items map (held spoken.lines) (featured asked.told list.faults.items) list.points_left)
+  pub speak : reads_again asked.places asked.made ≡ true → AreSpoken layout w.before asked.names map (featured asked.told list.faults.items) spoken
+  pub kept : Made w asked.made (faults_text asked.names spoken.counts.items map (held spoken.lines) spoken.places.items (featured asked.told list.faults.items) list.touched)
   pub is : answer.status ≡ 1
-  pub lines : listed_text answer.text ≡ told_text asked.names (chains_of map) spoken asked.places asked.told list.faults.items list.points_left
+  pub lines : listed_text answer.text ≡ told_text asked.names (chains_of map) spoken asked.places asked.told list.faults.items list.touched
 
 -- why that isn't: where files are read again for the records, one of them may not be read
 abbrev pub StopsAgain : World → Asked → Stop → Type 0
@@ -112,23 +112,23 @@ StopsList w options known asked other = StopsAgain w asked other
 pub record TellsSound (w : World) (options : Options) (known : Option (List ℕ)) (asked : Asked) (status : ℕ) (text : List ℕ) : Type 0 where
   pub report : Report
   pub sound : OfMap (layout_with options) known (IsSoundWith options.faces report)
-  pub kept : Made w asked.made (faults_text asked.names [] None (λ s. []) [] false)
+  pub kept : Made w asked.made (faults_text asked.names [] None (λ s. []) [] [] 0)
   pub is : status ≡ 0
   pub line : text ≡ listing_text None (listing.Sound report)
 
--- with the status 1 faults: those of the records and of no other, and all of them, where the text of the records is known; and where
--- those of all files are, the records behind them are those of the files that they speak of
+-- with the status 1 faults: those of the records and of no other, and all of them, where the text of the records is known; each lies where
+-- the map has it, and where the texts of all files are known, the records behind them are those of the files that they speak of
 pub record TellsFaults (w : World) (options : Options) (known : Option (List ℕ)) (asked : Asked) (status : ℕ) (text : List ℕ) : Type 0 where
   pub map : Option TheMap
   pub faults : Vec MapFault Global
-  pub points_left : Bool
-  pub are : IfSome known (λ held. AreFindingsOf options held (record { listing = listing.Faults faults points_left; map = map }))
+  pub touched : ℕ
+  pub are : IfSome known (λ held. AreFindingsOf options held (record { listing = listing.Faults faults touched; map = map }))
   pub unsound : IfSome known (λ held. ¬ HaveMap (records_of (layout_with options) held) (IsSoundFor options.faces))
   pub spoken : Spoken
-  pub speak : reads_again asked.places asked.made ≡ true → AreSpoken (layout_with options) w.before asked.names (chains_of map) (featured asked.told faults.items) spoken
-  pub kept : Made w asked.made (faults_text asked.names spoken.counts.items map (held spoken.lines) (featured asked.told faults.items) points_left)
+  pub speak : reads_again asked.places asked.made ≡ true → AreSpoken (layout_with options) w.before asked.names map (featured asked.told faults.items) spoken
+  pub kept : Made w asked.made (faults_text asked.names spoken.counts.items map (held spoken.lines) spoken.places.items (featured asked.told faults.items) touched)
   pub is : status ≡ 1
-  pub lines : text ≡ told_text asked.names (chains_of map) spoken asked.places asked.told faults.items points_left
+  pub lines : text ≡ told_text asked.names (chains_of map) spoken asked.places asked.told faults.items touched
 
 -- with the status 3 lines that are refused, where all that is wrong is asked for: each of the records', and no other; and where places are
 -- asked for and the text of each file is known, where each stands; no file is made

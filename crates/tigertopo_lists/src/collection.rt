@@ -24,12 +24,12 @@ pub(crate) fn make_collection<F: FileSystem>(
     drawn: Option<&Map>,
     spoken: &Spoken,
     faults: &[MapFault],
-    points_left: bool,
+    touched: u64,
 ) -> Result<(), Stop>
     requires { MayMake (F.under files.old) (option_map string_bytes made.now) (map string_bytes names.now) Collection }
     ensures { let w = world F.under F.log F.knows files.old files.new in
         let text = faults_text (map string_bytes names.now) spoken.now.counts.items (option_copied drawn.entry)
-        (held spoken.now.lines) faults.now points_left in
+        (held spoken.now.lines) spoken.now.places.items faults.now touched in
         Does w [] (option_map string_bytes made.now) (λ done. Made w (option_map string_bytes made.now) text) StopsNever result }
 {
     let Some(name) = made else {
@@ -40,8 +40,9 @@ pub(crate) fn make_collection<F: FileSystem>(
         counts: spoken.counts.as_slice(),
         drawn,
         lines: &spoken.lines,
+        places: spoken.places.as_slice(),
         faults,
-        points_left,
+        touched,
     };
     make_file(
         files,

@@ -1,6 +1,6 @@
 //! Lists over files: what is found is answered, and the file is made.
 
-ghost use Rattle.std.specs.Prelude.{◌≡◌, [], ℕ, List, Option, true, IfOk, IfErr, IfSome, map as map_list, option_map, string_bytes};
+ghost use Rattle.std.specs.Prelude.{◌≡◌, [], ℕ, List, Option, None, true, IfOk, IfErr, IfSome, map as map_list, option_map, string_bytes};
 ghost use Rattle.tl_record.specs.declared.options.Options.{Options};
 ghost use Rattle.tl_record.specs.Layout.{layout_with};
 ghost use Rattle.tl_cert_output.specs.Stops.{StopsFor};
@@ -63,8 +63,37 @@ pub fn list<F: FileSystem>(
         Does w asked.names asked.made (λ answer. ListAnswers w options known asked answer.status (listed_text answer.text))
         (StopsList w options known asked) result }
 {
-    let found = over_records(files, alloc, hasher, names, &FindingsIn { options })?;
+    let again = reads_again(wanted.places, wanted.made);
+    let found = find_all(files, alloc, hasher, options, names, again)?;
     tell_found(files, alloc, hasher, options, names, wanted, found)
+}
+
+// All that is wrong with the records of the files of these names. Where they are to be read again, what is read of those that can be
+// read but once is kept.
+fn find_all<F: FileSystem>(
+    files: &mut F,
+    alloc: Global,
+    hasher: RandomState,
+    options: Options,
+    names: &[String],
+    again: bool,
+) -> Result<Findings, Stop>
+    ensures { let known = text_under (F.under files.old) (map_list string_bytes names.now) in
+        Does (world F.under F.log F.knows files.old files.new) (map_list string_bytes names.now) None
+        (λ found. IfSome known (λ text. AreFindingsOf options text found)) StopsNever result }
+{
+    keep_where(files, again);
+    over_records(files, alloc, hasher, names, &FindingsIn { options })
+}
+
+// What is read of files that can be read but once is kept, where the files are to be read again.
+fn keep_where<F: FileSystem>(files: &mut F, again: bool)
+    ensures stays { F.under files.new ≡ F.under files.old }
+    ensures logged { F.knows ≡ true → F.log files.new ≡ F.log files.old }
+{
+    if again {
+        files.keep_passing();
+    }
 }
 
 // Answers what was found in files of these names, and makes the file that is wanted.
@@ -88,19 +117,8 @@ fn tell_found<F: FileSystem>(
     match listing {
         Listing::Sound(report) => tell_sound(files, alloc, hasher, names, wanted, report),
         Listing::Refused(list) => tell_refused(files, alloc, options, names, wanted, list),
-        Listing::Faults {
-            faults,
-            points_left,
-        } => tell_faults(
-            files,
-            alloc,
-            hasher,
-            options,
-            names,
-            wanted,
-            map,
-            faults,
-            points_left,
+        Listing::Faults { faults, touched } => tell_faults(
+            files, alloc, hasher, options, names, wanted, map, faults, touched,
         ),
     }
 }
@@ -120,7 +138,7 @@ fn tell_sound<F: FileSystem>(
         Does w [] asked.made (IsSoundList w asked report) StopsNever result }
 {
     let nothing = Spoken::nothing(alloc, hasher)?;
-    make_collection(files, alloc, wanted.made, names, None, &nothing, &[], false)?;
+    make_collection(files, alloc, wanted.made, names, None, &nothing, &[], 0)?;
     Ok(Answer {
         status: DONE,
         text: Listed::Listing {
@@ -208,7 +226,7 @@ fn placed_list<F: FileSystem>(
     ensures logged { F.knows ≡ true → LogsAgain (F.log files.old) (F.log files.new) result }
 {
     let mut text = place_refusals(files, alloc, names, options, first_of(list, most))?;
-    let end = text_of_end(false, "refused=", most, list.len() as u64);
+    let end = text_of_end(0, "refused=", most, list.len() as u64);
     text.extend_from_slice(end.as_str().as_bytes())?;
     Ok(text)
 }
@@ -236,12 +254,12 @@ fn tell_faults<F: FileSystem>(
     wanted: Wanted<'_>,
     map: Option<Map>,
     faults: Vec<MapFault>,
-    points_left: bool,
+    touched: u64,
 ) -> Result<Answer<Listed>, Stop>
     requires { MayMake (F.under files.old) (option_map string_bytes wanted.made.now) (map_list string_bytes names.now) Collection }
     ensures { let w = world F.under F.log F.knows files.old files.new in
         let asked = wanted_of (map_list string_bytes names.now) wanted.entry in
-        Does w [] asked.made (IsFaultList w (layout_with options) asked map (record { faults = faults; points_left = points_left }))
+        Does w [] asked.made (IsFaultList w (layout_with options) asked map (record { faults = faults; touched = touched }))
         (StopsAgain w asked) result }
 {
     let drawn = map.as_ref();
@@ -265,7 +283,7 @@ fn tell_faults<F: FileSystem>(
         wanted.places,
         wanted.told,
         listed,
-        points_left,
+        touched,
     )?;
     make_collection(
         files,
@@ -275,9 +293,9 @@ fn tell_faults<F: FileSystem>(
         drawn,
         &spoken,
         shown,
-        points_left,
+        touched,
     )?;
-    Ok(faults_answer(text, faults, points_left, wanted.told))
+    Ok(faults_answer(text, faults, touched, wanted.told))
 }
 
 // Whether the files are read again for the records that faults speak of.
@@ -294,18 +312,15 @@ fn reads_again(places: bool, made: &Option<String>) -> bool
 fn faults_answer(
     text: Option<Vec<u8>>,
     faults: Vec<MapFault>,
-    points_left: bool,
+    touched: u64,
     told: Told,
 ) -> Answer<Listed>
-    ensures { result ≡ faults_answer text faults points_left told }
+    ensures { result ≡ faults_answer text faults touched told }
 {
     let text = match text {
         Some(text) => Listed::Lines(text),
         None => Listed::Listing {
-            listing: Listing::Faults {
-                faults,
-                points_left,
-            },
+            listing: Listing::Faults { faults, touched },
             most: most_of(told),
         },
     };

@@ -25,10 +25,10 @@ pub(crate) fn prepare(
     places: bool,
     told: Told,
     faults: &[MapFault],
-    points_left: bool,
+    touched: u64,
 ) -> Result<Option<Vec<u8>>, AllocError>
     ensures { IfOk result (IsPrepared (map string_bytes names.now) (chains_of (option_copied drawn.entry)) spoken.now
-        places told faults.now points_left) }
+        places told faults.now touched) }
 {
     if places {
         let counts = spoken.counts.as_slice();
@@ -38,9 +38,10 @@ pub(crate) fn prepare(
             counts,
             drawn,
             &spoken.lines,
+            spoken.places.as_slice(),
             told,
             faults,
-            points_left,
+            touched,
         )?;
         return Ok(Some(text));
     }

@@ -1,8 +1,7 @@
-//! The records that faults speak of, where they are asked for.
+//! Where faults lie and the records that they speak of, where these are asked for.
 
 ghost use Rattle.std.specs.Prelude.{◌≡◌, true, IfOk, IfErr, map, option_copied, string_bytes};
 ghost use Rattle.tl_record.specs.Layout.{layout_with};
-ghost use Rattle.tigertopo_faults.specs.Records.SpokenOf.{chains_of};
 ghost use Rattle.tl_cert_output.specs.Stops.{StopsFor};
 ghost use Rattle.tigertopo_files.specs.Log.{LogsAgain};
 ghost use Rattle.tigertopo_files.specs.World.{world};
@@ -20,7 +19,8 @@ use tl_check_verdict::MapFault;
 use tl_map_county::Map;
 use tl_record::Options;
 
-/// The records that faults speak of, from files that are read again, where they are asked for. A device fails only there.
+/// Where faults lie, and the records that they speak of, from files that are read again, where they are asked for. A device fails only
+/// there.
 pub(crate) fn speak_of<F: FileSystem>(
     files: &mut F,
     alloc: Global,
@@ -32,7 +32,7 @@ pub(crate) fn speak_of<F: FileSystem>(
     faults: &[MapFault],
 ) -> Result<Spoken, Stop>
     ensures spoken { IfOk result (λ spoken. again ≡ true → AreSpoken (layout_with options) (F.under files.old)
-        (map string_bytes names.now) (chains_of (option_copied drawn.entry)) faults.now spoken) }
+        (map string_bytes names.now) (option_copied drawn.entry) faults.now spoken) }
     ensures stops { IfErr result (StopsFor ((again ≡ true)
         × FailsAgain (world F.under F.log F.knows files.old files.new) (map string_bytes names.now))) }
     ensures stays { F.under files.new ≡ F.under files.old }

@@ -260,9 +260,20 @@ impl FileSystem for FilesInMemory {
         }
     }
 
+    fn passes(&self, _name: &str) -> bool {
+        false
+    }
+
+    fn obstacle(&self, _alloc: Global) -> Result<Option<String>, AllocError> {
+        Ok(None)
+    }
+
     fn show_progress(&mut self, last: String) {
         self.watched = Some(last);
     }
+
+    // Each of these files can be read again.
+    fn keep_passing(&mut self) {}
 
     fn room(
         &self,

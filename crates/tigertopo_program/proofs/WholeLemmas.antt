@@ -26,7 +26,7 @@ plain_answers (Audit (All most) places made) options names w status text plain s
 plain_answers (Build made) options names w status text plain so = so
 plain_answers (Check cert budget) options names w status text plain so = so
 plain_answers (Convert cert made) options names w status text plain so = so
-plain_answers (Export made) options names w status text plain so = absurd (cc)
+plain_answers (Export made layer) options names w status text plain so = absurd (cc)
 plain_answers (Draw made view faults) options names w status text plain so = absurd (cc)
 
 pub plain_stops : (asked : Asked) (options : Options) (names : List (List ℕ)) (w : World) (stop : Stop) → is_plain asked ≡ true → PlainStops asked options names w stop → AllStops asked options names w stop
@@ -40,7 +40,7 @@ plain_stops (Audit (All most) places made) options names w stop plain so = absur
 plain_stops (Build made) options names w stop plain so = so
 plain_stops (Check cert budget) options names w stop plain so = so
 plain_stops (Convert cert made) options names w stop plain so = so
-plain_stops (Export made) options names w stop plain so = absurd (cc)
+plain_stops (Export made layer) options names w stop plain so = absurd (cc)
 plain_stops (Draw made view faults) options names w stop plain so = absurd (cc)
 
 -- an audit that asks for more than one line

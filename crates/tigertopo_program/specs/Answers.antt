@@ -10,7 +10,7 @@ use Rattle.tigertopo_files.specs.World.{World}
 use Rattle.tigertopo_files.specs.Reading.{text_under}
 use Rattle.tigertopo_command.specs.Commands.{PlainAnswers, PlainStops}
 use Rattle.tigertopo_program.specs.Draw.Drawing.{DrawAnswers}
-use Rattle.tigertopo_program.specs.Export.Exports.{ExportAnswers}
+use Rattle.tigertopo_program.specs.Export.Exports.{ExportAnswers, asked_of}
 use Rattle.tigertopo_lists.specs.Listed.{ListAnswers, StopsList}
 
 -- what is answered, with which status, where the records are in the files of these names
@@ -18,7 +18,8 @@ abbrev pub AllAnswers : Asked → Options → (names : List (List ℕ)) → Worl
 AllAnswers (Audit One false None) options names w = PlainAnswers (Audit One false None) options names w
 AllAnswers (Audit told places made) options names w =
     ListAnswers w options (text_under w.before names) (record { names = names; told = told; places = places; made = option_map string_bytes made })
-AllAnswers (Export made) options names w = ExportAnswers w (layout_with options) (text_under w.before names) (string_bytes made)
+AllAnswers (Export made layer) options names w =
+    ExportAnswers w (layout_with options) (text_under w.before names) (asked_of names (string_bytes made) layer)
 AllAnswers (Draw made view faults) options names w =
     DrawAnswers w options (text_under w.before names) (record { name = string_bytes made; view = view; shows = faults })
 AllAnswers other options names w = PlainAnswers other options names w

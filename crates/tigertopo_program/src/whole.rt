@@ -8,7 +8,7 @@ use crate::export::export;
 use std::alloc::Global;
 use std::hash::RandomState;
 use tigertopo_command::plain::{answer, is_plain};
-use tigertopo_command::run::{Outcome, Program, tell_answer};
+use tigertopo_command::run::{Outcome, Program, is_aside, tell_answer};
 use tigertopo_files::FileSystem;
 use tigertopo_lists::{Wanted, list};
 use tigertopo_words::{Asked, Command};
@@ -36,8 +36,9 @@ impl Program for Whole {
     ) -> Outcome {
         if is_plain(&command.asked) {
             let answer = answer(files, alloc, hasher, command);
-            return tell_answer(alloc, answer, out, err);
+            return tell_answer(alloc, answer, false, out, err);
         }
+        let aside = is_aside(&*files, command);
         let options = command.options;
         let names = command.files.as_slice();
         match &command.asked {
@@ -48,15 +49,15 @@ impl Program for Whole {
                     made,
                 };
                 let answer = list(files, alloc, hasher, options, names, wanted);
-                tell_answer(alloc, answer, out, err)
+                tell_answer(alloc, answer, aside, out, err)
             }
-            Asked::Export { made } => {
-                let answer = export(files, alloc, hasher, options, names, made);
-                tell_answer(alloc, answer, out, err)
+            Asked::Export { made, layer } => {
+                let answer = export(files, alloc, hasher, options, names, made, *layer);
+                tell_answer(alloc, answer, aside, out, err)
             }
             Asked::Draw { made, view, faults } => {
                 let answer = draw(files, alloc, hasher, options, names, made, *view, *faults);
-                tell_answer(alloc, answer, out, err)
+                tell_answer(alloc, answer, aside, out, err)
             }
             _ => unreachable!(),
         }

@@ -1,22 +1,20 @@
 -- What is drawn of chains, told by what is still to come.
-use Rattle.std.proofs.Common.{◌≡◌, ℕ, suc, ◌+◌, ◌<◌, ◌≤◌, List, [], ◌∷◌, length, get_or, drop, Some, refl, sym, ap, ◌∙◌, arith}
+use Rattle.std.proofs.Common.{◌≡◌, ℕ, suc, ◌+◌, ◌<◌, ◌≤◌, List, [], ◌∷◌, length, drop, Some, sym, ap, ◌∙◌, arith}
 use Rattle.std.specs.Int.{from_bool}
 use Rattle.std.specs.Prelude.{Bool, true, false, if◌then◌else◌, cond, not, ◌==◌, nat_le, slice_get, fold, Option, None, is_some, MatchOption}
-use Rattle.std.proofs.lemmas.List.{drop_more, at_drop_more, at_drop_all}
+use Rattle.std.proofs.lemmas.List.{drop_more, at_drop_all}
 use Rattle.std.proofs.lemmas.Bool.Decides.{nat_tests}
 use Rattle.std.proofs.lemmas.Option.{slice_get_within, get_or_from_slice_get}
 use Rattle.std.specs.Map.{lookup}
 use Rattle.tl_geom.specs.declared.point.Point.{Point}
 use Rattle.tl_map_county.specs.declared.sides.Side.{Side}
-use Rattle.tl_map_county.specs.TheMap.{TheMap, MapChain, IsChain}
-use Rattle.tigertopo_svg.specs.declared.picture.Picture.{Picture}
+use Rattle.tl_map_county.specs.TheMap.{MapChain, IsChain}
 use Rattle.tigertopo_svg.specs.declared.frame.Frame.{Frame}
-use Rattle.tigertopo_svg.specs.declared.frame.Spot.{Spot}
 use Rattle.tigertopo_svg.specs.declared.walk.Stroke.{Stroke}
-use Rattle.tigertopo_svg.specs.Frames.{spot_of, is_seen}
+use Rattle.tigertopo_svg.specs.Frames.{is_seen}
 use Rattle.tl_record_key.specs.declared.key.PolyKey.{PolyKey}
 use Rattle.tl_map_county.specs.declared.polygons.Polygon.{Polygon}
-use Rattle.tigertopo_svg.specs.Pictures.{is_key, point_of_key, stroke_count, skips, first_fitting, is_marked, picture_of}
+use Rattle.tigertopo_svg.specs.Pictures.{is_key, point_of_key}
 use Rattle.tigertopo_svg.specs.Strokes.{is_passed, strokes_from, chain_strokes, Drawing, drawings, is_shown}
 
 -- a list from the place of one of it on
@@ -24,19 +22,18 @@ pub from_place : {A : Type 0} (xs : List A) (n : ℕ) (x : A) → slice_get xs n
 from_place xs n x is = drop_more xs n x (slice_get_within xs n x is) ∙ ap (λ y. y ∷ drop (n + 1) xs) (get_or_from_slice_get xs n x x is)
 
 -- what is drawn of a chain
-abbrev pub drawing_of : Frame → (skipped number : ℕ) → List Point → Drawing
-drawing_of f skipped number points = record { strokes = chain_strokes f skipped number points; points = points }
+abbrev pub drawing_of : Frame → List Point → Drawing
+drawing_of f points = record { strokes = chain_strokes f points; points = points }
 
 -- what is drawn of a chain before what is drawn of those behind it
-pub drawings_next : (f : Frame) (skipped : ℕ) (chains : List MapChain) (n tlid : ℕ) (points : List Point) (left right : Side) → IsChain (slice_get chains n) tlid points left right
-    → drawings f skipped n (drop n chains) ≡ drawing_of f skipped n points ∷ drawings f skipped (n + 1) (drop (n + 1) chains)
-drawings_next f skipped chains n tlid points left right it =
-    ap (drawings f skipped n) (from_place chains n it.chain it.is)
-    ∙ ap (λ ps. drawing_of f skipped n ps ∷ drawings f skipped (n + 1) (drop (n + 1) chains)) (sym it.points_are)
+pub drawings_next : (f : Frame) (chains : List MapChain) (n tlid : ℕ) (points : List Point) (left right : Side) → IsChain (slice_get chains n) tlid points left right
+    → drawings f (drop n chains) ≡ drawing_of f points ∷ drawings f (drop (n + 1) chains)
+drawings_next f chains n tlid points left right it =
+    ap (drawings f) (from_place chains n it.chain it.is) ∙ ap (λ ps. drawing_of f ps ∷ drawings f (drop (n + 1) chains)) (sym it.points_are)
 
 -- nothing is drawn behind the last chain
-pub drawings_end : (f : Frame) (skipped : ℕ) (chains : List MapChain) (n : ℕ) → length chains ≤ n → drawings f skipped n (drop n chains) ≡ []
-drawings_end f skipped chains n past = at_drop_all (drawings f skipped n) chains n past
+pub drawings_end : (f : Frame) (chains : List MapChain) (n : ℕ) → length chains ≤ n → drawings f (drop n chains) ≡ []
+drawings_end f chains n past = at_drop_all (drawings f) chains n past
 
 -- ---- counts
 
@@ -45,24 +42,24 @@ few true xs ys n drawn left = drawn
 few false xs ys n drawn left = left
 
 -- there are no more strokes than points
-pub strokes_few : (f : Frame) (grain : ℕ) (down : Bool) (last : Spot) (points : List Point) → length (strokes_from f grain down last points) ≤ length points
-strokes_few f grain down last [] = omega arith
-strokes_few f grain down last (p ∷ rest) =
-    few (is_passed grain last (spot_of f p) rest) _ _ _ (omega (arith, strokes_few f grain down last rest))
-    (few (is_seen f last (spot_of f p)) _ _ _ (omega (arith, strokes_few f grain true (spot_of f p) rest)) (omega (arith, strokes_few f grain false (spot_of f p) rest)))
+pub strokes_few : (f : Frame) (down : Bool) (last : Point) (points : List Point) → length (strokes_from f down last points) ≤ length points
+strokes_few f down last [] = omega arith
+strokes_few f down last (p ∷ rest) =
+    few (is_passed f last p rest) _ _ _ (omega (arith, strokes_few f down last rest))
+    (few (is_seen f last p) _ _ _ (omega (arith, strokes_few f true p rest)) (omega (arith, strokes_few f false p rest)))
 
 -- what is counted of drawings: one chain more
-pub counted_next : (g : ℕ → Drawing → ℕ) (f : Frame) (skipped : ℕ) (chains : List MapChain) (n tlid : ℕ) (points : List Point) (left right : Side) (count next whole : ℕ)
-    → IsChain (slice_get chains n) tlid points left right → next ≡ g count (drawing_of f skipped n points)
-    → fold g count (drawings f skipped n (drop n chains)) ≡ whole → fold g next (drawings f skipped (n + 1) (drop (n + 1) chains)) ≡ whole
-counted_next g f skipped chains n tlid points left right count next whole it same before =
-    ap (λ a. fold g a (drawings f skipped (n + 1) (drop (n + 1) chains))) same
-    ∙ sym (ap (fold g count) (drawings_next f skipped chains n tlid points left right it)) ∙ before
+pub counted_next : (g : ℕ → Drawing → ℕ) (f : Frame) (chains : List MapChain) (n tlid : ℕ) (points : List Point) (left right : Side) (count next whole : ℕ)
+    → IsChain (slice_get chains n) tlid points left right → next ≡ g count (drawing_of f points)
+    → fold g count (drawings f (drop n chains)) ≡ whole → fold g next (drawings f (drop (n + 1) chains)) ≡ whole
+counted_next g f chains n tlid points left right count next whole it same before =
+    ap (λ a. fold g a (drawings f (drop (n + 1) chains))) same
+    ∙ sym (ap (fold g count) (drawings_next f chains n tlid points left right it)) ∙ before
 
 -- all chains
-pub counted_end : (g : ℕ → Drawing → ℕ) (f : Frame) (skipped : ℕ) (chains : List MapChain) (n count whole : ℕ) → length chains ≤ n
-    → fold g count (drawings f skipped n (drop n chains)) ≡ whole → count ≡ whole
-counted_end g f skipped chains n count whole past before = sym (ap (fold g count) (drawings_end f skipped chains n past)) ∙ before
+pub counted_end : (g : ℕ → Drawing → ℕ) (f : Frame) (chains : List MapChain) (n count whole : ℕ) → length chains ≤ n
+    → fold g count (drawings f (drop n chains)) ≡ whole → count ≡ whole
+counted_end g f chains n count whole past before = sym (ap (fold g count) (drawings_end f chains n past)) ∙ before
 
 -- the same of any list
 pub fold_next : {A : Type 0} (g : ℕ → A → ℕ) (xs : List A) (n : ℕ) (x : A) (count next whole : ℕ) → slice_get xs n ≡ Some x → next ≡ g count x
@@ -129,7 +126,7 @@ pub shown_if : (found : Option Stroke) (left behind strokes : List Stroke) (poin
 shown_if None left behind strokes points same none = ap (λ l. not (length l == 0)) (sym none ∙ same)
 shown_if (Some stroke) left behind strokes points same some = sym (not_none (length behind)) ∙ ap (λ l. not (length l == 0)) (sym some ∙ same)
 
--- ---- how many are left out
+-- ---- few
 
 fits : (n most : ℕ) → n ≤ most → nat_le n most ≡ true
 fits n most few = grind (arith, nat_tests)
@@ -148,23 +145,3 @@ counted_more count (d ∷ ds) = omega (arith, counted_more (count + length d.str
 -- more are counted of some
 pub counted_many : (count most whole : ℕ) (ds : List Drawing) → most < count → fold (λ a (d : Drawing). a + length d.strokes) count ds ≡ whole → false ≡ nat_le whole most
 counted_many count most whole ds many is = sym (fits_not whole most (omega (arith, counted_more count ds, is)))
-
-pub fitting_here : (f : Frame) (chains : List MapChain) (xs : List ℕ) (i : ℕ) (few : Bool) (whole : ℕ) → i < length xs → few ≡ nat_le (stroke_count f (get_or xs i 0) chains) 300000
-    → few ≡ true → first_fitting f chains (drop i xs) ≡ whole → get_or xs i 0 ≡ whole
-fitting_here f chains xs i few whole within is here before =
-    sym (ap (λ b. if b then get_or xs i 0 else first_fitting f chains (drop (i + 1) xs)) (sym is ∙ here))
-    ∙ sym (at_drop_more (first_fitting f chains) xs i 0 within) ∙ before
-
-pub fitting_behind : (f : Frame) (chains : List MapChain) (xs : List ℕ) (i : ℕ) (few : Bool) (whole : ℕ) → i < length xs → few ≡ nat_le (stroke_count f (get_or xs i 0) chains) 300000
-    → few ≡ false → first_fitting f chains (drop i xs) ≡ whole → first_fitting f chains (drop (i + 1) xs) ≡ whole
-fitting_behind f chains xs i few whole within is here before =
-    sym (ap (λ b. if b then get_or xs i 0 else first_fitting f chains (drop (i + 1) xs)) (sym is ∙ here))
-    ∙ sym (at_drop_more (first_fitting f chains) xs i 0 within) ∙ before
-
-pub fitting_none : (f : Frame) (chains : List MapChain) (xs : List ℕ) (i whole : ℕ) → length xs ≤ i → first_fitting f chains (drop i xs) ≡ whole → 511 ≡ whole
-fitting_none f chains xs i whole past before = sym (at_drop_all (first_fitting f chains) xs i past) ∙ before
-
--- a picture of these parts
-pub same_picture : (f : Frame) (m : TheMap) (list : List ℕ) (skipped : ℕ) (marked : Bool) → list ≡ skips → skipped ≡ first_fitting f m.chains list → marked ≡ is_marked f skipped m
-    → ◌≡◌ {A = Picture} (record { frame = f; skipped = skipped; is_marked = marked }) (picture_of f m)
-same_picture f m list skipped marked all fits is = rw (is, fits, all) refl

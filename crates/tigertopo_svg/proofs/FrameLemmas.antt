@@ -1,11 +1,13 @@
 -- Rectangles and frames, part by part.
-use Rattle.std.proofs.Common.{◌≡◌, ℕ, ◌+◌, ◌≤◌, ℤ, List, length, drop, sym, ap, ap₂, ◌∙◌}
+use Rattle.std.proofs.Common.{◌≡◌, ℕ, ◌+◌, ◌≤◌, ℤ, List, length, drop, refl, sym, ap, ap₂, ◌∙◌}
+use Rattle.tigertopo_svg.specs.declared.frame.Frame.{Frame}
 use Rattle.std.specs.Prelude.{slice_get}
 use Rattle.std.proofs.lemmas.List.{at_drop_all}
 use Rattle.tl_geom.specs.declared.point.Point.{Point}
 use Rattle.tl_map_county.specs.declared.sides.Side.{Side}
 use Rattle.tl_map_county.specs.TheMap.{MapChain, IsChain}
-use Rattle.tigertopo_svg.specs.Frames.{around_points, around_chains}
+use Rattle.std.specs.Prelude.{Bool, true, false, ◌&&◌}
+use Rattle.tigertopo_svg.specs.Frames.{around_points, around_chains, is_across, are_one_sided}
 use Rattle.tigertopo_svg.proofs.DrawingLemmas.{from_place}
 use Rattle.tl_geom.specs.declared.rect.Rect.{Rect}
 
@@ -25,3 +27,24 @@ around_next chains n tlid points left right rect next whole it same before =
 -- all are
 pub around_end : (chains : List MapChain) (n : ℕ) (rect whole : Rect) → length chains ≤ n → around_chains rect (drop n chains) ≡ whole → rect ≡ whole
 around_end chains n rect whole past before = sym (at_drop_all (around_chains rect) chains n past) ∙ before
+
+-- two frames about rectangles with the same parts
+pub same_frame : (a b : ℤ) (c d e : ℕ) (f g : ℤ) (h i j : ℕ) → a ≡ f → b ≡ g → c ≡ h → d ≡ i → e ≡ j
+    → ◌≡◌ {A = Frame} (record { origin = record { x = a; y = b }; shift = 0; wide = c; high = d; cosine = e })
+    (record { origin = record { x = f; y = g }; shift = 0; wide = h; high = i; cosine = j })
+same_frame a b c d e f g h i j p q r s t = rw (p, q, r, s, t) refl
+
+-- a test of numbers that are kept
+pub across_is : (r : Bool) (first last u v f l x y : ℤ) → r ≡ is_across first last u v → first ≡ f → last ≡ l → u ≡ x → v ≡ y → r ≡ is_across f l x y
+across_is r first last u v f l x y e p q s t = e ∙ ap₂ (λ a b. is_across a b u v) p q ∙ ap₂ (λ a b. is_across f l a b) s t
+
+-- two tests, one behind the other
+pub and_then : (a b x y : Bool) → a ≡ true → a ≡ x → b ≡ y → b ≡ (x && y)
+and_then a b x y so first second = second ∙ ap (λ z. z && y) (sym so ∙ first)
+
+pub and_else : (a x y : Bool) → a ≡ false → a ≡ x → a ≡ (x && y)
+and_else a x y not_so first = not_so ∙ ap (λ z. z && y) (sym not_so ∙ first)
+
+-- the same four numbers
+pub same_four : (a b c d e f g h : ℤ) → a ≡ e → b ≡ f → c ≡ g → d ≡ h → are_one_sided a b c d ≡ are_one_sided e f g h
+same_four a b c d e f g h p q r s = ap₂ (λ x y. are_one_sided x y c d) p q ∙ ap₂ (λ x y. are_one_sided e f x y) r s

@@ -3,3 +3,4 @@ pub mod PieceLemmas
 pub mod DrawingLemmas
 pub mod FrameLemmas
 pub mod TextLemmas
+pub mod PlaceLemmas

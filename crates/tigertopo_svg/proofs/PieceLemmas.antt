@@ -37,5 +37,5 @@ flat_next f xs i d within = ap (flat_map f) (drop_more xs i d within)
 pub flat_end : {A : Type 0} (f : A → List ℕ) (xs : List A) (i : ℕ) → length xs ≤ i → flat_map f (drop i xs) ≡ []
 flat_end f xs i past = ap (flat_map f) (drop_all i xs past)
 
-pub six_pieces : (a b c d e f : List ℕ) → (a ++ b ++ c) ++ (d ++ e ++ f) ≡ a ++ b ++ c ++ d ++ e ++ f
-six_pieces a b c d e f = simp append_assoc
+pub seven_pieces : (a b c d e f g : List ℕ) → (a ++ b ++ c) ++ (d ++ e ++ f ++ g) ≡ a ++ b ++ c ++ d ++ e ++ f ++ g
+seven_pieces a b c d e f g = simp append_assoc

@@ -1,6 +1,6 @@
 -- Parts of a picture's text.
-use Rattle.std.proofs.Common.{◌≡◌, ℕ, ℤ, List, [], ◌++◌, ◌-◌, ◌<◌, length, get_or, codes, true, false, refl, sym, ap, ap₂, ◌∙◌, arith}
-use Rattle.std.specs.Prelude.{◌-ℤ◌, ◌==◌, not, if◌then◌else◌}
+use Rattle.std.proofs.Common.{◌≡◌, ℕ, ℤ, pos, ◌+ℤ◌, List, [], ◌++◌, ◌-◌, ◌<◌, length, get_or, codes, true, false, refl, sym, ap, ap₂, ◌∙◌, arith}
+use Rattle.std.specs.Prelude.{◌-ℤ◌, ◌==◌, decimal, not, if◌then◌else◌}
 use Rattle.std.specs.Option.{option_map_or}
 use Rattle.std.proofs.lemmas.Option.{slice_get-get_or}
 use Rattle.std.specs.Fmt.{signed_decimal}
@@ -8,9 +8,8 @@ use Rattle.tl_geom.specs.declared.point.Point.{Point}
 use Rattle.tigertopo_svg.specs.declared.frame.Frame.{Frame}
 use Rattle.tigertopo_svg.specs.declared.frame.Spot.{Spot}
 use Rattle.tigertopo_svg.specs.declared.walk.Stroke.{Stroke}
-use Rattle.tigertopo_svg.specs.Frames.{spot_of}
-use Rattle.tigertopo_svg.specs.Pictures.{is_inside}
-use Rattle.tigertopo_svg.specs.Texts.{move_text, start_text, stroke_text, dot_text, dot_at, ends_text, circle_head}
+use Rattle.tigertopo_svg.specs.Frames.{spot_of, is_inside}
+use Rattle.tigertopo_svg.specs.Texts.{move_text, start_text, stroke_text, dot_text, dot_at, ends_text, circle_head, closer, closer_text, east_label, west_label}
 
 -- a stroke that is put together
 pub stroke_parts : (s : Stroke) (start one two : List ℕ) (x y : ℤ) → start ≡ start_text s → one ≡ start ++ codes "l" ++ signed_decimal x → two ≡ one ++ codes " " ++ signed_decimal y
@@ -47,3 +46,19 @@ ends_parts f strokes points d e shown some =
 -- nothing is drawn of it
 pub no_ends : (f : Frame) (strokes : List Stroke) (points : List Point) → not (length strokes == 0) ≡ false → [] ≡ ends_text f (record { strokes = strokes; points = points })
 no_ends f strokes points none = sym (ap (λ b. if b then dot_at f points 0 ++ dot_at f points (length points - 1) else []) none)
+
+-- what to type for a place, and the beginning of a label, that are put together
+pub closer_parts : (f : Frame) (p : Point) (x y : ℤ) (w : ℕ) (one two three four : List ℕ) → one ≡ codes "\n--at @" ++ signed_decimal x → two ≡ one ++ codes "," ++ signed_decimal y
+    → three ≡ two ++ codes " --width " ++ decimal w → four ≡ three ++ codes "</title></circle>" → x ≡ p.x → y ≡ p.y → w ≡ closer f → four ≡ closer_text f p
+unfolding closer_text
+closer_parts f p x y w one two three four first second third fourth east north wide = rw (fourth, third, second, first, east, north, wide) refl
+
+pub east_parts : (s : Spot) (x y : ℤ) (one two three : List ℕ) → one ≡ codes "<text class=\"code\" x=\"" ++ signed_decimal x → two ≡ one ++ codes "\" y=\"" ++ signed_decimal y
+    → three ≡ two ++ codes "\">" → x ≡ s.x +ℤ pos 80 → y ≡ s.y +ℤ pos 45 → three ≡ east_label s
+unfolding east_label
+east_parts s x y one two three first second third east south = rw (third, second, first, east, south) refl
+
+pub west_parts : (s : Spot) (x y : ℤ) (one two three : List ℕ) → one ≡ codes "<text class=\"code\" text-anchor=\"end\" x=\"" ++ signed_decimal x → two ≡ one ++ codes "\" y=\"" ++ signed_decimal y
+    → three ≡ two ++ codes "\">" → x ≡ s.x -ℤ pos 80 → y ≡ s.y +ℤ pos 45 → three ≡ west_label s
+unfolding west_label
+west_parts s x y one two three first second third west south = rw (third, second, first, west, south) refl

@@ -1,48 +1,122 @@
--- Which part of the plane a picture shows, and where points lie in it. Places are in tenths of a pixel, to the east and to
--- the south of the upper left corner of what is shown; about that there is a margin of ten pixels.
-use Rattle.std.specs.Prelude.{ℕ, ◌+◌, ◌*◌, ◌/◌, max, ℤ, pos, negsuc, ◌+ℤ◌, ◌-ℤ◌, ◌*ℤ◌, unsigned_abs, int_le, nat_le, Bool, ◌&&◌, List, [], ◌∷◌}
+-- Which part of the plane a picture shows, and where points lie in it.
+--
+-- What is shown is measured in ten-thousandths of a millionth of a degree of latitude. Its longer side is 980 pixels long,
+-- and about it there is a margin of ten pixels.
+use Rattle.std.specs.Prelude.{ℕ, ◌+◌, ◌-◌, ◌*◌, ◌/◌, ◌^◌, max, ℤ, pos, negsuc, ◌+ℤ◌, ◌-ℤ◌, ◌*ℤ◌, unsigned_abs, int_le, int_lt, nat_lt, Bool, not, ◌&&◌, ◌||◌, List, [], ◌∷◌}
 use Rattle.std.specs.Int.{int_div_euclid, int_min, int_max}
 use Rattle.tl_geom.specs.declared.point.Point.{Point}
 use Rattle.tl_geom.specs.declared.rect.Rect.{Rect}
 use Rattle.tl_map_county.specs.TheMap.{MapChain}
 use Rattle.tigertopo_svg.specs.declared.frame.Frame.{Frame}
+use Rattle.tigertopo_svg.specs.declared.frame.Position.{Position}
 use Rattle.tigertopo_svg.specs.declared.frame.Spot.{Spot}
 
--- the longer side of what is shown, in millionths of a degree
+-- how long a degree of longitude is beside one of latitude, in ten-thousandths, at the latitude that is half of so many
+-- millionths of a degree: the cosine by Bhaskara's rule, (180² - 4φ²) / (180² + φ²) at φ degrees, rounded to the nearest. It
+-- is right at 0, 60 and 90 degrees, off by less than 17 ten-thousandths anywhere between them, and never taken below one
+abbrev pub cosine : ℕ → ℕ
+cosine twice = max ((20000 * (360000000 ^ 2 - 4 * (twice * twice)) + (360000000 ^ 2 + twice * twice)) / (2 * (360000000 ^ 2 + twice * twice))) 1
+
+-- how wide and how high that is which is shown
+abbrev pub breadth : Frame → ℕ
+breadth f = f.wide * f.cosine
+
+abbrev pub height : Frame → ℕ
+height f = f.high * 10000
+
+-- the longer side, at least a millionth of a degree
 abbrev pub side : Frame → ℕ
-side f = max (max f.wide f.high) 1
+side f = max (max (breadth f) (height f)) 10000
 
--- so many millionths of a degree in tenths of a pixel: the longer side is 980 pixels long
-abbrev pub tenths : Frame → ℤ → ℤ
-tenths f steps = int_div_euclid (steps *ℤ pos 9800) (pos (side f))
+-- twice how far it is from one coordinate to another, and so far more, by a weight
+abbrev pub way : (from to : ℤ) → (shift weight : ℕ) → ℤ
+way from to shift weight = (pos 2 *ℤ (to -ℤ from) +ℤ pos shift) *ℤ pos weight
 
--- where a point lies in the picture: as far to the east of its border in the west as on the map, and as far to the south
--- of that in the north
+-- how far a longitude lies to the east of what is shown, and a latitude to the south, in parts of which `side` make a tenth of a pixel
+abbrev pub east : Frame → ℤ → ℤ
+east f x = way f.origin.x x f.shift (4900 * f.cosine)
+
+abbrev pub south : Frame → ℤ → ℤ
+south f y = way y f.origin.y f.shift 49000000
+
+-- where a point lies, in such parts
+abbrev pub position : Frame → Point → Position
+position f p = record { x = east f p.x; y = south f p.y }
+
+-- the same in whole tenths of a pixel
+abbrev pub spot_at : Frame → Position → Spot
+spot_at f at = record { x = int_div_euclid at.x (pos (side f)); y = int_div_euclid at.y (pos (side f)) }
+
 abbrev pub spot_of : Frame → Point → Spot
-spot_of f p = record { x = tenths f (p.x -ℤ f.origin.x +ℤ pos f.shift); y = tenths f (f.origin.y -ℤ p.y +ℤ pos f.shift) }
+spot_of f p = spot_at f (position f p)
 
--- how many pixels so many millionths of a degree take, with the margin
-abbrev pub pixels : Frame → ℕ → ℕ
-pixels f length = length * 980 / side f + 20
+-- how far the picture reaches to the east and to the south without its margin, in such parts: to the east 580 pixels at least, so
+-- that there is room for what is written above it
+abbrev pub reach_east : Frame → ℕ
+reach_east f = max (9800 * breadth f) (5800 * side f)
 
--- where the margin begins and where it ends, on an axis along which so many millionths of a degree are shown
-abbrev pub first_tenth : ℤ
-first_tenth = negsuc 99
+abbrev pub reach_south : Frame → ℕ
+reach_south f = 9800 * height f
 
-abbrev pub last_tenth : Frame → ℕ → ℤ
-last_tenth f length = pos (pixels f length * 10) -ℤ pos 100
+-- the corners of the picture, margin included: the north-western and the south-eastern
+abbrev pub first_corner : Frame → Position
+first_corner f = record { x = pos 0 -ℤ pos (100 * side f); y = pos 0 -ℤ pos (100 * side f) }
 
--- do places from one to the other, in either order, lie in the picture along an axis, in part at least
-abbrev pub is_across : Frame → ℕ → ℤ → ℤ → Bool
-is_across f length u v = int_le (int_min u v) (last_tenth f length) && int_le first_tenth (int_max u v)
+abbrev pub last_corner : Frame → Position
+last_corner f = record { x = pos (reach_east f + 100 * side f); y = pos (reach_south f + 100 * side f) }
 
--- does the rectangle about two places meet the picture, margin and borders included
-abbrev pub is_seen : Frame → Spot → Spot → Bool
-is_seen f a b = is_across f f.wide a.x b.x && is_across f f.high a.y b.y
+-- does a part of what lies from one number to another, in either order, lie from the first to the last
+abbrev pub is_across : (first last u v : ℤ) → Bool
+is_across first last u v = int_le (int_min u v) last && int_le first (int_max u v)
 
--- is the second place no further than so many tenths of a pixel from the first, along both axes
-abbrev pub is_near : ℕ → Spot → Spot → Bool
-is_near grain a b = nat_le (unsigned_abs (b.x -ℤ a.x)) grain && nat_le (unsigned_abs (b.y -ℤ a.y)) grain
+-- do the rectangle about two positions and the picture meet
+abbrev pub are_across : Frame → Position → Position → Bool
+are_across f a b = is_across (first_corner f).x (last_corner f).x a.x b.x && is_across (first_corner f).y (last_corner f).y a.y b.y
+
+-- does a position lie in the picture, margin and borders included
+abbrev pub is_held : Frame → Position → Bool
+is_held f at = are_across f at at
+
+abbrev pub is_inside : Frame → Point → Bool
+is_inside f p = is_held f (position f p)
+
+-- on which side of the line through two points a position lies: on it where this is 0
+abbrev pub lean : Frame → Point → Point → (x y : ℤ) → ℤ
+lean f p q x y =
+    ((q.x -ℤ p.x) *ℤ pos f.cosine) *ℤ (y -ℤ (position f p).y) -ℤ ((p.y -ℤ q.y) *ℤ pos 10000) *ℤ (x -ℤ (position f p).x)
+
+-- are four numbers above 0, or below it
+abbrev pub are_above : (a b c d : ℤ) → Bool
+are_above a b c d = int_lt (pos 0) a && int_lt (pos 0) b && int_lt (pos 0) c && int_lt (pos 0) d
+
+abbrev pub are_below : (a b c d : ℤ) → Bool
+are_below a b c d = int_lt a (pos 0) && int_lt b (pos 0) && int_lt c (pos 0) && int_lt d (pos 0)
+
+abbrev pub are_one_sided : (a b c d : ℤ) → Bool
+are_one_sided a b c d = are_above a b c d || are_below a b c d
+
+-- do all corners of the picture lie on one side of the line through two points
+abbrev pub is_beside : Frame → Point → Point → Bool
+is_beside f p q =
+    let first = first_corner f in
+    let last = last_corner f in
+    are_one_sided (lean f p q first.x first.y) (lean f p q first.x last.y) (lean f p q last.x first.y) (lean f p q last.x last.y)
+
+-- is a straight line from point to point seen: it has a point in the picture
+abbrev pub is_seen : Frame → Point → Point → Bool
+is_seen f p q = is_inside f p || is_inside f q || (are_across f (position f p) (position f q) && not (is_beside f p q))
+
+-- are so many millionths of a degree, by how long one is, shorter than a third of a pixel: the longer side has 2,940 thirds
+abbrev pub is_tiny : Frame → (gap weight : ℕ) → Bool
+is_tiny f gap weight = nat_lt (gap * weight * 2940) (side f)
+
+-- is the second point nearer to the first than a third of a pixel, along both axes
+abbrev pub is_near : Frame → Point → Point → Bool
+is_near f p q = is_tiny f (unsigned_abs (q.x -ℤ p.x)) f.cosine && is_tiny f (unsigned_abs (q.y -ℤ p.y)) 10000
+
+-- is a rectangle smaller than a third of a pixel, along both axes
+abbrev pub is_small : Frame → Rect → Bool
+is_small f r = is_tiny f (unsigned_abs (r.xmax -ℤ r.xmin)) f.cosine && is_tiny f (unsigned_abs (r.ymax -ℤ r.ymin)) 10000
 
 -- the rectangle, so widened that it holds the point
 abbrev pub widened : Rect → Point → Rect
@@ -64,7 +138,7 @@ abbrev pub around_chains : Rect → List MapChain → Rect
 around_chains r [] = r
 around_chains r (chain ∷ rest) = around_chains (around_points r chain.points) rest
 
--- the frame about a rectangle
+-- the frame about a rectangle, which shows it at its middle latitude
 abbrev pub frame_about : Rect → Frame
 frame_about r =
     record {
@@ -72,6 +146,7 @@ frame_about r =
       shift = 0;
       wide = unsigned_abs (r.xmax -ℤ r.xmin);
       high = unsigned_abs (r.ymax -ℤ r.ymin);
+      cosine = cosine (unsigned_abs (r.ymin +ℤ r.ymax));
     }
 
 -- a rectangle that holds no point, and widens none
@@ -82,6 +157,7 @@ no_points = record { xmin = pos 2147483647; ymin = pos 2147483647; xmax = negsuc
 abbrev pub fitted : List MapChain → Frame
 fitted chains = frame_about (around_chains no_points chains)
 
--- the frame of so many millionths of a degree about a point
+-- the frame about a point, so many millionths of a degree wide and high
 abbrev pub frame_at : Point → ℕ → Frame
-frame_at center width = record { origin = center; shift = width / 2; wide = width; high = width }
+frame_at center width =
+    record { origin = center; shift = width; wide = width; high = width; cosine = cosine (unsigned_abs (pos 2 *ℤ center.y)) }

@@ -1,13 +1,14 @@
--- How a map is drawn: how much of it is left out, and what is marked.
-use Rattle.std.specs.Prelude.{◌≡◌, ℕ, ◌==◌, nat_le, Bool, false, ◌&&◌, if◌then◌else◌, List, [], ◌∷◌, length, sum_by, count_by, ℤ, pos, negsuc, int_le, Option, Some, None, IfSome}
-use Rattle.std.specs.Int.{int_div_euclid}
+-- How a map is drawn, and what is marked.
+use Rattle.std.specs.Prelude.{◌≡◌, ℕ, ◌+◌, ◌-◌, ◌*◌, ◌/◌, ◌^◌, ◌==◌, nat_le, nat_lt, Bool, true, false, ◌&&◌, if◌then◌else◌, List, [], ◌∷◌, length, sum_by, count_by, ℤ, pos, negsuc, ◌+ℤ◌, ◌-ℤ◌, int_le, unsigned_abs, Option, Some, None, IfSome}
+use Rattle.std.specs.Int.{int_div_euclid, int_rem_euclid}
 use Rattle.indexmap.specs.IndexMap.{IndexMap, get}
 use Rattle.std.specs.Option.{option_map_or}
-use Rattle.std.specs.Prelude.{nat_eq}
+use Rattle.std.specs.Prelude.{nat_eq, option_map}
 use Rattle.std.specs.Cmp.Lexicographic.{pointwise}
 use Rattle.std.specs.declared.random_state.RandomState.{RandomState}
 use Rattle.tl_geom.specs.declared.point.Point.{Point}
 use Rattle.tl_geom.specs.declared.rational.Rational.{Rational}
+use Rattle.tl_geom.specs.Plane.{whole}
 use Rattle.tl_record_key.specs.declared.key.PolyKey.{PolyKey}
 use Rattle.tl_map_county.specs.declared.polygons.Polygon.{Polygon}
 use Rattle.tl_map_county.specs.TheMap.{TheMap, MapChain}
@@ -20,30 +21,13 @@ use Rattle.tl_check_verdict.specs.declared.fault.MapFault.TheVariants.{Records, 
 use Rattle.tigertopo_svg.specs.declared.frame.Frame.{Frame}
 use Rattle.tigertopo_svg.specs.declared.keyed.KeyedPoints.{KeyedPoints}
 use Rattle.tigertopo_svg.specs.declared.picture.Picture.{Picture}
-use Rattle.tigertopo_svg.specs.Frames.{spot_of, is_seen}
+use Rattle.tigertopo_svg.specs.declared.places.Mark.{Mark}
+use Rattle.tigertopo_svg.specs.Frames.{east, south, is_held, is_inside}
 use Rattle.tigertopo_svg.specs.Strokes.{drawings, Drawing, is_shown}
 
 -- how many strokes are drawn of chains
-abbrev pub stroke_count : Frame → ℕ → List MapChain → ℕ
-stroke_count f skipped chains = sum_by (λ (d : Drawing). length d.strokes) (drawings f skipped 0 chains)
-
--- how many strokes a picture has at most, where leaving out small chains makes them so few
-abbrev pub most_strokes : ℕ
-most_strokes = 300000
-
--- how many small chains may be left out behind each that is drawn
-unfoldable pub skips : List ℕ
-skips = 0 ∷ 1 ∷ 2 ∷ 3 ∷ 4 ∷ 5 ∷ 6 ∷ 7 ∷ 9 ∷ 12 ∷ 16 ∷ 24 ∷ 32 ∷ 64 ∷ 128 ∷ 256 ∷ []
-
--- the first of these by which there are few enough strokes, or else 511
-abbrev pub first_fitting : Frame → List MapChain → List ℕ → ℕ
-first_fitting f chains [] = 511
-first_fitting f chains (skipped ∷ rest) =
-    if nat_le (stroke_count f skipped chains) most_strokes then skipped else first_fitting f chains rest
-
--- does a point lie in the picture
-abbrev pub is_inside : Frame → Point → Bool
-is_inside f p = is_seen f (spot_of f p) (spot_of f p)
+abbrev pub stroke_count : Frame → List MapChain → ℕ
+stroke_count f chains = sum_by (λ (d : Drawing). length d.strokes) (drawings f chains)
 
 -- how many polygons' points lie in the picture
 abbrev pub point_count : Frame → List Polygon → ℕ
@@ -54,22 +38,16 @@ abbrev pub most_marked : ℕ
 most_marked = 20000
 
 -- are they few enough
-abbrev pub is_marked : Frame → ℕ → TheMap → Bool
-is_marked f skipped m = nat_le (stroke_count f skipped m.chains) most_marked && nat_le (point_count f m.polygons) most_marked
+abbrev pub is_marked : Frame → TheMap → Bool
+is_marked f m = nat_le (stroke_count f m.chains) most_marked && nat_le (point_count f m.polygons) most_marked
 
 -- the picture of a map by a frame
 abbrev pub picture_of : Frame → TheMap → Picture
-picture_of f m =
-    let skipped = first_fitting f m.chains skips in
-    record {
-      frame = f;
-      skipped = skipped;
-      is_marked = is_marked f skipped m;
-    }
+picture_of f m = record { frame = f; is_marked = is_marked f m }
 
 -- what is drawn of the map's chains
 abbrev pub drawn : Picture → TheMap → List Drawing
-drawn picture m = drawings picture.frame picture.skipped 0 m.chains
+drawn picture m = drawings picture.frame m.chains
 
 -- how many chains are shown
 abbrev pub chain_count : Picture → TheMap → ℕ
@@ -106,25 +84,83 @@ IsIndexOf polygons index = (key : PolyKey) → get is_key index key ≡ point_of
 abbrev pub ArePointsOf : List Polygon → KeyedPoints → Type 0
 ArePointsOf polygons points = IfSome points.index (IsIndexOf polygons)
 
+-- is a fault one of a polygon's point
+abbrev pub is_of_point : MapFault → Bool
+is_of_point (PolygonPoint misplaced) = true
+is_of_point (Records fault) = false
+is_of_point (Meet meet) = false
+is_of_point (Side node first next) = false
+is_of_point (Cell odds) = false
+is_of_point (Face fault) = false
+
+-- are at most sixteen of these faults of polygons' points
+abbrev pub are_few : List MapFault → Bool
+are_few faults = nat_le (count_by is_of_point faults) 16
+
 -- the polygon whose point lies wrong
 abbrev pub polygon_of : Misplaced → PolyKey
 polygon_of (OnChain polygon tlid) = polygon
 polygon_of (Outside polygon) = polygon
 polygon_of (InOther polygon other) = polygon
 
--- where a fault of a map lies: where the segments meet, at the node, at the polygon's point, or where the first dart starts
-abbrev pub place_of : TheMap → MapFault → Option Point
+-- where a fault of a map lies: where the segments meet, at the node, at the polygon's point, where the first dart starts, or where
+-- sides face one another
+abbrev pub place_of : TheMap → MapFault → Option Rational
 place_of m (Records fault) = None
-place_of m (Meet meet) = floor_of meet.at
-place_of m (Side node first next) = Some node
-place_of m (PolygonPoint misplaced) = point_of_key m.polygons (polygon_of misplaced)
-place_of m (Cell odds) = dart_start m.chains odds.first
-place_of m (Face (Facing first last)) = floor_of first.at
-place_of m (Face (Outward face way)) = floor_of face.at
+place_of m (Meet meet) = Some meet.at
+place_of m (Side node first next) = Some (whole node)
+place_of m (PolygonPoint misplaced) = option_map whole (point_of_key m.polygons (polygon_of misplaced))
+place_of m (Cell odds) = option_map whole (dart_start m.chains odds.first)
+place_of m (Face (Facing first last)) = Some first.at
+place_of m (Face (Outward face way)) = Some face.at
+
+-- how far a number is above the last multiple of a divisor: what is left of a place's numerator beyond whole millionths of a degree
+abbrev pub part_of : ℤ → ℤ → ℕ
+part_of z d = unsigned_abs (int_rem_euclid z d)
+
+-- how long so much of a millionth of a degree is, where half a millionth is so many parts of a tenth of a pixel: rounded down, and up
+abbrev pub beyond : (part d weight : ℕ) → ℕ
+beyond part d weight = part * (2 * weight) / d
+
+abbrev pub beyond_up : (part d weight : ℕ) → ℕ
+beyond_up part d weight = (part * (2 * weight) + (d - 1)) / d
+
+-- a place in a picture, beyond the whole millionths of a degree to its south-west, rounded to such parts to the west and to the north
+abbrev pub mark_at : Frame → Rational → Point → Mark
+mark_at f r corner =
+    record {
+      corner = corner;
+      at = record {
+        x = east f corner.x +ℤ pos (beyond (part_of r.x r.d) (unsigned_abs r.d) (4900 * f.cosine));
+        y = south f corner.y -ℤ pos (beyond_up (part_of r.y r.d) (unsigned_abs r.d) 49000000);
+      };
+    }
+
+-- the same where there is such a corner
+abbrev pub mark_beyond : Frame → Rational → Option Point → Option Mark
+mark_beyond f r None = None
+mark_beyond f r (Some corner) = Some (mark_at f r corner)
+
+-- a place in a picture: one whose denominator is below 2^96, as that of each crossing of two segments is
+abbrev pub mark_of : Frame → Rational → Option Mark
+mark_of f r = if nat_lt (unsigned_abs r.d) (2 ^ 96) then mark_beyond f r (floor_of r) else None
+
+-- the same of a place, if there is one
+abbrev pub mark_if : Frame → Option Rational → Option Mark
+mark_if f None = None
+mark_if f (Some r) = mark_of f r
+
+-- where a fault lies in a picture
+abbrev pub fault_mark : Frame → TheMap → MapFault → Option Mark
+fault_mark f m fault = mark_if f (place_of m fault)
+
+-- is it in the picture
+abbrev pub is_mark_held : Frame → Mark → Bool
+is_mark_held f mark = is_held f mark.at
 
 -- does a fault lie in the picture
 abbrev pub is_fault_inside : Frame → TheMap → MapFault → Bool
-is_fault_inside f m fault = option_map_or (is_inside f) (place_of m fault) false
+is_fault_inside f m fault = option_map_or (is_mark_held f) (fault_mark f m fault) false
 
 -- how many faults lie in the picture
 abbrev pub fault_count : Frame → TheMap → List MapFault → ℕ

@@ -1,5 +1,5 @@
 -- The text of a picture.
-use Rattle.std.specs.Prelude.{ℕ, ◌==◌, ℤ, ◌-ℤ◌, if◌then◌else◌, List, [], ◌∷◌, ◌++◌, codes, decimal, drop, flat_map, slice_get, length, ◌-◌}
+use Rattle.std.specs.Prelude.{ℕ, ◌+◌, ◌*◌, ◌/◌, max, ◌==◌, nat_le, Bool, int_lt, ℤ, pos, ◌+ℤ◌, ◌-ℤ◌, if◌then◌else◌, not, List, [], ◌∷◌, ◌++◌, codes, decimal, take, drop, flat_map, slice_get, length, ◌-◌}
 use Rattle.std.specs.Option.{option_map_or}
 use Rattle.std.specs.Fmt.{signed_decimal}
 use Rattle.tl_geom.specs.declared.point.Point.{Point}
@@ -11,9 +11,10 @@ use Rattle.tigertopo_svg.specs.declared.frame.Frame.{Frame}
 use Rattle.tigertopo_svg.specs.declared.frame.Spot.{Spot}
 use Rattle.tigertopo_svg.specs.declared.walk.Stroke.{Stroke}
 use Rattle.tigertopo_svg.specs.declared.picture.Picture.{Picture}
-use Rattle.tigertopo_svg.specs.Frames.{spot_of, pixels}
+use Rattle.tigertopo_svg.specs.declared.places.Mark.{Mark}
+use Rattle.tigertopo_svg.specs.Frames.{side, spot_at, spot_of, reach_east, reach_south, is_inside}
 use Rattle.tigertopo_svg.specs.Strokes.{Drawing, is_shown}
-use Rattle.tigertopo_svg.specs.Pictures.{is_inside, drawn, place_of}
+use Rattle.tigertopo_svg.specs.Pictures.{drawn, fault_mark, is_mark_held}
 
 -- two numbers behind a text, with a blank between them
 abbrev pub pair_text : List ℕ → ℤ → ℤ → List ℕ
@@ -59,35 +60,69 @@ escaped_byte b =
     else if b == 62 then codes "&gt;"
     else b ∷ []
 
--- what is said of a fault: what is printed of it without the words `map fault `
+-- what is printed of a fault without the words `map fault `
+abbrev pub said_of : MapFault → List ℕ
+said_of fault = drop 10 (map_fault_text fault)
+
+-- the same, as it stands in the file
 abbrev pub title_text : MapFault → List ℕ
-title_text fault = flat_map escaped_byte (drop 10 (map_fault_text fault))
+title_text fault = flat_map escaped_byte (said_of fault)
+
+-- the fault's code, its first two letters
+abbrev pub code_text : MapFault → List ℕ
+code_text fault = take 2 (said_of fault)
 
 -- how the circle of a fault at a place begins
 unfoldable pub circle_head : Spot → List ℕ
 circle_head s = codes "<circle cx=\"" ++ signed_decimal s.x ++ codes "\" cy=\"" ++ signed_decimal s.y ++ codes "\" r=\"60\"><title>"
 
--- the circle of a fault at a place
-abbrev pub circle_text : Spot → MapFault → List ℕ
-circle_text s fault = circle_head s ++ title_text fault ++ codes "</title></circle>\n"
+-- how wide a picture is that shows a place ten times closer: no less than two millionths of a degree, so that about the whole millionths
+-- to the south-west of a fault it shows the fault
+abbrev pub closer : Frame → ℕ
+closer f = max (max f.wide f.high / 10) 2
 
--- the circle of a fault at this point, where it lies in the picture
-abbrev pub circle_at : Frame → MapFault → Point → List ℕ
-circle_at f fault p = if is_inside f p then circle_text (spot_of f p) fault else []
+-- what to type for a picture of a place by itself, behind a fault's title
+unfoldable pub closer_text : Frame → Point → List ℕ
+closer_text f p = codes "\n--at @" ++ signed_decimal p.x ++ codes "," ++ signed_decimal p.y ++ codes " --width " ++ decimal (closer f) ++ codes "</title></circle>"
+
+-- does a place lie less than forty pixels from the eastern border of what is shown, so that a code finds no room to its east
+abbrev pub is_eastern : Frame → Spot → Bool
+is_eastern f s = int_lt (pos (reach_east f / side f)) (s.x +ℤ pos 400)
+
+-- how a fault's code beside its circle begins, to the east or to the west of it
+unfoldable pub east_label : Spot → List ℕ
+east_label s = codes "<text class=\"code\" x=\"" ++ signed_decimal (s.x +ℤ pos 80) ++ codes "\" y=\"" ++ signed_decimal (s.y +ℤ pos 45) ++ codes "\">"
+
+unfoldable pub west_label : Spot → List ℕ
+west_label s =
+    codes "<text class=\"code\" text-anchor=\"end\" x=\"" ++ signed_decimal (s.x -ℤ pos 80) ++ codes "\" y=\"" ++ signed_decimal (s.y +ℤ pos 45) ++ codes "\">"
+
+abbrev pub label_head : Frame → Spot → List ℕ
+label_head f s = if is_eastern f s then west_label s else east_label s
+
+-- the circle of a fault at a place, with what is said of it and its code
+abbrev pub circle_text : Frame → Mark → MapFault → List ℕ
+circle_text f mark fault =
+    circle_head (spot_at f mark.at) ++ title_text fault ++ closer_text f mark.corner ++ label_head f (spot_at f mark.at) ++ code_text fault ++ codes "</text>\n"
+
+-- the same, where it lies in the picture
+abbrev pub circle_at : Frame → MapFault → Mark → List ℕ
+circle_at f fault mark = if is_mark_held f mark then circle_text f mark fault else []
 
 -- the same of a fault of a map
 abbrev pub fault_text : Frame → TheMap → MapFault → List ℕ
-fault_text f m fault = option_map_or (circle_at f fault) (place_of m fault) []
+fault_text f m fault = option_map_or (circle_at f fault) (fault_mark f m fault) []
 
--- how the file begins: its size in pixels, and what is shown in tenths of a pixel
+-- how the file begins: what it shows, in tenths of a pixel, as wide as the window. Above the map are fifty pixels for what its marks mean
 unfoldable pub size_text : Frame → List ℕ
 size_text f =
-    codes "<svg xmlns=\"http://www.w3.org/2000/svg\" class=\"tigertopo\" width=\"" ++ decimal (pixels f f.wide) ++ codes "\" height=\"" ++ decimal (pixels f f.high)
-    ++ codes "\" viewBox=\"-100 -100 " ++ decimal (pixels f f.wide) ++ codes "0 " ++ decimal (pixels f f.high) ++ codes "0\">\n"
+    codes "<svg xmlns=\"http://www.w3.org/2000/svg\" class=\"tigertopo\" viewBox=\"-100 -600 " ++ decimal (reach_east f / side f + 200)
+    ++ codes " " ++ decimal (reach_south f / side f + 700) ++ codes "\" style=\"width:100%;height:auto\">\n"
 
--- how each part is drawn: chains dark and thin, nodes black, polygons' points blue, faults red, on white
+-- how each part is drawn: chains dark and thin, nodes black, polygons' points blue, faults red, on white; in a narrow window what is
+-- written is twice as large, in a wide one smaller
 unfoldable pub style_text : List ℕ
-style_text = codes "<style>path,circle{fill:none;vector-effect:non-scaling-stroke;stroke-linecap:round;stroke-linejoin:round}.chains{stroke:#333;stroke-width:1}.nodes{stroke:#000;stroke-width:3.2}.points{stroke:#07c;stroke-width:4}circle{stroke:#d00;stroke-width:2;fill:#d00;fill-opacity:.2}</style>\n<rect x=\"-100\" y=\"-100\" width=\"100%\" height=\"100%\" fill=\"#fff\"/>\n"
+style_text = codes "<style>path,circle{fill:none;vector-effect:non-scaling-stroke;stroke-linecap:round;stroke-linejoin:round}text{font:130px sans-serif;fill:#333;stroke:#fff;stroke-width:25px;paint-order:stroke}.chains,.chain{stroke:#333;stroke-width:1}.nodes,.node{stroke:#000;stroke-width:3.2}.points,.point{stroke:#07c;stroke-width:4}.scale{stroke:#333;stroke-width:1.5}circle,.fault{stroke:#d00;stroke-width:2;fill:#d00;fill-opacity:.2}.code{fill:#a00}@media(max-width:700px){text{font-size:240px}circle{r:95px}}@media(min-width:1500px){text{font-size:90px}circle{r:45px}}</style>\n<rect x=\"-100\" y=\"-600\" width=\"100%\" height=\"100%\" fill=\"#fff\"/>\n"
 
 -- the lines of chains
 unfoldable pub chains_part : Picture → TheMap → List ℕ
@@ -108,8 +143,53 @@ marks_part picture m = if picture.is_marked then nodes_part picture m ++ points_
 unfoldable pub faults_part : Frame → TheMap → List MapFault → List ℕ
 faults_part f m faults = flat_map (fault_text f m) faults
 
+-- how long the line may be that shows a scale, in hundredths of a metre
+unfoldable pub scales : List ℕ
+scales = 500000000 ∷ 200000000 ∷ 100000000 ∷ 50000000 ∷ 20000000 ∷ 10000000 ∷ 5000000 ∷ 2000000 ∷ 1000000 ∷ 500000 ∷ 200000 ∷ 100000 ∷ 50000 ∷ 20000 ∷ 10000 ∷ 5000 ∷ 2000 ∷ 1000 ∷ 500 ∷ 200 ∷ 100 ∷ 50 ∷ 20 ∷ 10 ∷ 5 ∷ 2 ∷ []
+
+-- the first that is at most a quarter of the longer side, or else 1: a metre is nine millionths of a degree of latitude, as it was defined
+-- first, ten millions of them from the equator to the pole
+abbrev pub scale_of : (longer : ℕ) → List ℕ → ℕ
+scale_of longer [] = 1
+scale_of longer (length ∷ rest) = if nat_le (3600 * length) longer then length else scale_of longer rest
+
+-- so many hundredths of a metre, with their unit
+abbrev pub metres_text : ℕ → List ℕ
+metres_text length =
+    if nat_le 100000 length then decimal (length / 100000) ++ codes " km"
+    else if nat_le 100 length then decimal (length / 100) ++ codes " m"
+    else decimal length ++ codes " cm"
+
+-- how long a line of so many hundredths of a metre is, in tenths of a pixel
+abbrev pub scale_tenths : Frame → ℕ → ℕ
+scale_tenths f length = 8820000 * length / side f
+
+-- a scale of so many hundredths of a metre
+unfoldable pub scale_line : Frame → ℕ → List ℕ
+scale_line f length =
+    codes "<path class=\"scale\" d=\"M0 -240v80m0 -40h" ++ decimal (scale_tenths f length) ++ codes "m0 -40v80\"/><text x=\"" ++ decimal (scale_tenths f length + 100)
+    ++ codes "\" y=\"-155\">" ++ metres_text length ++ codes "</text>\n"
+
+abbrev pub scale_part : Frame → List ℕ
+scale_part f = scale_line f (scale_of (side f) scales)
+
+-- above the map: what its lines, dots and circles mean
+unfoldable pub chain_key : List ℕ
+chain_key = codes "<rect x=\"-100\" y=\"-600\" width=\"100%\" height=\"500\" fill=\"#fff\"/>\n<path class=\"chain\" d=\"M0 -430h250\"/><text x=\"300\" y=\"-385\">chain</text>\n"
+
+unfoldable pub marks_key : List ℕ
+marks_key = codes "<path class=\"node\" d=\"M1200 -430h0\"/><text x=\"1300\" y=\"-385\">node</text>\n<path class=\"point\" d=\"M2100 -430h0\"/><text x=\"2200\" y=\"-385\">polygon's point</text>\n"
+
+unfoldable pub faults_key : List ℕ
+faults_key = codes "<path class=\"fault\" d=\"M4360 -430a60 60 0 1 0 120 0a60 60 0 1 0 -120 0\"/><text x=\"4560\" y=\"-385\">fault</text>\n"
+
+-- what of these is in the picture, and its scale
+abbrev pub key_part : Picture → List MapFault → List ℕ
+key_part picture faults =
+    chain_key ++ (if picture.is_marked then marks_key else []) ++ (if not (length faults == 0) then faults_key else []) ++ scale_part picture.frame
+
 -- the picture of a map with these faults
 unfoldable pub picture_text : TheMap → Picture → List MapFault → List ℕ
 picture_text m picture faults =
     size_text picture.frame ++ style_text ++ chains_part picture m ++ marks_part picture m
-    ++ faults_part picture.frame m faults ++ codes "</svg>\n"
+    ++ faults_part picture.frame m faults ++ key_part picture faults ++ codes "</svg>\n"

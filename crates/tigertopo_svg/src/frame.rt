@@ -1,27 +1,38 @@
 //! Which part of the plane a picture shows, and where points lie in it.
 
-ghost use Rattle.std.specs.Prelude.{◌≡◌, ◌<◌, ◌^◌, pos, ◌+ℤ◌, ◌-ℤ◌, ◌&&◌, int_le, unsigned_abs};
-ghost use Rattle.std.specs.Int.{int_min, int_max};
-ghost use Rattle.tigertopo_svg.specs.Frames.{side, tenths, spot_of, pixels, first_tenth, last_tenth, is_across, is_seen, is_near};
-ghost use Rattle.tigertopo_svg.specs.Frames.{widened, around_points, around_chains, no_points, frame_about, fitted, frame_at};
+ghost use Rattle.std.specs.Prelude.{◌≡◌, ◌*◌, ◌<◌, ◌≤◌, ◌^◌, pos, ◌+ℤ◌, ◌-ℤ◌, ◌*ℤ◌, ◌&&◌, not, unsigned_abs};
+ghost use Rattle.tigertopo_svg.specs.Frames.{cosine, breadth, height, side, way, position, spot_at, spot_of, east, south, reach_east, reach_south, first_corner, last_corner};
+ghost use Rattle.tigertopo_svg.specs.Frames.{is_across, are_across, is_held, is_inside, is_beside, is_seen, is_tiny, is_near, is_small, frame_about, fitted, frame_at};
 
+use crate::bounds::bounds_of;
+use crate::lean::is_beside;
 use tl_geom::{Point, Rect};
 use tl_map_county::Map;
 
-// Where the margin begins.
-const FIRST_TENTH: i64 = -100;
+/// How long a degree of latitude is, in ten-thousandths of one.
+pub const WHOLE: u16 = 10_000;
 
-/// What a picture shows: `wide` millionths of a degree to the east and `high` to the south of the point that lies `shift` to
-/// the west and to the north of `origin`. The longer side takes 980 pixels, and about it is a margin of ten.
+/// What a picture shows: `wide` millionths of a degree to the east and `high` to the south of the point that lies `shift`
+/// halves of a millionth to the west and to the north of `origin`. A degree of longitude is drawn `cosine` ten-thousandths
+/// as long as one of latitude. The longer side takes 980 pixels, and about it is a margin of ten.
 #[derive(Clone, Copy, Debug, PartialEq, Eq)]
 pub struct Frame {
     pub origin: Point,
     pub shift: u32,
     pub wide: u32,
     pub high: u32,
+    pub cosine: u16,
 }
 
-/// A place in a picture: tenths of a pixel to the east and to the south of the upper left corner of what is shown.
+/// A place in a picture, to the east and to the south of the upper left corner of what is shown: in parts of which as many
+/// make a tenth of a pixel as the longer side has ten-thousandths of a millionth of a degree.
+#[derive(Clone, Copy, Debug, PartialEq, Eq)]
+pub struct Position {
+    pub x: i64,
+    pub y: i64,
+}
+
+/// The same in whole tenths of a pixel.
 #[derive(Clone, Copy, Debug, PartialEq, Eq)]
 pub struct Spot {
     pub x: i64,
@@ -48,143 +59,285 @@ impl Frame {
             shift: 0,
             wide: rect.xmax.abs_diff(rect.xmin),
             high: rect.ymax.abs_diff(rect.ymin),
+            cosine: cosine(middle(rect.ymin, rect.ymax)),
         }
     }
 
-    /// The frame of so many millionths of a degree about a point.
+    /// The frame about a point, so many millionths of a degree wide and high.
     pub fn at(center: Point, width: u32) -> Frame
         ensures { result ≡ frame_at center width }
     {
+        let twice = 2 * i64::from(center.y);
         Frame {
             origin: center,
-            shift: width / 2,
+            shift: width,
             wide: width,
             high: width,
+            cosine: cosine(twice.unsigned_abs()),
         }
     }
 
-    // The longer side, in millionths of a degree.
-    fn side(self) -> u32
-        ensures { result ≡ side self }
+    // How wide that is which is shown, in ten-thousandths of a millionth of a degree of latitude.
+    fn breadth(self) -> u64
+        ensures value { result ≡ breadth self }
+        ensures bound { result ≤ 2 ^ 48 }
     {
-        self.wide.max(self.high).max(1)
+        length(self.wide, self.cosine)
+    }
+
+    // How high.
+    fn height(self) -> u64
+        ensures value { result ≡ height self }
+        ensures bound { result ≤ 2 ^ 48 }
+    {
+        length(self.high, WHOLE)
+    }
+
+    /// The longer side, in the same.
+    pub fn side(self) -> u64
+        ensures value { result ≡ side self }
+        ensures some { 10000 ≤ result }
+        ensures bound { result ≤ 2 ^ 48 }
+    {
+        self.breadth().max(self.height()).max(10_000)
     }
 
     /// Where a point lies in the picture.
-    pub fn spot(self, p: Point) -> Spot
-        ensures { result ≡ spot_of self p }
+    pub fn position(self, p: Point) -> Position
+        ensures { result ≡ position self p }
     {
-        Spot {
-            x: self.tenths(steps(self.origin.x, p.x, self.shift)),
-            y: self.tenths(steps(p.y, self.origin.y, self.shift)),
+        Position {
+            x: self.east(p.x),
+            y: self.south(p.y),
         }
     }
 
-    // So many millionths of a degree in tenths of a pixel.
-    fn tenths(self, steps: i64) -> i64
-        requires { unsigned_abs steps < 2 ^ 34 }
-        ensures { result ≡ tenths self steps }
+    /// How far to the east a longitude lies.
+    pub fn east(self, x: i32) -> i64
+        ensures value { result ≡ east self x }
+        ensures bound { unsigned_abs result < 2 ^ 62 }
     {
-        (steps * 9800).div_euclid(i64::from(self.side()))
+        way(self.origin.x, x, self.shift, 4_900 * u32::from(self.cosine))
     }
 
-    /// How many pixels so many millionths of a degree take, with the margin.
-    pub fn pixels(self, length: u32) -> u64
-        ensures { result ≡ pixels self length }
+    /// How far to the south a latitude lies.
+    pub fn south(self, y: i32) -> i64
+        ensures value { result ≡ south self y }
+        ensures bound { unsigned_abs result < 2 ^ 62 }
     {
-        u64::from(length) * 980 / u64::from(self.side()) + 20
+        way(y, self.origin.y, self.shift, 49_000_000)
     }
 
-    /// Whether the rectangle about two places meets the picture, its margin included.
-    pub fn sees(self, a: Spot, b: Spot) -> bool
-        ensures { result ≡ is_seen self a b }
+    /// A place in whole tenths of a pixel.
+    pub fn spot_at(self, at: Position) -> Spot
+        ensures { result ≡ spot_at self at }
     {
-        self.is_across(self.wide, a.x, b.x) && self.is_across(self.high, a.y, b.y)
+        let side = self.side();
+        Spot {
+            x: at.x.div_euclid(side as i64),
+            y: at.y.div_euclid(side as i64),
+        }
     }
 
-    // Whether places from one to the other lie in the picture along an axis, in part at least.
-    fn is_across(self, length: u32, u: i64, v: i64) -> bool
-        ensures { result ≡ is_across self length u v }
+    /// Where a point lies, in whole tenths of a pixel.
+    pub fn spot(self, p: Point) -> Spot
+        ensures { result ≡ spot_of self p }
     {
-        is_within(u.min(v), self.last_tenth(length), u.max(v))
+        self.spot_at(self.position(p))
     }
 
-    // Where the margin ends, on an axis along which so many millionths of a degree are shown.
-    fn last_tenth(self, length: u32) -> i128
-        ensures { result ≡ last_tenth self length }
+    /// How far the picture reaches to the east without its margin.
+    pub fn reach_east(self) -> u64
+        ensures value { result ≡ reach_east self }
+        ensures bound { result < 2 ^ 62 }
     {
-        i128::from(self.pixels(length)) * 10 - 100
+        (9_800 * self.breadth()).max(5_800 * self.side())
+    }
+
+    /// How far to the south.
+    pub fn reach_south(self) -> u64
+        ensures value { result ≡ reach_south self }
+        ensures bound { result < 2 ^ 62 }
+    {
+        9_800 * self.height()
+    }
+
+    // The north-western corner of the picture, margin included.
+    fn first_corner(self) -> Position
+        ensures { result ≡ first_corner self }
+    {
+        let margin = (100 * self.side()) as i64;
+        Position {
+            x: -margin,
+            y: -margin,
+        }
+    }
+
+    // The south-eastern corner.
+    fn last_corner(self) -> Position
+        ensures { result ≡ last_corner self }
+    {
+        let margin = 100 * self.side();
+        Position {
+            x: (self.reach_east() + margin) as i64,
+            y: (self.reach_south() + margin) as i64,
+        }
+    }
+
+    // Whether the rectangle about two positions and the picture meet.
+    fn are_across(self, a: Position, b: Position) -> bool
+        ensures { result ≡ are_across self a b }
+    {
+        are_within(self.first_corner(), self.last_corner(), a, b)
+    }
+
+    /// Whether a position lies in the picture, margin and borders included.
+    pub fn holds(self, at: Position) -> bool
+        ensures { result ≡ is_held self at }
+    {
+        self.are_across(at, at)
+    }
+
+    /// Whether a point does.
+    pub fn has_inside(self, p: Point) -> bool
+        ensures { result ≡ is_inside self p }
+    {
+        self.holds(self.position(p))
+    }
+
+    /// Whether a straight line from point to point has a point in the picture.
+    pub fn sees(self, p: Point, q: Point) -> bool
+        ensures { result ≡ is_seen self p q }
+    {
+        self.has_inside(p) || self.has_inside(q) || self.is_crossed(p, q)
+    }
+
+    // Whether one whose ends lie outside has.
+    fn is_crossed(self, p: Point, q: Point) -> bool
+        ensures { result ≡ (are_across self (position self p) (position self q) && not (is_beside self p q)) }
+    {
+        self.are_across(self.position(p), self.position(q))
+            && !is_beside(self, p, q, self.first_corner(), self.last_corner())
+    }
+
+    // Whether so many millionths of a degree are shorter than a third of a pixel, by how long a degree is.
+    fn is_tiny(self, gap: u32, weight: u16) -> bool
+        ensures { result ≡ is_tiny self gap weight }
+    {
+        length(gap, weight) * 2_940 < self.side()
+    }
+
+    /// Whether the second point is nearer to the first than a third of a pixel, along both axes.
+    pub fn is_near(self, p: Point, q: Point) -> bool
+        ensures { result ≡ is_near self p q }
+    {
+        self.is_tiny(q.x.abs_diff(p.x), self.cosine) && self.is_tiny(q.y.abs_diff(p.y), WHOLE)
+    }
+
+    /// Whether a rectangle is smaller than a third of a pixel, along both axes.
+    pub fn is_small(self, rect: Rect) -> bool
+        ensures { result ≡ is_small self rect }
+    {
+        self.is_tiny(rect.xmax.abs_diff(rect.xmin), self.cosine)
+            && self.is_tiny(rect.ymax.abs_diff(rect.ymin), WHOLE)
     }
 }
 
-// Whether the least place isn't behind the end of the picture, and the greatest not before its beginning.
-fn is_within(least: i64, last: i128, greatest: i64) -> bool
-    ensures { result ≡ (int_le least last && int_le first_tenth greatest) }
+// How long a degree of longitude is beside one of latitude, in ten-thousandths, at the latitude that is half of so many
+// millionths of a degree.
+fn cosine(twice: u64) -> u16
+    requires { twice ≤ 2 ^ 33 }
+    ensures { result ≡ cosine twice }
 {
-    let begins = i128::from(least) <= last;
-    let ends = FIRST_TENTH <= greatest;
-    begins && ends
+    let square = square(twice);
+    let all = 129_600_000_000_000_000 + square;
+    let left = 129_600_000_000_000_000_u128.saturating_sub(4 * square);
+    ((20_000 * left + all) / (2 * all)).max(1) as u16
 }
 
-// How far it is from one coordinate to another, and so far more.
+// How far from the equator is twice the middle of two latitudes.
+fn middle(a: i32, b: i32) -> u64
+    ensures value { result ≡ unsigned_abs (a +ℤ b) }
+    ensures bound { result ≤ 2 ^ 33 }
+{
+    (i64::from(a) + i64::from(b)).unsigned_abs()
+}
+
+// The square of a number.
+fn square(n: u64) -> u128
+    requires { n ≤ 2 ^ 33 }
+    ensures value { result ≡ n * n }
+    ensures bound { result ≤ 2 ^ 66 }
+{
+    u128::from(n) * u128::from(n)
+}
+
+// So many millionths of a degree, by how long one is.
+fn length(count: u32, weight: u16) -> u64
+    ensures value { result ≡ count * weight }
+    ensures bound { result ≤ 2 ^ 48 }
+{
+    u64::from(count) * u64::from(weight)
+}
+
+// Twice how far it is from one coordinate to another, and so far more, by a weight.
+fn way(from: i32, to: i32, shift: u32, weight: u32) -> i64
+    requires { weight ≤ 322000000 }
+    ensures value { result ≡ way from to shift weight }
+    ensures bound { unsigned_abs result < 2 ^ 62 }
+{
+    weighted(steps(from, to, shift), weight)
+}
+
+// Twice how far it is from one coordinate to another, and so far more.
 fn steps(from: i32, to: i32, shift: u32) -> i64
-    ensures value { result ≡ to -ℤ from +ℤ pos shift }
-    ensures bound { unsigned_abs result < 2 ^ 34 }
+    ensures value { result ≡ pos 2 *ℤ (to -ℤ from) +ℤ pos shift }
+    ensures bound { unsigned_abs result ≤ 3 * 2 ^ 32 }
 {
-    i64::from(to) - i64::from(from) + i64::from(shift)
+    doubled(difference(from, to), shift)
 }
 
-/// Whether the second place is no further than so many tenths of a pixel from the first, along both axes.
-pub fn is_near(grain: u64, a: Spot, b: Spot) -> bool
-    ensures { result ≡ is_near grain a b }
+// How far it is from one coordinate to another.
+pub fn difference(from: i32, to: i32) -> i64
+    ensures value { result ≡ to -ℤ from }
+    ensures bound { unsigned_abs result ≤ 2 ^ 32 }
 {
-    b.x.abs_diff(a.x) <= grain && b.y.abs_diff(a.y) <= grain
+    i64::from(to) - i64::from(from)
 }
 
-// The rectangle about the points of the map's chains.
-fn bounds_of(map: &Map) -> Rect
-    ensures { result ≡ around_chains no_points map.now.chains }
+// Twice a number, and so far more.
+fn doubled(n: i64, shift: u32) -> i64
+    requires { unsigned_abs n ≤ 2 ^ 32 }
+    ensures value { result ≡ pos 2 *ℤ n +ℤ pos shift }
+    ensures bound { unsigned_abs result ≤ 3 * 2 ^ 32 }
 {
-    let mut rect = Rect::NOTHING;
-    for chain in 0..map.chains() {
-        rect = around(rect, map.chain(chain).points);
-    }
-    rect
+    2 * n + i64::from(shift)
 }
 
-// The rectangle, so widened that it holds these points.
-fn around(rect: Rect, points: &[Point]) -> Rect
-    ensures { result ≡ around_points rect points.now }
+// So many steps by a weight.
+fn weighted(steps: i64, weight: u32) -> i64
+    requires few { unsigned_abs steps ≤ 3 * 2 ^ 32 }
+    requires small { weight ≤ 322000000 }
+    ensures value { result ≡ steps *ℤ pos weight }
+    ensures bound { unsigned_abs result < 2 ^ 62 }
 {
-    let mut rect = rect;
-    for point in points {
-        rect = widen(rect, *point);
-    }
-    rect
+    steps * i64::from(weight)
 }
 
-// The rectangle, so widened that it holds the point.
-fn widen(rect: Rect, p: Point) -> Rect
-    ensures { result ≡ widened rect p }
+// Whether the rectangle about two positions and that from one corner to another meet.
+fn are_within(first: Position, last: Position, a: Position, b: Position) -> bool
+    ensures { result ≡ (is_across first.x last.x a.x b.x && is_across first.y last.y a.y b.y) }
 {
-    Rect {
-        xmin: least(rect.xmin, p.x),
-        ymin: least(rect.ymin, p.y),
-        xmax: greatest(rect.xmax, p.x),
-        ymax: greatest(rect.ymax, p.y),
-    }
+    let east = is_across(first.x, last.x, a.x, b.x);
+    let south = is_across(first.y, last.y, a.y, b.y);
+    east && south
 }
 
-// The lesser of two coordinates.
-fn least(a: i32, b: i32) -> i32
-    ensures { result ≡ int_min a b }
+// Whether a part of what lies from one number to another, in either order, lies from the first to the last.
+fn is_across(first: i64, last: i64, u: i64, v: i64) -> bool
+    ensures { result ≡ is_across first last u v }
 {
-    a.min(b)
-}
-
-// The greater of two coordinates.
-fn greatest(a: i32, b: i32) -> i32
-    ensures { result ≡ int_max a b }
-{
-    a.max(b)
+    let begins = u.min(v) <= last;
+    let ends = first <= u.max(v);
+    begins && ends
 }

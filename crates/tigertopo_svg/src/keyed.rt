@@ -1,7 +1,7 @@
 //! The points of polygons, found by the polygons' keys.
 
 ghost use Rattle.std.specs.Prelude.{◌≡◌, IfOk, IfSome, Some, option_copied};
-ghost use Rattle.tigertopo_svg.specs.Pictures.{point_of_key, IsIndexOf, ArePointsOf};
+ghost use Rattle.tigertopo_svg.specs.Pictures.{are_few, is_of_point, point_of_key, IsIndexOf, ArePointsOf};
 
 use indexmap::IndexMap;
 use std::alloc::{AllocError, Global};
@@ -11,7 +11,7 @@ use tl_geom::Point;
 use tl_map_county::Map;
 use tl_record_key::PolyKey;
 
-/// So few faults of polygons' points take no index.
+// So few faults of polygons' points take no index.
 const FEW: usize = 16;
 
 /// The points of a map's polygons, to be found by the polygons' keys: by an index, or where few are asked for, polygon by polygon.
@@ -52,20 +52,32 @@ impl KeyedPoints {
     }
 }
 
-/// Whether no more than a few of these faults are of polygons' points.
-fn are_few(faults: &[MapFault]) -> bool {
-    faults.iter().filter(|fault| is_of_point(fault)).count() <= FEW
+// Whether no more than a few of these faults are of polygons' points.
+fn are_few(faults: &[MapFault]) -> bool
+    ensures { result ≡ are_few faults.now }
+{
+    let mut count = 0;
+    for fault in faults {
+        count += usize::from(is_of_point(fault));
+    }
+    count <= FEW
 }
 
-/// Whether a fault is of a polygon's point.
-fn is_of_point(fault: &MapFault) -> bool {
+// Whether a fault is of a polygon's point.
+fn is_of_point(fault: &MapFault) -> bool
+    ensures { result ≡ is_of_point fault.now }
+{
     match fault {
         MapFault::PolygonPoint(_) => true,
-        _ => false,
+        MapFault::Records(_)
+        | MapFault::Meet(_)
+        | MapFault::Side { .. }
+        | MapFault::Cell(_)
+        | MapFault::Face(_) => false,
     }
 }
 
-/// The points of all polygons by their keys: from the last polygon to the first, so that of one key the first stays.
+// The points of all polygons by their keys: from the last polygon to the first, so that of one key the first stays.
 fn index_points(
     alloc: Global,
     hasher: RandomState,
@@ -83,7 +95,7 @@ fn index_points(
     Ok(index)
 }
 
-/// The point of the first polygon that has the key.
+// The point of the first polygon that has the key.
 fn point_of_key(map: &Map, key: PolyKey) -> Option<Point>
     ensures { result ≡ point_of_key map.now.polygons key }
 {

@@ -5,17 +5,21 @@
 //! a write failed. Nothing is allocated but [`KeyedPoints`], by which faults of many polygons' points find their places.
 #![tactic(auto)]
 
+mod bounds;
 mod chains;
 mod frame;
+mod key;
 mod keyed;
+mod lean;
 mod marks;
 mod picture;
 mod places;
 mod print;
+mod scale;
 mod text;
 mod walk;
 
-pub use frame::{Frame, Spot};
+pub use frame::{Frame, Position, Spot};
 pub use keyed::KeyedPoints;
 pub use picture::{Picture, chain_count, fault_count, picture_of};
 pub use print::print_picture;

@@ -1,19 +1,19 @@
 //! What is marked in a picture: nodes, polygons' points and faults.
 
-ghost use Rattle.std.specs.Prelude.{◌≡◌, ◌<◌, drop, flat_map, length, List, ℕ};
+ghost use Rattle.std.specs.Prelude.{◌≡◌, ◌<◌, take, drop, flat_map, length, List, ℕ};
 ghost use Rattle.tl_cert_output.specs.Writing.{line_of};
 ghost use Rattle.tl_cert_output.specs.Printing.{Prints};
-ghost use Rattle.tigertopo_svg.specs.Frames.{spot_of};
+ghost use Rattle.tigertopo_svg.specs.Frames.{spot_at};
 ghost use Rattle.tigertopo_svg.specs.Strokes.{strokes_left};
 ghost use Rattle.tigertopo_svg.specs.Pictures.{drawn, ArePointsOf};
-ghost use Rattle.tigertopo_svg.specs.Texts.{dot_text, ends_text, polygon_text, escaped_byte, circle_text, fault_text, faults_part};
+ghost use Rattle.tigertopo_svg.specs.Texts.{dot_text, ends_text, polygon_text, escaped_byte, circle_text, circle_at, fault_text, faults_part};
 
 use crate::chains::walk_along;
 use crate::frame::Frame;
 use crate::keyed::KeyedPoints;
 use crate::picture::Picture;
-use crate::places::{is_inside, place_of};
-use crate::text::{circle_head, dot_text};
+use crate::places::{Mark, fault_mark};
+use crate::text::{circle_head, closer_text, dot_text, label_head};
 use crate::walk::Walk;
 use tl_cert_output::Printer;
 use tl_check_verdict::MapFault;
@@ -29,7 +29,7 @@ pub fn print_nodes<S: Sink>(map: &Map, picture: Picture, printer: &mut Printer, 
 {
     for number in 0..map.chains() {
         let points = map.chain(number).points;
-        let mut walk = walk_along(picture.frame, picture.skipped, number, points);
+        let mut walk = walk_along(picture.frame, points);
         print_ends(picture.frame, &mut walk, points, printer, out);
     }
 }
@@ -101,36 +101,68 @@ fn print_fault<S: Sink>(
     ensures { Prints S.contents S.failure_count (out.old, printer.old) (out.new, printer.new)
         (fault_text frame map.now fault.now) }
 {
-    match place_of(map, points, fault) {
-        Some(place) if is_inside(frame, place) => print_circle(frame, place, fault, printer, out),
-        _ => {}
+    match fault_mark(frame, map, points, fault) {
+        Some(mark) => print_circle_at(frame, fault, mark, printer, out),
+        None => {}
     }
 }
 
-// Prints the circle of a fault at a point.
+// Prints the circle of a fault at a place, where that lies in the picture.
+fn print_circle_at<S: Sink>(
+    frame: Frame,
+    fault: &MapFault,
+    mark: Mark,
+    printer: &mut Printer,
+    out: &mut S,
+)
+    ensures { Prints S.contents S.failure_count (out.old, printer.old) (out.new, printer.new)
+        (circle_at frame fault.now mark) }
+{
+    if frame.holds(mark.at) {
+        print_circle(frame, mark, fault, printer, out);
+    }
+}
+
+// Prints the circle of a fault at a place, with what is said of it and its code.
 fn print_circle<S: Sink>(
     frame: Frame,
-    place: Point,
+    mark: Mark,
     fault: &MapFault,
     printer: &mut Printer,
     out: &mut S,
 )
     ensures { Prints S.contents S.failure_count (out.old, printer.old) (out.new, printer.new)
-        (circle_text (spot_of frame place) fault.now) }
+        (circle_text frame mark fault.now) }
 {
-    let head = circle_head(frame.spot(place));
+    let spot = frame.spot_at(mark.at);
     let line = fault_line(fault);
+    let said = said_of(line.as_str().as_bytes());
+    let (head, closer, label) = (
+        circle_head(spot),
+        closer_text(frame, mark.corner),
+        label_head(frame, spot),
+    );
     printer.add(head.as_str().as_bytes(), out);
-    print_escaped(title_of(line.as_str().as_bytes()), printer, out);
-    printer.add(b"</title></circle>\n", out);
+    print_escaped(said, printer, out);
+    printer.add(closer.as_str().as_bytes(), out);
+    printer.add(label.as_str().as_bytes(), out);
+    printer.add(code_of(said), out);
+    printer.add(b"</text>\n", out);
 }
 
 // What is said of a fault, of the line that is printed of it.
-fn title_of(line: &[u8]) -> &[u8]
+fn said_of(line: &[u8]) -> &[u8]
     ensures { (text : List ℕ) → line.now ≡ line_of text → result.now ≡ drop 10 text }
 {
     let end = line.len().saturating_sub(1);
     &line[end.min(10)..end]
+}
+
+// The first two letters of it.
+fn code_of(said: &[u8]) -> &[u8]
+    ensures { result.now ≡ take 2 said.now }
+{
+    &said[..said.len().min(2)]
 }
 
 // Prints a text as it stands in the file.

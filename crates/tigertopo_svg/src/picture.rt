@@ -1,72 +1,49 @@
 //! How a map is drawn.
 
 ghost use Rattle.std.specs.Prelude.{◌≡◌, nat_le};
-ghost use Rattle.tigertopo_svg.specs.Pictures.{stroke_count, first_fitting, point_count, is_marked, picture_of, chain_count, fault_count, ArePointsOf};
+ghost use Rattle.tigertopo_svg.specs.Pictures.{stroke_count, point_count, is_marked, picture_of, chain_count, fault_count, ArePointsOf};
 
 use crate::chains::{count_strokes, walk_along};
 use crate::frame::Frame;
 use crate::keyed::KeyedPoints;
-use crate::places::{is_fault_inside, is_inside};
+use crate::places::is_fault_inside;
 use tl_check_verdict::MapFault;
 use tl_map_county::Map;
-
-// How many strokes a picture has at most, where leaving out small chains makes them so few.
-const MOST_STROKES: u128 = 300_000;
 
 // How many strokes, and how many polygons' points, a picture has at most in which nodes and polygons' points are marked.
 const MOST_MARKED: u128 = 20_000;
 
-// How many small chains may be left out behind each that is drawn.
-const SKIPS: [u32; 16] = [0, 1, 2, 3, 4, 5, 6, 7, 9, 12, 16, 24, 32, 64, 128, 256];
-
-/// How a map is drawn: what is shown, how many small chains are left out behind each that is drawn, and whether nodes and
-/// polygons' points are marked.
+/// How a map is drawn: what is shown, and whether nodes and polygons' points are marked.
 #[derive(Clone, Copy, Debug, PartialEq, Eq)]
 pub struct Picture {
     pub frame: Frame,
-    pub skipped: u32,
     pub is_marked: bool,
 }
 
-/// The picture of a map by a frame. As few small chains are left out as make its strokes few enough.
+/// The picture of a map by a frame.
 pub fn picture_of(frame: Frame, map: &Map) -> Picture
     ensures { result ≡ picture_of frame map.now }
 {
-    let skipped = first_fitting(frame, map, &SKIPS);
     Picture {
         frame,
-        skipped,
-        is_marked: is_marked(frame, skipped, map),
+        is_marked: is_marked(frame, map),
     }
 }
 
 // Whether nodes and polygons' points are marked.
-fn is_marked(frame: Frame, skipped: u32, map: &Map) -> bool
-    ensures { result ≡ is_marked frame skipped map.now }
+fn is_marked(frame: Frame, map: &Map) -> bool
+    ensures { result ≡ is_marked frame map.now }
 {
-    are_strokes_few(frame, skipped, map, MOST_MARKED)
-        && u128::from(point_count(frame, map)) <= MOST_MARKED
-}
-
-// The first of these numbers of chains left out by which there are few enough strokes.
-fn first_fitting(frame: Frame, map: &Map, skips: &[u32]) -> u32
-    ensures { result ≡ first_fitting frame map.now.chains skips.now }
-{
-    for skipped in skips {
-        if are_strokes_few(frame, *skipped, map, MOST_STROKES) {
-            return *skipped;
-        }
-    }
-    511
+    are_strokes_few(frame, map, MOST_MARKED) && u128::from(point_count(frame, map)) <= MOST_MARKED
 }
 
 // Whether no more strokes than so many are drawn of the map's chains. They aren't counted further.
-fn are_strokes_few(frame: Frame, skipped: u32, map: &Map, most: u128) -> bool
-    ensures { result ≡ nat_le (stroke_count frame skipped map.now.chains) most }
+fn are_strokes_few(frame: Frame, map: &Map, most: u128) -> bool
+    ensures { result ≡ nat_le (stroke_count frame map.now.chains) most }
 {
     let mut count = 0;
     for number in 0..map.chains() {
-        let mut walk = walk_along(frame, skipped, number, map.chain(number).points);
+        let mut walk = walk_along(frame, map.chain(number).points);
         count += u128::from(count_strokes(&mut walk));
         if count > most {
             return false;
@@ -81,7 +58,7 @@ fn point_count(frame: Frame, map: &Map) -> u32
 {
     let mut count = 0;
     for number in 0..map.polygons() {
-        count += u32::from(is_inside(frame, map.polygon(number).point));
+        count += u32::from(frame.has_inside(map.polygon(number).point));
     }
     count
 }
@@ -93,7 +70,7 @@ pub fn chain_count(picture: Picture, map: &Map) -> u32
     let mut count = 0;
     for number in 0..map.chains() {
         let points = map.chain(number).points;
-        let mut walk = walk_along(picture.frame, picture.skipped, number, points);
+        let mut walk = walk_along(picture.frame, points);
         count += u32::from(walk.next().is_some());
     }
     count

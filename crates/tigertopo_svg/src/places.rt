@@ -1,10 +1,11 @@
 //! Where faults lie.
 
-ghost use Rattle.std.specs.Prelude.{◌≡◌};
+ghost use Rattle.std.specs.Prelude.{◌≡◌, ◌<◌, ◌≤◌, ◌^◌, ◌*◌, pos, ◌+ℤ◌, ◌-ℤ◌, ◌<ℤ◌, option_map, unsigned_abs};
+ghost use Rattle.tl_geom.specs.Plane.{whole};
 ghost use Rattle.tl_map_county.specs.Darts.{dart_start};
-ghost use Rattle.tigertopo_svg.specs.Pictures.{is_inside, coordinate, floor_of, polygon_of, place_of, is_fault_inside, ArePointsOf};
+ghost use Rattle.tigertopo_svg.specs.Pictures.{coordinate, floor_of, polygon_of, place_of, part_of, beyond, beyond_up, mark_at, mark_of, fault_mark, is_fault_inside, ArePointsOf};
 
-use crate::frame::Frame;
+use crate::frame::{Frame, Position};
 use crate::keyed::KeyedPoints;
 use tl_check_faces::FaceFault;
 use tl_check_inside::Misplaced;
@@ -13,12 +14,14 @@ use tl_geom::{Point, Rational};
 use tl_map_county::Map;
 use tl_record_key::PolyKey;
 
-/// Whether a point lies in the picture.
-pub fn is_inside(frame: Frame, p: Point) -> bool
-    ensures { result ≡ is_inside frame p }
-{
-    let spot = frame.spot(p);
-    frame.sees(spot, spot)
+// The denominators of places that are drawn are below this, as those of all crossings of two segments are.
+const REACH: u128 = 1 << 96;
+
+/// A place in a picture: the whole millionths of a degree to its south-west, and where it lies.
+#[derive(Clone, Copy, Debug, PartialEq, Eq)]
+pub struct Mark {
+    pub corner: Point,
+    pub at: Position,
 }
 
 /// Whether a fault lies in the picture.
@@ -26,25 +29,46 @@ pub fn is_fault_inside(frame: Frame, map: &Map, points: &KeyedPoints, fault: &Ma
     requires { ArePointsOf map.now.polygons points.now }
     ensures { result ≡ is_fault_inside frame map.now fault.now }
 {
-    match place_of(map, points, fault) {
-        Some(place) => is_inside(frame, place),
+    match fault_mark(frame, map, points, fault) {
+        Some(mark) => frame.holds(mark.at),
         None => false,
     }
 }
 
-/// Where a fault of a map lies.
-pub fn place_of(map: &Map, points: &KeyedPoints, fault: &MapFault) -> Option<Point>
+/// Where a fault of a map lies in a picture.
+pub fn fault_mark(frame: Frame, map: &Map, points: &KeyedPoints, fault: &MapFault) -> Option<Mark>
+    requires { ArePointsOf map.now.polygons points.now }
+    ensures { result ≡ fault_mark frame map.now fault.now }
+{
+    match place_of(map, points, fault) {
+        Some(place) => mark_of(frame, place),
+        None => None,
+    }
+}
+
+// Where a fault of a map lies.
+fn place_of(map: &Map, points: &KeyedPoints, fault: &MapFault) -> Option<Rational>
     requires { ArePointsOf map.now.polygons points.now }
     ensures { result ≡ place_of map.now fault.now }
 {
     match fault {
         MapFault::Records(_) => None,
-        MapFault::Meet(meet) => floor_of(meet.at),
-        MapFault::Side { node, .. } => Some(*node),
-        MapFault::PolygonPoint(misplaced) => points.find(map, polygon_of(*misplaced)),
-        MapFault::Cell(odds) => start_of(map, odds.first),
-        MapFault::Face(FaceFault::Facing { first, .. }) => floor_of(first.at),
-        MapFault::Face(FaceFault::Outward { face, .. }) => floor_of(face.at),
+        MapFault::Meet(meet) => Some(meet.at),
+        MapFault::Side { node, .. } => Some(Rational::from(*node)),
+        MapFault::PolygonPoint(misplaced) => whole(points.find(map, polygon_of(*misplaced))),
+        MapFault::Cell(odds) => whole(start_of(map, odds.first)),
+        MapFault::Face(FaceFault::Facing { first, .. }) => Some(first.at),
+        MapFault::Face(FaceFault::Outward { face, .. }) => Some(face.at),
+    }
+}
+
+// A point, if there is one, as a place.
+fn whole(point: Option<Point>) -> Option<Rational>
+    ensures { result ≡ option_map whole point }
+{
+    match point {
+        Some(point) => Some(Rational::from(point)),
+        None => None,
     }
 }
 
@@ -57,6 +81,95 @@ fn start_of(map: &Map, dart: u32) -> Option<Point>
     } else {
         None
     }
+}
+
+// A place in a picture, where its corner is a point and its denominator isn't too great.
+fn mark_of(frame: Frame, r: Rational) -> Option<Mark>
+    ensures { result ≡ mark_of frame r }
+{
+    if r.d.unsigned_abs() < REACH {
+        match floor_of(r) {
+            Some(corner) => Some(mark_at(frame, r, corner)),
+            None => None,
+        }
+    } else {
+        None
+    }
+}
+
+// A place in a picture, beyond the whole millionths of a degree to its south-west.
+fn mark_at(frame: Frame, r: Rational, corner: Point) -> Mark
+    requires { unsigned_abs r.d < 2 ^ 96 }
+    ensures { result ≡ mark_at frame r corner }
+{
+    let d = r.d.unsigned_abs();
+    let weight = 4_900 * u32::from(frame.cosine);
+    let east = beyond(part_of(r.x, r.d), d, weight);
+    let north = beyond_up(part_of(r.y, r.d), d, 49_000_000);
+    Mark {
+        corner,
+        at: Position {
+            x: past(frame.east(corner.x), east),
+            y: short_of(frame.south(corner.y), north),
+        },
+    }
+}
+
+fn past(a: i64, b: i64) -> i64
+    requires far { unsigned_abs a < 2 ^ 62 }
+    requires near { unsigned_abs b ≤ 2 ^ 30 }
+    ensures { result ≡ a +ℤ b }
+{
+    a + b
+}
+
+fn short_of(a: i64, b: i64) -> i64
+    requires far { unsigned_abs a < 2 ^ 62 }
+    requires near { unsigned_abs b ≤ 2 ^ 30 }
+    ensures { result ≡ a -ℤ b }
+{
+    a - b
+}
+
+// How far a number is above the last multiple of a divisor.
+fn part_of(z: i128, d: i128) -> u128
+    requires { pos 0 <ℤ d }
+    ensures value { result ≡ part_of z d }
+    ensures bound { result < unsigned_abs d }
+{
+    z.rem_euclid(d).unsigned_abs()
+}
+
+// How far a part of a millionth of a degree is, rounded down.
+fn beyond(part: u128, d: u128, weight: u32) -> i64
+    requires part { part < d }
+    requires few { d < 2 ^ 96 }
+    requires small { weight ≤ 322000000 }
+    ensures value { result ≡ pos (beyond part d weight) }
+    ensures bound { unsigned_abs result ≤ 2 ^ 30 }
+{
+    (scaled(part, weight) / d) as i64
+}
+
+// The same, rounded up.
+fn beyond_up(part: u128, d: u128, weight: u32) -> i64
+    requires part { part < d }
+    requires few { d < 2 ^ 96 }
+    requires small { weight ≤ 322000000 }
+    ensures value { result ≡ pos (beyond_up part d weight) }
+    ensures bound { unsigned_abs result ≤ 2 ^ 30 }
+{
+    ((scaled(part, weight) + (d - 1)) / d) as i64
+}
+
+// A part by twice a weight.
+fn scaled(part: u128, weight: u32) -> u128
+    requires few { part < 2 ^ 96 }
+    requires small { weight ≤ 322000000 }
+    ensures value { result ≡ part * (2 * weight) }
+    ensures bound { result < 2 ^ 126 }
+{
+    part * (2 * u128::from(weight))
 }
 
 // The point of a rational point, each coordinate rounded down.

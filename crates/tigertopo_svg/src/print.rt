@@ -7,10 +7,11 @@ ghost use Rattle.tl_cert_output.specs.Texts.{PrintsText};
 ghost use Rattle.tigertopo_svg.specs.Strokes.{strokes_left};
 ghost use Rattle.tigertopo_svg.specs.Pictures.{drawn, ArePointsOf};
 ghost use Rattle.tigertopo_svg.specs.Texts.{stroke_text, drawing_text, size_text, style_text, picture_text};
-ghost use Rattle.tigertopo_svg.specs.Texts.{chains_part, nodes_part, points_part, marks_part, faults_part};
+ghost use Rattle.tigertopo_svg.specs.Texts.{chains_part, nodes_part, points_part, marks_part, faults_part, key_part};
 
 use crate::chains::walk_along;
 use crate::frame::Frame;
+use crate::key::print_key;
 use crate::keyed::KeyedPoints;
 use crate::marks::{print_faults, print_nodes, print_points};
 use crate::picture::Picture;
@@ -24,9 +25,13 @@ use tl_record::Sink;
 // How each part is drawn.
 const STYLE: &[u8] =
     b"<style>path,circle{fill:none;vector-effect:non-scaling-stroke;stroke-linecap:round;stroke-linejoin:round}\
-.chains{stroke:#333;stroke-width:1}.nodes{stroke:#000;stroke-width:3.2}.points{stroke:#07c;stroke-width:4}\
-circle{stroke:#d00;stroke-width:2;fill:#d00;fill-opacity:.2}</style>\n\
-<rect x=\"-100\" y=\"-100\" width=\"100%\" height=\"100%\" fill=\"#fff\"/>\n";
+text{font:130px sans-serif;fill:#333;stroke:#fff;stroke-width:25px;paint-order:stroke}\
+.chains,.chain{stroke:#333;stroke-width:1}.nodes,.node{stroke:#000;stroke-width:3.2}\
+.points,.point{stroke:#07c;stroke-width:4}.scale{stroke:#333;stroke-width:1.5}\
+circle,.fault{stroke:#d00;stroke-width:2;fill:#d00;fill-opacity:.2}.code{fill:#a00}\
+@media(max-width:700px){text{font-size:240px}circle{r:95px}}\
+@media(min-width:1500px){text{font-size:90px}circle{r:45px}}</style>\n\
+<rect x=\"-100\" y=\"-600\" width=\"100%\" height=\"100%\" fill=\"#fff\"/>\n";
 
 /// Prints the picture of a map with these faults, by the points of its polygons. The error is that a write failed.
 pub fn print_picture<S: Sink>(
@@ -91,10 +96,11 @@ fn print_back<S: Sink>(
 )
     requires { ArePointsOf map.now.polygons points.now }
     ensures { Prints S.contents S.failure_count (out.old, printer.old) (out.new, printer.new)
-        (marks_part picture map.now ++ faults_part picture.frame map.now faults.now ++ codes "</svg>\n") }
+        (marks_part picture map.now ++ faults_part picture.frame map.now faults.now ++ key_part picture faults.now ++ codes "</svg>\n") }
 {
     print_marks(map, picture, printer, out);
     print_faults(map, picture.frame, points, faults, printer, out);
+    print_key(picture, faults, printer, out);
     printer.add(b"</svg>\n", out);
 }
 
@@ -115,7 +121,7 @@ fn print_drawings<S: Sink>(map: &Map, picture: Picture, printer: &mut Printer, o
 {
     for number in 0..map.chains() {
         let points = map.chain(number).points;
-        let mut walk = walk_along(picture.frame, picture.skipped, number, points);
+        let mut walk = walk_along(picture.frame, points);
         print_strokes(&mut walk, printer, out);
     }
 }

@@ -1,11 +1,10 @@
 //! Parts of a picture's text, each put together before it is added to an output.
 
-ghost use Rattle.std.specs.Prelude.{◌≡◌, ◌+◌, ◌≤◌, ◌++◌, ◌-ℤ◌, codes, length};
+ghost use Rattle.std.specs.Prelude.{◌≡◌, ◌+◌, ◌≤◌, ◌++◌, pos, ◌+ℤ◌, ◌-ℤ◌, codes, length};
 ghost use Rattle.arrayvec.specs.ArrayString.{array_string_len};
-ghost use Rattle.tigertopo_svg.specs.Texts.{move_text, start_text, stroke_text, dot_text, size_text, circle_head};
+ghost use Rattle.tigertopo_svg.specs.Texts.{move_text, start_text, stroke_text, dot_text, size_text, circle_head, closer, closer_text, is_eastern, west_label, east_label, label_head};
 
 use crate::frame::{Frame, Spot};
-use crate::places::is_inside;
 use crate::walk::Stroke;
 use arrayvec::ArrayString;
 use itoa::{Buffer, Integer};
@@ -69,29 +68,28 @@ pub fn dot_text(frame: Frame, p: Point) -> ArrayString<PART_ROOM>
     ensures { result.bytes ≡ dot_text frame p }
 {
     let mut text = ArrayString::new();
-    if is_inside(frame, p) {
+    if frame.has_inside(p) {
         push_move(&mut text, frame.spot(p));
         text.push_str("h0");
     }
     text
 }
 
-/// How the file begins: its size in pixels, and what is shown in tenths of a pixel.
+/// How the file begins: what it shows, in tenths of a pixel.
 pub fn size_text(frame: Frame) -> ArrayString<PART_ROOM>
     ensures { result.bytes ≡ size_text frame }
 {
-    let wide = frame.pixels(frame.wide);
-    let high = frame.pixels(frame.high);
+    let side = frame.side();
+    let wide = frame.reach_east() / side + 200;
+    let high = frame.reach_south() / side + 700;
     let mut text = ArrayString::new();
     push_number(
         &mut text,
-        "<svg xmlns=\"http://www.w3.org/2000/svg\" class=\"tigertopo\" width=\"",
+        "<svg xmlns=\"http://www.w3.org/2000/svg\" class=\"tigertopo\" viewBox=\"-100 -600 ",
         wide,
     );
-    push_number(&mut text, "\" height=\"", high);
-    push_number(&mut text, "\" viewBox=\"-100 -100 ", wide);
-    push_number(&mut text, "0 ", high);
-    text.push_str("0\">\n");
+    push_number(&mut text, " ", high);
+    text.push_str("\" style=\"width:100%;height:auto\">\n");
     text
 }
 
@@ -104,4 +102,82 @@ pub fn circle_head(spot: Spot) -> ArrayString<PART_ROOM>
     push_number(&mut text, "\" cy=\"", spot.y);
     text.push_str("\" r=\"60\"><title>");
     text
+}
+
+/// What to type for a picture of a place by itself, behind a fault's title.
+pub fn closer_text(frame: Frame, p: Point) -> ArrayString<PART_ROOM>
+    ensures { result.bytes ≡ closer_text frame p }
+{
+    let mut text = ArrayString::new();
+    push_number(&mut text, "\n--at @", p.x);
+    push_number(&mut text, ",", p.y);
+    push_number(&mut text, " --width ", closer(frame));
+    text.push_str("</title></circle>");
+    text
+}
+
+// How wide a picture is that shows a place ten times closer.
+fn closer(frame: Frame) -> u32
+    ensures { result ≡ closer frame }
+{
+    (frame.wide.max(frame.high) / 10).max(2)
+}
+
+/// How a fault's code beside its circle begins, where there is room for it.
+pub fn label_head(frame: Frame, spot: Spot) -> ArrayString<PART_ROOM>
+    ensures { result.bytes ≡ label_head frame spot }
+{
+    if is_eastern(frame, spot) {
+        west_label(spot)
+    } else {
+        east_label(spot)
+    }
+}
+
+// Whether a place lies less than forty pixels from the eastern border of what is shown.
+fn is_eastern(frame: Frame, spot: Spot) -> bool
+    ensures { result ≡ is_eastern frame spot }
+{
+    let border = i128::from(frame.reach_east() / frame.side());
+    border < beyond(spot.x, 400)
+}
+
+// How a fault's code to the west of its circle begins.
+fn west_label(spot: Spot) -> ArrayString<PART_ROOM>
+    ensures { result.bytes ≡ west_label spot }
+{
+    let mut text = ArrayString::new();
+    push_number(
+        &mut text,
+        "<text class=\"code\" text-anchor=\"end\" x=\"",
+        short_of(spot.x, 80),
+    );
+    push_number(&mut text, "\" y=\"", beyond(spot.y, 45));
+    text.push_str("\">");
+    text
+}
+
+// How one to the east of it begins.
+fn east_label(spot: Spot) -> ArrayString<PART_ROOM>
+    ensures { result.bytes ≡ east_label spot }
+{
+    let mut text = ArrayString::new();
+    push_number(&mut text, "<text class=\"code\" x=\"", beyond(spot.x, 80));
+    push_number(&mut text, "\" y=\"", beyond(spot.y, 45));
+    text.push_str("\">");
+    text
+}
+
+// A number, and so many more.
+fn beyond(n: i64, more: u16) -> i128
+    ensures { result ≡ n +ℤ pos more }
+{
+    i128::from(n) + i128::from(more)
+}
+
+// A number, and so many less.
+fn short_of(n: i64, less: u16) -> i128
+    ensures { result ≡ n -ℤ pos less }
+{
+    i128::from(n) - i128::from(less)
 }

@@ -3,7 +3,7 @@
 ghost use Rattle.std.specs.Prelude.{◌≡◌, [], ◌∷◌, MatchOption};
 ghost use Rattle.tigertopo_svg.specs.Strokes.{is_passed, strokes_left};
 
-use crate::frame::{Frame, Spot, is_near};
+use crate::frame::{Frame, Spot};
 use tl_geom::Point;
 
 /// A stroke from place to place. It begins anew where the one before it doesn't end there.
@@ -18,11 +18,9 @@ pub struct Stroke {
 #[derive(Clone, Copy, Debug)]
 pub struct Walk<'a> {
     pub frame: Frame,
-    /// How near to the last place others are passed over, in tenths of a pixel.
-    pub grain: u64,
-    /// Whether the stroke to the last place was drawn.
+    /// Whether the stroke to the last point was drawn.
     pub is_down: bool,
-    pub last: Spot,
+    pub last: Point,
     pub rest: &'a [Point],
 }
 
@@ -32,18 +30,18 @@ impl Walk<'_> {
         ensures { MatchOption result (strokes_left self.old ≡ []) (λ stroke. strokes_left self.old ≡ stroke ∷ strokes_left self.new) }
     {
         while let Some((point, rest)) = self.rest.split_first() {
-            let spot = self.frame.spot(*point);
             self.rest = rest;
-            if !is_passed(self.grain, self.last, spot, rest) {
-                let stroke = Stroke {
-                    from: self.last,
-                    to: spot,
-                    begins: !self.is_down,
-                };
-                self.last = spot;
-                self.is_down = self.frame.sees(stroke.from, spot);
+            if !is_passed(self.frame, self.last, *point, rest) {
+                let from = self.last;
+                let begins = !self.is_down;
+                self.last = *point;
+                self.is_down = self.frame.sees(from, *point);
                 if self.is_down {
-                    return Some(stroke);
+                    return Some(Stroke {
+                        from: self.frame.spot(from),
+                        to: self.frame.spot(*point),
+                        begins,
+                    });
                 }
             }
         }
@@ -51,9 +49,9 @@ impl Walk<'_> {
     }
 }
 
-// Whether a place is passed over, with these points behind it.
-fn is_passed(grain: u64, last: Spot, spot: Spot, rest: &[Point]) -> bool
-    ensures { result ≡ is_passed grain last spot rest.now }
+// Whether a point is passed over, with these points behind it.
+fn is_passed(frame: Frame, last: Point, p: Point, rest: &[Point]) -> bool
+    ensures { result ≡ is_passed frame last p rest.now }
 {
-    is_near(grain, last, spot) && !rest.is_empty()
+    frame.is_near(last, p) && !rest.is_empty()
 }

@@ -5,6 +5,7 @@
 #![tactic(auto)]
 
 mod front;
+mod kept;
 mod looking;
 mod new_file;
 mod place;

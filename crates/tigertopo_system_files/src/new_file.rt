@@ -1,12 +1,10 @@
 //! Files that are made when their first byte is written.
 
-ghost use Rattle.std.specs.Prelude.{◌≡◌, Option, Bool, true, ⊤, is_some, IfOk, IfErr, OnOk, OnErr, string_bytes};
+ghost use Rattle.std.specs.Prelude.{◌≡◌, Option, Bool, true, ⊤, is_some, IfOk, OnOk, OnErr, string_bytes};
 ghost use Rattle.std.specs.Io.{WritesAtMost};
 ghost use Rattle.std.specs.Io.KnownBytes.{WriteAppends};
 ghost use Rattle.tigertopo_system_files.specs.Calls.{held_first, held_by, file_of, place_of};
-ghost use Rattle.tl_cert_output.specs.Stops.{StopsFor};
 
-use crate::stops::or_stop;
 use std::alloc::Global;
 use std::io;
 use std::io::Write;
@@ -48,6 +46,8 @@ pub struct NewBytes<P, F> {
     place: P,
     file: Option<F>,
     failures: u64,
+    // What the system answered to the last write that failed.
+    trouble: Option<io::Error>,
 }
 
 impl<F: Write + Drop, P: Place<File = F>> NewBytes<P, F> {
@@ -83,7 +83,9 @@ impl<F: Write + Drop, P: Place<File = F>> Sink for NewBytes<P, F> {
             }
             Err(error) => {
                 self.failures = self.failures.saturating_add(1);
-                Err(error)
+                let told = io::Error::from(error.kind());
+                self.trouble = Some(error);
+                Err(told)
             }
         }
     }
@@ -116,36 +118,38 @@ impl<F: Write + Drop, P: Place<File = F>> NewFile<P, F> {
                 place,
                 file: None,
                 failures: 0,
+                trouble: None,
             },
         }
     }
 
     /// The file takes its name, and is made where it isn't yet. Where that fails, it is taken away.
-    pub fn settle(self) -> Result<(), Stop>
+    pub fn settle(self) -> io::Result<()>
         ensures kept { OnOk result ((file : F) × (F.contents file ≡ ⟦<NewFile<P, F> as Draft>⟧.contents self)
             × P.has_name (place_of self) file) }
         ensures away { OnErr result (is_some (file_of self) ≡ true → P.is_away (place_of self)) }
-        ensures stop { IfErr result (StopsFor ⊤) }
     {
         let NewBytes { place, file, .. } = self.bytes;
         let file = match file {
             Some(file) => file,
-            None => or_stop(place.make())?,
+            None => place.make()?,
         };
-        let taken = or_stop(place.take_name(&file));
+        let taken = place.take_name(&file);
         if taken.is_err() {
             place.take_away();
         }
         taken
     }
 
-    /// The file is taken away, if it is made.
-    pub fn discard(self)
-        ensures { is_some (file_of self) ≡ true → P.is_away (place_of self) }
+    /// The file is taken away, if it is made. What the system answered to the last write that failed is given, if one did.
+    pub fn discard(mut self) -> Option<io::Error>
+        ensures away { is_some (file_of self) ≡ true → P.is_away (place_of self) }
+        ensures trouble { result ≡ self.bytes.trouble }
     {
         if self.bytes.file.is_some() {
             self.bytes.place.take_away();
         }
+        self.bytes.trouble.take()
     }
 }
 

@@ -4,15 +4,18 @@
 //! safe and end, and their order of calls is trusted. What is made of the bytes and the errors that the calls answer stands in the
 //! files beside them, and is proved there of any reader and any writer.
 
-ghost use Rattle.std.specs.Prelude.{◌≡◌, IfOk};
+ghost use Rattle.std.specs.Prelude.{◌≡◌, IfOk, ⊤};
+ghost use Rattle.tl_cert_output.specs.Stops.{StopsFor};
 
+use crate::kept::{KeptText, SystemReader, forget, is_kept, no_text};
 use crate::looking::room_of;
 use crate::new_file::NewFile;
 use crate::place::{Names, SystemPlace};
 use crate::progress::Progress;
 use crate::reading::{ShownReader, read_through};
-use crate::stops::{or_stop, words_of};
+use crate::stops::{or_stop, stop_of, words_of};
 use std::alloc::{AllocError, Global};
+use std::cell::RefCell;
 use std::fs::File;
 use std::io::Eprint;
 use std::rt::Files;
@@ -30,25 +33,83 @@ pub struct SystemFiles<'a, R> {
     is_seen: bool,
     // The name of the file that is read last, where it is to be shown how far reading is.
     last: Option<String>,
+    // What the system answered where the last new file wasn't made.
+    obstacle: Option<io::Error>,
+    // Whether what is read of files that can be read but once is kept.
+    keeps: bool,
+    // What was kept of them, by their names.
+    kept: RefCell<Vec<(String, KeptText)>>,
 }
 
 impl<'a, R: Files<File = File> + Clock + Eprint> SystemFiles<'a, R> {
     /// The files that the runtime reaches. `is_seen` says whether its error output is a terminal.
-    pub fn new(rt: &'a R, is_seen: bool) -> SystemFiles<'a, R> {
+    pub fn new(rt: &'a R, alloc: Global, is_seen: bool) -> SystemFiles<'a, R> {
         SystemFiles {
             rt,
             is_seen,
             last: None,
+            obstacle: None,
+            keeps: false,
+            kept: RefCell::new(Vec::new(alloc)),
         }
     }
 
-    // The file of a name, opened.
-    fn opened(&self, alloc: Global, name: &str) -> io::Result<Meter<ShownReader<'a, File, R>>>
-        ensures { IfOk result (λ file. ⟦<Meter<ShownReader<'a, File, R>> as Source>⟧.failure_count file ≡ 0) }
+    // The file of a name, opened, or what was kept of it.
+    fn opened(
+        &self,
+        alloc: Global,
+        name: &str,
+    ) -> io::Result<Meter<ShownReader<'a, SystemReader, R>>>
+        ensures { IfOk result (λ file. ⟦<Meter<ShownReader<'a, SystemReader, R>> as Source>⟧.failure_count file ≡ 0) }
     {
+        if !self.keeps {
+            if let Some(text) = self.kept_of(name) {
+                let reader = SystemReader::Kept { text, place: 0 };
+                return Ok(Meter::new(ShownReader::new(reader, None)));
+            }
+        }
         let file = File::open(self.rt, name)?;
         let progress = self.progress_of(alloc, name, &file);
-        Ok(Meter::new(ShownReader::new(file, progress)))
+        Ok(Meter::new(ShownReader::new(self.reader_of(alloc, name, file), progress)))
+    }
+
+    // The reader of a file, which keeps what it reads where that is to be kept.
+    fn reader_of(&self, alloc: Global, name: &str, file: File) -> SystemReader {
+        if self.keeps && !is_regular(&file) {
+            if let Some(text) = self.to_be_kept(alloc, name) {
+                return SystemReader::Keeping { file, text };
+            }
+        }
+        SystemReader::Plain(file)
+    }
+
+    // Where what is read of the file of a name is to be kept. A file that is given twice isn't kept, since two readers share its bytes; and
+    // none is where memory is refused for it.
+    fn to_be_kept(&self, alloc: Global, name: &str) -> Option<KeptText> {
+        let Ok(mut kept) = self.kept.try_borrow_mut() else {
+            return None;
+        };
+        let kept = &mut *kept;
+        for (other, text) in kept.as_slice() {
+            if other.as_str() == name {
+                forget(text);
+                return None;
+            }
+        }
+        add_text(alloc, kept, name)
+    }
+
+    // What was kept of the file of a name.
+    fn kept_of(&self, name: &str) -> Option<KeptText> {
+        let Ok(kept) = self.kept.try_borrow() else {
+            return None;
+        };
+        for (other, text) in kept.as_slice() {
+            if other.as_str() == name && is_kept(text) {
+                return text.clone().ok();
+            }
+        }
+        None
     }
 
     // How far the reading of this file is, where that is to be shown.
@@ -66,6 +127,15 @@ impl<'a, R: Files<File = File> + Clock + Eprint> SystemFiles<'a, R> {
         Progress::new(self.rt, shown, size, last.as_str() == name)
     }
 
+    // What is told where the system answers an error of a new file.
+    fn stopped_by(&mut self, error: io::Error) -> Stop
+        ensures { StopsFor ⊤ result }
+    {
+        let stop = stop_of(&error);
+        self.obstacle = Some(error);
+        stop
+    }
+
     // Reads the file of a name to its end. A pipe isn't opened: it may have no end.
     fn read_all(&self, name: &str) -> io::Result<()> {
         let stands = fs::metadata(self.rt, name)?;
@@ -76,18 +146,44 @@ impl<'a, R: Files<File = File> + Clock + Eprint> SystemFiles<'a, R> {
     }
 }
 
+// Whether a file can be read again from its beginning.
+fn is_regular(file: &File) -> bool {
+    match file.metadata() {
+        Ok(stands) => stands.is_file(),
+        Err(_) => false,
+    }
+}
+
+// A text that is empty yet, under a name. None where memory was refused.
+fn add_text(alloc: Global, kept: &mut Vec<(String, KeptText)>, name: &str) -> Option<KeptText> {
+    let text = no_text(alloc)?;
+    let held = text.clone().ok()?;
+    let name = String::from_str(alloc, name).ok()?;
+    match kept.push((name, held)) {
+        Ok(()) => Some(text),
+        Err(_) => None,
+    }
+}
+
 impl<'a, R: Files<File = File> + Clock + Eprint> Opener for SystemFiles<'a, R> {
-    type Reader = Meter<ShownReader<'a, File, R>>;
+    type Reader = Meter<ShownReader<'a, SystemReader, R>>;
 
     ghost use Rattle.std.specs.Prelude.{None};
 
     ghost held = { λ _ _. None };
 
-    fn open_one(&self, alloc: Global, name: &str) -> Result<Meter<ShownReader<'a, File, R>>, Stop> {
+    fn open_one(
+        &self,
+        alloc: Global,
+        name: &str,
+    ) -> Result<Meter<ShownReader<'a, SystemReader, R>>, Stop> {
         or_stop(self.opened(alloc, name))
     }
 
     fn lasts(&self, name: &str) -> Result<bool, Stop> {
+        if self.kept_of(name).is_some() {
+            return Ok(true);
+        }
         Ok(or_stop(fs::metadata(self.rt, name))?.is_file())
     }
 }
@@ -114,7 +210,9 @@ impl<'a, R: Files<File = File> + Clock + Eprint> FileSystem for SystemFiles<'a, 
         single: Option<&String>,
         reading: &Q,
     ) -> Result<Q::Answer, Stop> {
-        read_each(self, alloc, names, single, reading)
+        let answer = read_each(self, alloc, names, single, reading);
+        self.keeps = false;
+        answer
     }
 
     fn read_again<Q: Reading>(
@@ -134,10 +232,28 @@ impl<'a, R: Files<File = File> + Clock + Eprint> FileSystem for SystemFiles<'a, 
         }
     }
 
+    fn passes(&self, name: &str) -> bool {
+        match fs::metadata(self.rt, name) {
+            Ok(stands) => !stands.is_file() && !stands.is_dir(),
+            Err(_) => false,
+        }
+    }
+
+    fn obstacle(&self, alloc: Global) -> Result<Option<String>, AllocError> {
+        match &self.obstacle {
+            Some(error) => Ok(Some(words_of(alloc, error)?)),
+            None => Ok(None),
+        }
+    }
+
     fn show_progress(&mut self, last: String) {
         if self.is_seen {
             self.last = Some(last);
         }
+    }
+
+    fn keep_passing(&mut self) {
+        self.keeps = true;
     }
 
     fn room(
@@ -158,8 +274,10 @@ impl<'a, R: Files<File = File> + Clock + Eprint> FileSystem for SystemFiles<'a, 
         kind: FileKind,
     ) -> Result<NewFile<SystemPlace<'a, R>, File>, Stop> {
         let taken = String::from_str(alloc, name)?;
-        let place = or_stop(SystemPlace::new(self.rt, alloc, name, kind))?;
-        Ok(NewFile::new(taken, kind, place))
+        match SystemPlace::new(self.rt, alloc, name, kind) {
+            Ok(place) => Ok(NewFile::new(taken, kind, place)),
+            Err(error) => Err(self.stopped_by(error)),
+        }
     }
 
     fn keep(
@@ -167,10 +285,13 @@ impl<'a, R: Files<File = File> + Clock + Eprint> FileSystem for SystemFiles<'a, 
         _alloc: Global,
         file: NewFile<SystemPlace<'a, R>, File>,
     ) -> Result<(), Stop> {
-        file.settle()
+        match file.settle() {
+            Ok(()) => Ok(()),
+            Err(error) => Err(self.stopped_by(error)),
+        }
     }
 
     fn discard(&mut self, file: NewFile<SystemPlace<'a, R>, File>) {
-        file.discard();
+        self.obstacle = file.discard();
     }
 }

@@ -13,4 +13,4 @@ mod tell;
 
 pub use again::count_all;
 pub use placed::place_refusals;
-pub use tell::say_hint;
+pub use tell::{say_hint, trouble_line};

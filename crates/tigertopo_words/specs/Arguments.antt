@@ -6,6 +6,8 @@ use Rattle.tl_record.specs.declared.options.Options.{Options}
 use Rattle.tigertopo_words.specs.declared.asked.View.{View}
 use Rattle.tigertopo_words.specs.declared.budget.Told.{Told}
 use Rattle.tigertopo_words.specs.declared.budget.Told.TheVariants.{One, All}
+use Rattle.tigertopo_words.specs.declared.layer.Layer.{Layer}
+use Rattle.tigertopo_words.specs.declared.layer.Layer.TheVariants.{Chains, Points, Polygons, Landmarks}
 use Rattle.tigertopo_words.specs.Points.{Spells}
 
 -- a text was given
@@ -64,6 +66,20 @@ AskForTold all most (All number) = AskForAll all most number
 -- some are
 abbrev pub AskForFaults : (all most : Option Text) → Type 0
 AskForFaults all most = (told : Told) × AskForTold all most told
+
+-- the word for a layer
+abbrev pub layer_word : Layer → Text
+layer_word Chains = codes "chains"
+layer_word Points = codes "points"
+layer_word Polygons = codes "polygons"
+layer_word Landmarks = codes "landmarks"
+
+-- what was given for --layer is the word for this one, or nothing was given
+abbrev pub IsLayer : Option Text → Option Layer → Type 0
+IsLayer None None = ⊤
+IsLayer None (Some layer) = ⊥
+IsLayer (Some word) None = ⊥
+IsLayer (Some word) (Some layer) = word ≡ layer_word layer
 
 -- what was given for @X,Y spells this point
 abbrev pub IsPlace : Option Text → Point → Type 0

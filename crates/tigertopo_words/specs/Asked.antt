@@ -5,11 +5,12 @@ use Rattle.tigertopo_words.specs.declared.asked.Command.{Command}
 use Rattle.tigertopo_words.specs.declared.asked.Asked.{Asked}
 use Rattle.tigertopo_words.specs.declared.asked.Asked.TheVariants.{Show, Landmarks, Locate, Audit, Build, Check, Convert, Export, Draw}
 use Rattle.tigertopo_words.specs.declared.asked.View.{View}
+use Rattle.tigertopo_words.specs.declared.layer.Layer.{Layer}
 use Rattle.tigertopo_words.specs.declared.budget.Told.{Told}
 use Rattle.tigertopo_words.specs.declared.command_line.Named.{Named}
 use Rattle.tigertopo_words.specs.declared.command_line.Named.TheVariants as name
 use Rattle.tigertopo_words.specs.Commands.{name_of}
-use Rattle.tigertopo_words.specs.Arguments.{IsSwitch, IsBudget, AskForTold, IsPlace, IsView, FacesNeedFaults}
+use Rattle.tigertopo_words.specs.Arguments.{IsSwitch, IsBudget, AskForTold, IsLayer, IsPlace, IsView, FacesNeedFaults}
 use Rattle.tigertopo_words.specs.Requests.{Request, given_by, AreFiles, AreOptions, IsWatched, HasNeeds, IsWhole}
 
 -- the command that asks for it
@@ -21,7 +22,7 @@ named_of (Audit told places made) = name.Audit
 named_of (Build made) = name.Build
 named_of (Check cert budget) = name.Check
 named_of (Convert cert made) = name.Convert
-named_of (Export made) = name.Export
+named_of (Export made layer) = name.Export
 named_of (Draw made view faults) = name.Draw
 
 -- the name of the certificate that is read, if one is
@@ -35,7 +36,7 @@ abbrev pub made_of : Asked → Option Text
 made_of (Audit told places made) = option_map string_bytes made
 made_of (Build made) = Some (string_bytes made)
 made_of (Convert cert made) = Some (string_bytes made)
-made_of (Export made) = Some (string_bytes made)
+made_of (Export made layer) = Some (string_bytes made)
 made_of (Draw made view faults) = Some (string_bytes made)
 made_of other = None
 
@@ -55,6 +56,11 @@ pub record AsksToConvert (given : Request) (cert made : Text) : Type 0 where
   pub from : given.cert ≡ Some cert
   pub to : given.out ≡ Some made
 
+-- the request asks for this file, word for word, of this layer or of all
+pub record AsksToExport (given : Request) (made : Text) (layer : Option Layer) : Type 0 where
+  pub to : given.geojson ≡ Some made
+  pub of : IsLayer given.layer layer
+
 -- the request asks for this picture, word for word, with this view and with faults or without, and for faces only with faults
 pub record AsksToDraw (given : Request) (made : Text) (view : Option View) (faults : Bool) : Type 0 where
   pub to : given.out ≡ Some made
@@ -71,7 +77,7 @@ IsAsked given (Audit told places made) = AsksToAudit given told places (option_m
 IsAsked given (Build made) = given.out ≡ Some (string_bytes made)
 IsAsked given (Check cert budget) = AsksToCheck given (string_bytes cert) budget
 IsAsked given (Convert cert made) = AsksToConvert given (string_bytes cert) (string_bytes made)
-IsAsked given (Export made) = given.geojson ≡ Some (string_bytes made)
+IsAsked given (Export made layer) = AsksToExport given (string_bytes made) layer
 IsAsked given (Draw made view faults) = AsksToDraw given (string_bytes made) view faults
 
 -- the request is one for the command: it names it, asks for what is asked, and gives its options, its files, word for word and in

@@ -46,7 +46,7 @@ where_argument = switch (codes "where")
 abbrev pub faces_argument : Rule
 faces_argument = switch (codes "faces")
 
--- --most N, --tests N, --at @X,Y, --width W, and --geojson OUT of an audit: one word
+-- --most N, --tests N, --at @X,Y, --width W, --layer KIND, and --geojson OUT of an audit: one word
 abbrev pub value_argument : Text → Rule
 value_argument id = record (new_rule id) { long = Some id; value_names = 1 }
 
@@ -121,12 +121,14 @@ locate_name = codes "locate"
 abbrev pub locate_app : App
 locate_app = with_rule (with_rule (with_rule (new_app locate_name) released_argument) (name_argument (codes "point"))) files_argument
 
--- export --geojson OUT [--released] FILES..
+-- export --geojson OUT [--layer KIND] [--released] FILES..
 abbrev pub export_name : Text
 export_name = codes "export"
 
 abbrev pub export_app : App
-export_app = with_rule (with_rule (with_rule (new_app export_name) (named_argument (codes "geojson"))) released_argument) files_argument
+export_app =
+    with_rule (with_rule (with_rule (with_rule (new_app export_name) (named_argument (codes "geojson"))) (value_argument (codes "layer"))) released_argument)
+    files_argument
 
 -- draw --out OUT [--at @X,Y --width W] [--faults [--faces]] [--zero-cells] [--released] FILES..
 abbrev pub draw_name : Text

@@ -9,7 +9,7 @@ use Rattle.tigertopo_words.specs.declared.command_line.Named.{Named}
 use Rattle.tigertopo_words.specs.declared.command_line.Named.TheVariants.{Show, Landmarks, Locate, Audit, Build, Check, Convert, Export, Draw}
 use Rattle.tigertopo_words.specs.declared.command_line.Argument.{Argument}
 use Rattle.tigertopo_words.specs.declared.command_line.Argument.TheVariants.{All, Most, Progress, Where, FacesOfDrawing, Faces, FaultsOption, ZeroCells, Released, Files, Point}
-use Rattle.tigertopo_words.specs.declared.command_line.Argument.TheVariants.{CertOption, OutOption, Tests, Cert, Out, CollectionOption, PictureOption, At, Width, Faults}
+use Rattle.tigertopo_words.specs.declared.command_line.Argument.TheVariants.{CertOption, OutOption, Tests, Cert, Out, LayerOption, CollectionOption, PictureOption, At, Width, Faults}
 use Rattle.tigertopo_words.specs.Commands.{all_argument, most_argument, zero_cells_argument, released_argument, files_argument}
 use Rattle.tigertopo_words.specs.Commands.{progress_argument, where_argument, faces_argument, faults_argument, value_argument}
 use Rattle.tigertopo_words.specs.Commands.{name_argument, named_argument, tests_argument}
@@ -34,6 +34,7 @@ rule_for Where = where_argument
 rule_for FacesOfDrawing = faces_argument
 rule_for Faces = faces_argument
 rule_for FaultsOption = value_argument (codes "geojson")
+rule_for LayerOption = value_argument (codes "layer")
 rule_for CollectionOption = named_argument (codes "geojson")
 rule_for PictureOption = named_argument (codes "out")
 rule_for At = value_argument (codes "at")
@@ -85,7 +86,7 @@ arguments_for Audit = All ∷ Most ∷ Where ∷ FaultsOption ∷ Progress ∷ F
 arguments_for Build = OutOption ∷ Progress ∷ Faces ∷ ZeroCells ∷ Released ∷ Files ∷ []
 arguments_for Check = CertOption ∷ Tests ∷ Progress ∷ Faces ∷ ZeroCells ∷ Released ∷ Files ∷ []
 arguments_for Convert = Cert ∷ Out ∷ []
-arguments_for Export = CollectionOption ∷ Released ∷ Files ∷ []
+arguments_for Export = CollectionOption ∷ LayerOption ∷ Released ∷ Files ∷ []
 arguments_for Draw = PictureOption ∷ At ∷ Width ∷ Faults ∷ FacesOfDrawing ∷ ZeroCells ∷ Released ∷ Files ∷ []
 
 -- a command was made, and it is so

@@ -7,15 +7,16 @@ use Rattle.tl_geom.specs.declared.point.Point.{Point}
 use Rattle.tl_record.specs.declared.options.Options.{Options}
 use Rattle.tl_record.specs.declared.options.TheConstants.{PLAIN}
 use Rattle.tigertopo_words.specs.declared.asked.View.{View}
+use Rattle.tigertopo_words.specs.declared.layer.Layer.{Layer}
 use Rattle.tigertopo_words.specs.declared.command_line.Named.{Named}
 use Rattle.tigertopo_words.specs.declared.command_line.Named.TheVariants.{Show, Landmarks, Locate, Audit, Build, Check, Convert, Export, Draw}
 use Rattle.tigertopo_words.specs.Commands.{command_line, name_of}
-use Rattle.tigertopo_words.specs.Arguments.{IsGiven, AreSome, IsSwitch, AreChosen, IsBudget, AskForFaults, IsPlace, IsView, FacesNeedFaults}
+use Rattle.tigertopo_words.specs.Arguments.{IsGiven, AreSome, IsSwitch, AreChosen, IsBudget, AskForFaults, IsLayer, IsPlace, IsView, FacesNeedFaults}
 
 -- a command; what was given for its FILES, if anything was, and the values of its --released, its --zero-cells, its --faces and its
 -- --all, each of which is the word true where the switch is given; and what was given for its @X,Y, its CERT or --cert, its OUT or
--- --out, its --tests, and its --most; its --progress, its --faults and its --where, which are switches; its --geojson, its --at and
--- its --width
+-- --out, its --tests, and its --most; its --progress, its --faults and its --where, which are switches; its --geojson, its --layer, its --at
+-- and its --width
 pub record Request : Type 0 where
   pub command : Text
   pub files : Option (List Text)
@@ -32,6 +33,7 @@ pub record Request : Type 0 where
   pub faults : Option Text
   pub places : Option Text
   pub geojson : Option Text
+  pub layer : Option Text
   pub center : Option Text
   pub width : Option Text
 
@@ -53,6 +55,7 @@ request_in found = record {
   faults = first_of (codes "faults") found.1;
   places = first_of (codes "where") found.1;
   geojson = first_of (codes "geojson") found.1;
+  layer = first_of (codes "layer") found.1;
   center = first_of (codes "at") found.1;
   width = first_of (codes "width") found.1;
 }
@@ -91,7 +94,7 @@ IsWatched Check given watched = IsSwitch given.progress watched
 IsWatched named given watched = watched ≡ false
 
 -- a command is given what it needs beside files: the names of a certificate or of what is made, a budget that is a number, a point, a
--- number of faults only where all are asked for, a view or none, and faces only where faults are asked for
+-- number of faults only where all are asked for, a layer or none, a view or none, and faces only where faults are asked for
 abbrev pub HasNeeds : Named → Request → Type 0
 HasNeeds Show given = ⊤
 HasNeeds Landmarks given = ⊤
@@ -100,7 +103,7 @@ HasNeeds Audit given = AskForFaults given.all given.most
 HasNeeds Build given = IsGiven given.out
 HasNeeds Check given = IsGiven given.cert × ((budget : ℕ) × IsBudget given.tests budget)
 HasNeeds Convert given = IsGiven given.cert × IsGiven given.out
-HasNeeds Export given = IsGiven given.geojson
+HasNeeds Export given = IsGiven given.geojson × ((layer : Option Layer) × IsLayer given.layer layer)
 HasNeeds Draw given = IsGiven given.out × ((view : Option View) × IsView given.center given.width view) × FacesNeedFaults given.faces given.faults
 
 -- the request names a command of the program, and what it wants: its files and what it needs beside them

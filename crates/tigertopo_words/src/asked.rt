@@ -5,6 +5,7 @@ ghost use Rattle.tigertopo_words.specs.Asked.{named_of};
 
 use crate::budget::Told;
 use crate::command_line::{Named, word_of};
+use crate::layer::Layer;
 use tl_geom::Point;
 use tl_record::Options;
 
@@ -54,9 +55,10 @@ pub enum Asked {
         cert: String,
         made: String,
     },
-    /// To make a file of GeoJSON of this name, of the map.
+    /// To make a file of GeoJSON of this name, of the map, or of one layer of it.
     Export {
         made: String,
+        layer: Option<Layer>,
     },
     /// To make a picture of this name, of the map or of a place in it, with its faults where they are asked for: those of faces among
     /// them where the options ask for these, which they do only where faults are asked for.
@@ -108,7 +110,7 @@ impl Command {
             Asked::Audit { made, .. } => made.as_ref(),
             Asked::Build { made } => Some(made),
             Asked::Convert { made, .. } => Some(made),
-            Asked::Export { made } => Some(made),
+            Asked::Export { made, .. } => Some(made),
             Asked::Draw { made, .. } => Some(made),
             Asked::Show | Asked::Landmarks | Asked::Locate { .. } | Asked::Check { .. } => None,
         }

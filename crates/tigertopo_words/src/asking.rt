@@ -12,6 +12,7 @@ use crate::arguments::{switch_of, word_of};
 use crate::asked::Asked;
 use crate::budget::{Told, asked_by, budget_of};
 use crate::command_line::Named;
+use crate::layer::layer_by;
 use crate::point::place_of;
 use crate::view::view_of;
 use clap::ArgMatches;
@@ -126,12 +127,15 @@ fn conversion_of(alloc: Global, found: &ArgMatches<'_>) -> Result<Option<Asked>,
     }
 }
 
-// A file of GeoJSON, where it is named.
+// A file of GeoJSON, where it is named, and its layer is spelt as one or none is given.
 fn export_of(alloc: Global, found: &ArgMatches<'_>) -> Result<Option<Asked>, AllocError>
     ensures { IfOk result (IsAskedBy Named.Export (rows_of (found_of found.now))) }
 {
+    let Some(layer) = layer_by(found.get_str("layer")) else {
+        return Ok(None);
+    };
     match word_of(alloc, found, "geojson")? {
-        Some(made) => Ok(Some(Asked::Export { made })),
+        Some(made) => Ok(Some(Asked::Export { made, layer })),
         None => Ok(None),
     }
 }

@@ -15,8 +15,8 @@ use crate::help::{
     ABOUT, ALL, AT, AUDIT_ABOUT, AUDIT_EXAMPLE, BUILD_ABOUT, BUILD_EXAMPLE, CHECK_ABOUT,
     CHECK_EXAMPLE, CONVERT_ABOUT, CONVERT_EXAMPLE, DRAW_ABOUT, DRAW_EXAMPLE, EXAMPLES,
     EXPORT_ABOUT, EXPORT_EXAMPLE, FACES, FACES_OF_DRAWING, FAULTS, FAULTS_COLLECTION,
-    LANDMARKS_ABOUT, LANDMARKS_EXAMPLE, LOCATE_ABOUT, LOCATE_EXAMPLE, MOST, PROGRESS, RELEASED,
-    SHOW_ABOUT, SHOW_EXAMPLE, TESTS, WHERE, WIDTH, ZERO_CELLS,
+    LANDMARKS_ABOUT, LANDMARKS_EXAMPLE, LAYER, LOCATE_ABOUT, LOCATE_EXAMPLE, MOST, PROGRESS,
+    RELEASED, SHOW_ABOUT, SHOW_EXAMPLE, TESTS, WHERE, WIDTH, ZERO_CELLS,
 };
 use clap::{Arg, ArgAction, Command};
 use std::alloc::{AllocError, Global};
@@ -72,6 +72,8 @@ enum Argument {
     FacesOfDrawing,
     // --geojson OUT, of an audit
     FaultsOption,
+    // --layer KIND
+    LayerOption,
     // --geojson OUT
     CollectionOption,
     // --out OUT
@@ -246,6 +248,7 @@ fn arguments_of<'a>(named: &Named) -> &'a [Argument]
         Named::Convert => &[Argument::Cert, Argument::Out],
         Named::Export => &[
             Argument::CollectionOption,
+            Argument::LayerOption,
             Argument::Released,
             Argument::Files,
         ],
@@ -314,6 +317,7 @@ fn arg_of<'a>(alloc: Global, argument: &Argument) -> Arg<'a>
         Argument::Faces => switch(alloc, "faces", FACES),
         Argument::FacesOfDrawing => switch(alloc, "faces", FACES_OF_DRAWING),
         Argument::FaultsOption => option(alloc, "geojson", "OUT", FAULTS_COLLECTION),
+        Argument::LayerOption => option(alloc, "layer", "KIND", LAYER),
         Argument::CollectionOption => {
             needed_option(alloc, "geojson", "OUT", "The file of GeoJSON that is made")
         }

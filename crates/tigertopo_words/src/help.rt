@@ -67,9 +67,10 @@ Of a sound map the line is `sound chains=C segments=S nodes=N polygons=P landmar
 is `map fault` with a code, a name and what it is about. No certificate is read, and none is kept.
 
 With --all each fault has its line, or each line that is refused, on the standard output, and the last
-line is `faults=K` or `refused=K`. Where a record is refused no fault is looked for, where records have
-a fault their map isn't looked at, and where sides don't agree `points not looked at` says that the
-polygons' points weren't. With --most N the last line is `faults=K printed=P`.
+line is `faults=K` or `refused=K`. Where a record is refused no fault is looked for, and where records
+have a fault their map isn't looked at. Sides that don't agree touch the polygons that they name: whether
+points lie in these isn't looked at, as `touched polygons=N not looked at` says. With --most N the last
+line is `faults=K printed=P`.
 
 With --where each fault has a line behind it for each record that it speaks of, behind two blanks: the
 file, the line, the record's type, the TLID, polygon or landmark, and where the fault lies, in degrees:
@@ -139,22 +140,27 @@ pub const EXPORT_ABOUT: &str = "Writes the map as GeoJSON";
 pub const EXPORT_EXAMPLE: &str = "\
 OUT is a collection of features of RFC 7946, in degrees: each chain as a line with its TLID and the
 polygons on both sides, each polygon's point with its landmarks, where the map is sound each polygon with
-its holes and its area in square millionths of a degree, and each landmark's point. OUT is written as
-OUT.unfinished and takes its name when it is whole. A file that this command hasn't made, or that is one
-of FILES, is not replaced. The line is `exported chains=C polygons=P rings=R`; of a map that isn't sound
-no rings are told, the line `not sound` follows, and the status is 1.
+its holes and its area in square millionths of a degree, and each landmark's point; each with `file`, the
+first of FILES. With --layer KIND it has features of one kind alone. OUT is written as OUT.unfinished and
+takes its name when it is whole; to a pipe it stands alone, and the line goes to the error output. A file
+that this command hasn't made, or that is one of FILES, is not replaced. The line is `exported chains=C
+polygons=P rings=R`; of a map that isn't sound no rings are told, the line `not sound` follows, and the
+status is 1.
 
-Example:
-  tigertopo export --geojson TGR24001.geojson TGR24001.RT*";
+Examples:
+  tigertopo export --geojson TGR24001.geojson TGR24001.RT*
+  tigertopo export --geojson chains.geojson --layer chains TGR24001.RT*";
 
 pub const DRAW_ABOUT: &str = "Draws the map as a picture for a browser";
 
 pub const DRAW_EXAMPLE: &str = "\
-OUT is a picture in SVG, of the whole map, or of the place about X,Y that is W millionths of a degree
-wide: chains, nodes and polygons' points, and with --faults each fault in red, which says what it is
-where the pointer rests on it; with --faces too these are the faults that `audit --all --faces` tells. What
-is smaller than a third of a pixel is left out. OUT is made as that of `export` is. The line is
-`drawn chains=C`, with the number of chains that are drawn, and with --faults `drawn chains=C faults=F`.
+OUT is a picture in SVG, as wide as the window, of the whole map, or of the place about X,Y that is W
+millionths of a degree wide and high: chains, nodes and polygons' points, and with --faults each fault in red
+with its code, which says what it is, and what to type for a closer picture, where the pointer rests on it;
+with --faces too these are the faults that `audit --all --faces` tells. Degrees of longitude are shorter by
+the cosine of the middle latitude. What is smaller than a third of a pixel is left out. OUT is made as that
+of `export` is. The line is `drawn chains=C`, with the number of chains that are seen, and with --faults
+`drawn chains=C faults=F`.
 
 Examples:
   tigertopo draw --out TGR24001.svg --faults TGR24001.RT*
@@ -164,6 +170,8 @@ pub const PROGRESS: &str =
     "Shows how far reading is, once a second, where the error output is a terminal";
 
 pub const WHERE: &str = "Tells behind each fault in which lines of which files its records stand";
+
+pub const LAYER: &str = "Writes features of one kind alone: chains, points, polygons or landmarks";
 
 pub const FAULTS_COLLECTION: &str = "The file of GeoJSON that is made of the faults";
 
@@ -175,7 +183,7 @@ pub const FACES_OF_DRAWING: &str =
 pub const AT: &str =
     "The middle of what is drawn, in millionths of a degree or in degrees; needs --width";
 
-pub const WIDTH: &str = "How wide that is, in millionths of a degree; needs --at";
+pub const WIDTH: &str = "How wide and how high that is, in millionths of a degree; needs --at";
 
 pub const FAULTS: &str = "Draws the faults too";
 

@@ -27,6 +27,9 @@ const NO_WIDTH: &str = "the argument '--at <@X,Y>' needs '--width <W>'";
 
 const NO_CENTER: &str = "the argument '--width <W>' needs '--at <@X,Y>'";
 
+// How a layer is spelt.
+const LAYER_SPELLING: &str = "chains, points, polygons or landmarks is wanted";
+
 // How the width of a view is spelt.
 const WIDTH_SPELLING: &str =
     "a number from 1 to 360000000 is wanted, with no sign and no leading zero";
@@ -120,6 +123,16 @@ fn usage_of(
     }
     if let Some(most) = word_of(matches, "audit", "most") {
         return misused_most(alloc, matches, most);
+    }
+    if let Some(layer) = word_of(matches, "export", "layer") {
+        return misspelt(
+            alloc,
+            &Named::Export,
+            "tigertopo export",
+            "--layer <KIND>",
+            layer,
+            LAYER_SPELLING,
+        );
     }
     if lacks_faults(matches) {
         return refusal_text(alloc, &Named::Draw, "tigertopo draw", NO_FAULTS);

@@ -39,6 +39,7 @@ fn follows(map: &Map, e: Event, f: Event) -> bool
 }
 
 /// Whether two events may be at one point.
+#[inline(always)]
 pub fn may_meet(map: &Map, e: Event, f: Event) -> bool
     ensures { IsTrue result → MayMeet map.now.chains e f }
 {

@@ -50,7 +50,7 @@ pub drawn : (faces : Bool) (all : Records) (rs : List Record) (skipped : ℕ) (m
     → IsMapOfRecords rs skipped m → IsListingFor faces m listing → IsListingOfRecords faces all listing
 drawn faces all rs skipped m (Sound report) whole made told = record { map = m; is_read = read_from all rs skipped m whole made; so = told }
 drawn faces all rs skipped m (Refused list) whole made told = absurd told
-drawn faces all rs skipped m (Faults faults points_left) whole made told =
+drawn faces all rs skipped m (Faults faults touched) whole made told =
     (told.0, whole.no_refusal, inr (record { map = m; is_read = read_from all rs skipped m whole made; so = told.1 }))
 
 -- faults of records are told
@@ -59,7 +59,7 @@ pub told_of_records : (faces : Bool) (all : Records) (rs : List Record) (skipped
     → IsListingOfRecords faces all listing
 told_of_records faces all rs skipped told (Sound report) whole are some is = absurd is
 told_of_records faces all rs skipped told (Refused list) whole are some is = absurd is
-told_of_records faces all rs skipped told (Faults faults points_left) whole are some is = (
+told_of_records faces all rs skipped told (Faults faults touched) whole are some is = (
   (λ none. some (map_empty fault.Records told (sym is.0 ∙ none))),
   whole.no_refusal,
   inl (record { told = told; are_all = rw whole.records_are are; are = is.0 }, is.1),
@@ -92,7 +92,7 @@ pub of_text : (options : Options) (text : List ℕ) (listing : Listing) → IsLi
     → IsListingOf options text listing
 of_text options text (Sound report) told = told
 of_text options text (Refused list) told = absurd told
-of_text options text (Faults faults points_left) told = told
+of_text options text (Faults faults touched) told = told
 
 pub first_is : (layout : Layout) (text : List ℕ) → slice_get (refusals_of layout text) 0 ≡ (records_of layout text).refusal
 first_is layout text = first_refusal (judgements layout 0 (raw_lines text))
@@ -110,7 +110,7 @@ pub refused_text : (options : Options) (text : List ℕ) (line : ℕ) (cause : C
 refused_text options text line cause (Sound report) refused told = absurd told
 refused_text options text line cause (Refused list) refused told =
     ((λ none. none_refused options text line cause refused (sym told ∙ ap (map pair_of) none)), told)
-refused_text options text line cause (Faults faults points_left) refused told = absurd told
+refused_text options text line cause (Faults faults touched) refused told = absurd told
 
 listed_text : (options : Options) (text : List ℕ) (listed : Findings) → AreFindingsOfRecords options.faces (records_of (layout_with options) text) listed → AreFindingsOf options text listed
 listed_text options text listed all = record { told = of_text options text listed.listing all.told; drawn = all.drawn }

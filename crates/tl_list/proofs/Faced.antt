@@ -1,5 +1,5 @@
 -- What is listed of a map where faces may be asked for.
-use Rattle.std.proofs.Common.{◌≡◌, ◌≢◌, Bool, IsTrue, true, false, zero, List, [], ◌∷◌, map, inl, inr, refl, sym, ◌∙◌, arith}
+use Rattle.std.proofs.Common.{◌≡◌, ◌≢◌, ℕ, Bool, IsTrue, true, false, zero, List, [], ◌∷◌, map, inl, inr, refl, sym, ◌∙◌, arith}
 use Rattle.std.specs.Prelude.{Vec, ◌↔◌, All}
 use Rattle.std.specs.Global.{Global}
 use Rattle.tl_map_county.specs.TheMap.{TheMap}
@@ -19,8 +19,8 @@ use Rattle.tl_list_text.specs.declared.listing.Listing.TheVariants.{Sound, Fault
 use Rattle.tl_list.specs.Keeping.OfMap.{IsListingOfMap, IsListingFor}
 
 -- faults of a map without faces are all of it
-pub faulty_for : (faces : Bool) (m : TheMap) (faults : Vec MapFault Global) (left : Bool) → IsListingOfMap m (Faults faults left) → IsListingFor faces m (Faults faults left)
-faulty_for faces m faults left is = (is.0, inl is.1)
+pub faulty_for : (faces : Bool) (m : TheMap) (faults : Vec MapFault Global) (touched : ℕ) → IsListingOfMap m (Faults faults touched) → IsListingFor faces m (Faults faults touched)
+faulty_for faces m faults touched is = (is.0, inl is.1)
 
 -- a sound map of which no faces are asked for
 pub unasked : (faces : Bool) (m : TheMap) (report : Report) → faces ≡ false → IsSound m → IsReport m report → IsListingFor faces m (Sound report)
@@ -33,7 +33,7 @@ agreeing faces m report told none agree sound reported = (keeps faces m sound (�
 
 -- and one of which some disagree
 pub disagreeing : (faces : Bool) (m : TheMap) (told : List FaceFault) (faults : Vec MapFault Global) → IsTrue faces → told ≢ [] → IsSound m → AreProper m.chains → All (IsTrueFaceFault m) told
-    → AreOfAllGaps widest m told → faults.items ≡ map fault.Face told → IsListingFor faces m (Faults faults false)
+    → AreOfAllGaps widest m told → faults.items ≡ map fault.Face told → IsListingFor faces m (Faults faults 0)
 disagreeing faces m [] faults asked some sound proper true_ones all are = absurd (some refl)
 disagreeing faces m (f ∷ rest) faults asked some sound proper true_ones all are = (
   (λ none. absurd (let e : fault.Face f ∷ map fault.Face rest ≡ [] = sym are ∙ none in cc)),

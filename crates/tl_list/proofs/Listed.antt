@@ -45,20 +45,20 @@ map_fault_true faces all (fault.PolygonPoint misplaced) have = have
 map_fault_true faces all (fault.Cell odds) have = have
 map_fault_true faces all (fault.Face f) have = have
 
-faults_true : (faces : Bool) (all : Records) (faults : List MapFault) (points_left : Bool) → all.refusal ≡ None → AreFaults faces all faults points_left
+faults_true : (faces : Bool) (all : Records) (faults : List MapFault) (touched : ℕ) → all.refusal ≡ None → AreFaults faces all faults touched
     → All (IsTrueOfRecords faces all) faults
-faults_true faces all faults points_left unrefused (inl of_records) =
+faults_true faces all faults touched unrefused (inl of_records) =
     rw of_records.0.are (All-map (IsTrueOfRecords faces all) fault.Records of_records.0.told (λ k d lt. (unrefused, of_records.0.are_all.each k d lt)))
-faults_true faces all faults points_left unrefused (inr have) = λ k d lt.
+faults_true faces all faults touched unrefused (inr have) = λ k d lt.
     map_fault_true faces all _
-    (record { map = have.map; is_read = have.is_read; so = each_is_true_for faces have.map faults points_left have.so k d lt })
+    (record { map = have.map; is_read = have.is_read; so = each_is_true_for faces have.map faults touched have.so k d lt })
 
 pub each_true : (options : Options) (text : List ℕ) (listing : Listing) → IsListingOf options text listing → EachFault listing
     (IsTrueOfRecords options.faces (records_of (layout_with options) text))
 each_true options text (Sound report) is = tt
 each_true options text (Refused list) is = tt
-each_true options text (Faults faults points_left) is =
-    faults_true options.faces (records_of (layout_with options) text) faults.items points_left is.1 is.2
+each_true options text (Faults faults touched) is =
+    faults_true options.faces (records_of (layout_with options) text) faults.items touched is.1 is.2
 
 -- ---- sound maps
 
@@ -74,13 +74,13 @@ sound_alone options text (Refused list) is = (
   λ said. absurd said,
   λ have. absurd (is.0 (map_empty pair_of list.items (none_is_refused (layout_with options) text _ is.1 have.is_read.no_refusal))),
 )
-sound_alone options text (Faults faults points_left) is = (
+sound_alone options text (Faults faults touched) is = (
   λ said. absurd said,
   λ have.
       let all = records_of (layout_with options) text in
       let some = some_first faults.items is.0 in
       absurd (not_sound_records options.faces all some.0
-      (held_so (IsTrueOfRecords options.faces all) faults.items some.0 (faults_true options.faces all faults.items points_left is.1 is.2) some.1) have),
+      (held_so (IsTrueOfRecords options.faces all) faults.items some.0 (faults_true options.faces all faults.items touched is.1 is.2) some.1) have),
 )
 
 -- ---- what is true is told
@@ -93,20 +93,20 @@ unrefused_where_true faces all (fault.PolygonPoint misplaced) true_one = true_on
 unrefused_where_true faces all (fault.Cell odds) true_one = true_one.is_read.no_refusal
 unrefused_where_true faces all (fault.Face f) true_one = true_one.is_read.no_refusal
 
-module _ (faces : Bool) (all : Records) (faults : List MapFault) (points_left : Bool) where
+module _ (faces : Bool) (all : Records) (faults : List MapFault) (touched : ℕ) where
   -- records that have a map have no fault
   pub no_map : (P : TheMap → Type 0) → faults ≢ [] → AreRecordFaults all faults → ¬ HaveMap all P
   no_map P some of_records have =
       let first = some_first of_records.told (λ none. some (rw none at of_records.are)) in
       have.is_read.no_fault first.0 (held_so (IsTrueOf (records_in all)) of_records.told first.0 of_records.are_all.each first.1)
 
-  map_told : (f : MapFault) → faults ≢ [] → HaveMap all (λ m. AreFaultsFor faces m faults points_left) → HaveMap all (λ m. IsTrueOfMap faces m f)
-      → IsTold faults points_left f
+  map_told : (f : MapFault) → faults ≢ [] → HaveMap all (λ m. AreFaultsFor faces m faults touched) → HaveMap all (λ m. IsTrueOfMap faces m f)
+      → IsTold faults touched f
   map_told f some have true_one =
-      let one = both all (λ m. AreFaultsFor faces m faults points_left) (λ m. IsTrueOfMap faces m f) have true_one in
-      told_for faces one.map faults points_left some one.so.0 f one.so.1
+      let one = both all (λ m. AreFaultsFor faces m faults touched) (λ m. IsTrueOfMap faces m f) have true_one in
+      told_for faces one.map faults touched some one.so.0 f one.so.1
 
-  fault_told : (f : MapFault) → faults ≢ [] → AreFaults faces all faults points_left → IsTrueOfRecords faces all f → IsTold faults points_left f
+  fault_told : (f : MapFault) → faults ≢ [] → AreFaults faces all faults touched → IsTrueOfRecords faces all f → IsTold faults touched f
   fault_told (fault.Records f) some (inl of_records) true_one =
       rw of_records.0.are (held_map fault.Records of_records.0.told f (of_records.0.are_all.every f true_one.1))
   fault_told (fault.Records f) some (inr have) true_one = absurd (have.is_read.no_fault f true_one.1)
@@ -131,5 +131,5 @@ each_told options text (Refused list) f is true_one =
     let all = records_of (layout_with options) text in
     absurd (is.0 (map_empty pair_of list.items
     (none_is_refused (layout_with options) text _ is.1 (unrefused_where_true options.faces all f true_one))))
-each_told options text (Faults faults points_left) f is true_one =
-    fault_told options.faces (records_of (layout_with options) text) faults.items points_left f is.0 is.2 true_one
+each_told options text (Faults faults touched) f is true_one =
+    fault_told options.faces (records_of (layout_with options) text) faults.items touched f is.0 is.2 true_one

@@ -1,6 +1,7 @@
 -- What stands in lists.
-use Rattle.std.proofs.Common.{◌≡◌, ◌≢◌, ℕ, zero, suc, ◌<◌, List, [], ◌∷◌, map, None, length, get_or, refl, ap, arith}
+use Rattle.std.proofs.Common.{◌≡◌, ◌≢◌, ◌⊎◌, inl, inr, ℕ, zero, suc, ◌<◌, List, [], ◌∷◌, map, None, length, get_or, refl, ap, arith}
 use Rattle.std.specs.Prelude.{slice_get}
+use Rattle.tl_tree_index.proofs.Times.{same_or}
 use Rattle.std.specs.List.{Any, Contains}
 
 -- what stands in a list stands in what is made of it
@@ -23,3 +24,17 @@ some_first (x ∷ xs) some = (x, (zero, omega arith, refl))
 pub none_first : {X : Type 0} (xs : List X) → slice_get xs 0 ≡ None → xs ≡ []
 none_first [] none = refl
 none_first (x ∷ xs) none = absurd cc
+
+-- a number stands in a list, or doesn't
+pub contains_or : (xs : List ℕ) (x : ℕ) → Contains xs x ⊎ (¬ Contains xs x)
+contains_or [] x = inr (λ h. let lt : h.0 < 0 = h.1 in omega (arith, lt))
+contains_or (y ∷ ys) x =
+    same_or y x (λ e. inl (0, omega arith, e))
+    (λ other. elim (contains_or ys x) [
+      | inl h ↦ inl (suc h.0, let lt = h.1 in omega (arith, lt), h.2)
+      | inr none ↦ inr (λ h. go other none h.0 h.1 h.2)
+    ])
+  where
+    go : (y ≡ x → ⊥) → (¬ Contains ys x) → (k : ℕ) → k < length (y ∷ ys) → get_or (y ∷ ys) k x ≡ x → ⊥
+    go other none zero lt is = other is
+    go other none (suc k) lt is = none (k, omega (arith, lt), is)

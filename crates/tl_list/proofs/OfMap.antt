@@ -1,7 +1,8 @@
 -- What is told of a map, put together of its parts.
-use Rattle.std.proofs.Common.{◌≡◌, ◌≢◌, ◌<◌, inl, inr, Bool, true, false, List, [], ◌∷◌, ◌++◌, map}
-use Rattle.std.proofs.Common.{append-nil, refl, sym, ap, ◌∙◌, arith}
+use Rattle.std.proofs.Common.{◌≡◌, ◌≢◌, ◌↔◌, ◌<◌, ℕ, inl, inr, true, false, List, [], ◌∷◌, ◌++◌, map, length, Contains}
+use Rattle.std.proofs.Common.{append-nil, Bool, refl, sym, subst, ap, ◌∙◌, arith}
 use Rattle.std.proofs.lemmas.Option.{slice_get_within}
+use Rattle.std.proofs.lemmas.List.Elements.{All-contains}
 use Rattle.tl_map_county.specs.TheMap.{TheMap, MapChain}
 use Rattle.tl_check_planar.specs.declared.meet.Meet.{Meet}
 use Rattle.tl_check_planar.specs.Planar.{IsPlanar}
@@ -13,13 +14,18 @@ use Rattle.tl_check_inside.specs.declared.misplaced.Misplaced.TheVariants.{OnCha
 use Rattle.tl_check_inside.specs.Placed.{ArePlaced, IsTrueMisplaced}
 use Rattle.tl_check_meets.specs.Meets.{AreAllMeets}
 use Rattle.tl_list_map.specs.Nodes.Disagreements.{AreAllDisagreements}
-use Rattle.tl_list_map.specs.Points.AllMisplaced.{FaultPlace, IsTrueAt, AreAllMisplaced}
+use Rattle.tl_list_map.specs.Nodes.Touched.{IsTouched, AreAllTouched}
+use Rattle.tl_list_map.specs.Points.AllMisplaced.{AreAllMisplaced}
+use Rattle.tl_list_map.specs.Points.Hidden.{IsMarked, AreMapsAlikeBut}
+use Rattle.tl_list_map.proofs.PointsLemmas.Wholes.{true_at}
+use Rattle.tl_list_map.proofs.PointsLemmas.Alike.{alike_itself, hidden_as, misplaced_there}
+use Rattle.tl_check_faces.specs.Crossings.Headings.{AreProper}
 use Rattle.tl_check_inside.specs.Suspects.{AreSuspects}
 use Rattle.tl_check_verdict.specs.declared.fault.MapFault.{MapFault}
 use Rattle.tl_check_verdict.specs.declared.fault.MapFault.TheVariants as fault
-use Rattle.tl_list_text.specs.MapFaults.{side_fault, ArePointsTold, AreMapFaults}
-use Rattle.tl_list.specs.Keeping.OfMap.{IsFaulty, Differ, AddsAgreement, AddsCells, AreLookedAt, AddsPoints}
-use Rattle.tl_list.proofs.Emptiness.{one_is_told}
+use Rattle.tl_list_text.specs.MapFaults.{side_fault, AreMapFaults}
+use Rattle.tl_list.specs.Keeping.OfMap.{IsFaulty, AddsAgreement, AddsCells, AddsPoints}
+use Rattle.tl_list.proofs.Emptiness.{one_is_told, none_touched}
 
 -- planar chains have no meet
 pub no_meets : (chains : List MapChain) → IsPlanar chains → AreAllMeets chains []
@@ -40,57 +46,51 @@ none_misplaced m (InOther key other) placed t =
       point = t.point;
     }) t.of).clear t.q (slice_get_within m.polygons t.q (record { key = other; point = t.other_point }) t.other_of) t.two)
 
-true_at : (m : TheMap) (at : FaultPlace) (misplaced : Misplaced) → IsTrueAt m at misplaced → IsTrueMisplaced m misplaced
-true_at m at (OnChain key tlid) t = record { p = at.polygon; point = t.point; of = t.of; c = at.other; held = t.held; tlid_is = t.tlid_is }
-true_at m at (Outside key) t = record { p = at.polygon; point = t.point; of = t.of; outside = t.outside }
-true_at m at (InOther key other) t = record {
-  p = at.polygon;
-  point = t.point;
-  of = t.of;
-  q = at.other;
-  other_point = t.other_point;
-  other_of = t.other_of;
-  two = t.two;
-  within = t.within;
-}
-
-pub no_points : (m : TheMap) → ArePlaced m → AreAllMisplaced m []
-no_points m placed = record {
+pub no_points : (H : ℕ → Type 0) (m : TheMap) → ArePlaced m → AreAllMisplaced H m []
+no_points H m placed = record {
   each = λ k d lt. absurd (omega (arith, lt));
-  every = λ misplaced t. absurd (none_misplaced m misplaced placed t);
+  every = λ at misplaced s t. absurd (none_misplaced m misplaced placed (true_at m at misplaced t));
   places = [];
   told = tt;
-  whole = λ at misplaced t. absurd (none_misplaced m misplaced placed (true_at m at misplaced t));
+  settled = λ k d lt. absurd (omega (arith, lt));
+  whole = λ at misplaced s t. absurd (none_misplaced m misplaced placed (true_at m at misplaced t));
   in_order = λ i j d lt within. absurd (omega (arith, within));
 }
 
--- nothing is appended where points are left, or placed
-pub points_left : (m : TheMap) (faults : List MapFault) → AddsPoints m true faults faults
-points_left m faults = record { points = []; all_points = refl; are = sym (append-nil faults) }
-
--- nor where no polygon is suspect
+-- nothing is appended where no polygon is suspect
 placed_all : (m : TheMap) → AreSuspects m [] → ArePlaced m
 placed_all m suspects p polygon is = elim (suspects.others p polygon is) [
   | inl listed ↦ absurd (let within : listed.0 < 0 = listed.1 in omega (arith, within))
   | inr placed ↦ placed
 ]
 
-pub points_placed : (m : TheMap) (faults : List MapFault) → AreSuspects m [] → AddsPoints m false faults faults
-points_placed m faults suspects = record { points = []; all_points = no_points m (placed_all m suspects); are = sym (append-nil faults) }
+pub points_placed : (H : ℕ → Type 0) (m : TheMap) (faults : List MapFault) → AreSuspects m [] → AddsPoints H m faults faults
+points_placed H m faults suspects = record { points = []; all_points = no_points H m (placed_all m suspects); are = sym (append-nil faults) }
+
+-- the same points are told where the same polygons are hidden
+pub points_as : (H G : ℕ → Type 0) (m : TheMap) (old new : List MapFault) → ((p : ℕ) → H p → G p) → ((p : ℕ) → G p → H p) → AddsPoints H m old new → AddsPoints G m old new
+points_as H G m old new there back adds = record { points = adds.points; all_points = hidden_as H G m adds.points there back adds.all_points; are = adds.are }
+
+-- and those of a map that is alike but for sides that name hidden polygons
+pub points_there : (H G : ℕ → Type 0) (m o : TheMap) (old new : List MapFault) → ((p : ℕ) → H p ↔ G p) → AreMapsAlikeBut H m o → AreProper m.chains → AddsPoints H o old new
+    → AddsPoints G m old new
+points_there H G m o old new same alike proper adds =
+    points_as H G m old new (λ p. (same p).0) (λ p. (same p).1)
+    (record { points = adds.points; all_points = misplaced_there H m o adds.points alike proper adds.all_points; are = adds.are })
 
 -- where points are placed, no polygon is suspect
 pub no_suspects : (m : TheMap) → ArePlaced m → AreSuspects m []
 no_suspects m placed = record { known = λ k d lt. absurd (omega (arith, lt)); others = λ p polygon is. inr (placed p polygon is) }
 
 -- sides that disagree, and zero-cell ids behind them
-pub agreement_of : (m : TheMap) (differ : Bool) (sides : List Disagreement) (old between new : List MapFault) → AreAllDisagreements m.chains sides
-    → Differ differ sides → between ≡ old ++ map (side_fault m.chains) sides → AddsCells m between new → AddsAgreement m differ old new
-agreement_of m differ sides old between new all is told cells = record {
+pub agreement_of : (m : TheMap) (touched : List ℕ) (sides : List Disagreement) (old between new : List MapFault) → AreAllDisagreements m.chains sides
+    → AreAllTouched m.chains touched → between ≡ old ++ map (side_fault m.chains) sides → AddsCells m between new → AddsAgreement m touched old new
+agreement_of m touched sides old between new all named told cells = record {
   sides = sides;
   cells = cells.cells;
   all_sides = all;
   all_cells = cells.all_cells;
-  is = is;
+  all_touched = named;
   are = cells.are ∙ ap (λ (fs : List MapFault). fs ++ map fault.Cell cells.cells) told;
 }
 
@@ -101,35 +101,43 @@ no_disagreement chains agree = record {
   rising = λ i j d lt within. absurd (omega (arith, within));
 }
 
--- where sides agree, zero-cell ids are all
-pub agreeing : (m : TheMap) (old new : List MapFault) → SidesAgree m.chains → AddsCells m old new → AddsAgreement m false old new
-agreeing m old new agree cells = agreement_of m false [] old old new (no_disagreement m.chains agree) refl (sym (append-nil old)) cells
-
-points_told : (m : TheMap) (left : Bool) (sides : List Disagreement) (points : List Misplaced) → Differ left sides → AreLookedAt m left points
-    → ArePointsTold m sides left points
-points_told m true sides points differ looked = (differ, looked)
-points_told m false sides points agree looked = (agree, looked)
-
--- meets, what tells of sides and cells, and points are all faults
-pub all_told : (m : TheMap) (meets : List Meet) (left : Bool) (old more faults : List MapFault) → AreAllMeets m.chains meets
-    → old ≡ map fault.Meet meets → AddsAgreement m left old more → AddsPoints m left more faults
-    → AreMapFaults m faults left
-all_told m meets left old more faults all is agreement points = record {
-  meets = meets;
-  sides = agreement.sides;
-  cells = agreement.cells;
-  points = points.points;
-  all_meets = all;
-  all_sides = agreement.all_sides;
-  all_cells = agreement.all_cells;
-  all_points = points_told m left agreement.sides points.points agreement.is points.all_points;
-  are = points.are ∙ ap (λ (fs : List MapFault). fs ++ map fault.PolygonPoint points.points)
-      (agreement.are ∙ ap (λ (fs : List MapFault). fs ++ map (side_fault m.chains) agreement.sides ++ map fault.Cell agreement.cells) is);
+no_touched : (chains : List MapChain) → SidesAgree chains → AreAllTouched chains []
+no_touched chains agree = record {
+  rising = λ k lt. absurd (omega (arith, lt));
+  each = λ k d lt. absurd (omega (arith, lt));
+  complete = λ p t. absurd (none_touched chains [] (no_disagreement chains agree) refl p t);
 }
 
+-- where sides agree, zero-cell ids are all
+pub agreeing : (m : TheMap) (old new : List MapFault) → SidesAgree m.chains → AddsCells m old new → AddsAgreement m [] old new
+agreeing m old new agree cells = agreement_of m [] [] old old new (no_disagreement m.chains agree) (no_touched m.chains agree) (sym (append-nil old)) cells
+
+-- meets, what tells of sides and cells, and points are all faults
+pub all_told : (m : TheMap) (meets : List Meet) (touched : List ℕ) (count : ℕ) (old more faults : List MapFault) → count ≡ length touched → AreAllMeets m.chains meets
+    → old ≡ map fault.Meet meets → AddsAgreement m touched old more → AddsPoints (Contains touched) m more faults
+    → AreMapFaults m faults count
+all_told m meets touched count old more faults long all is agreement adds =
+    let points = points_as (Contains touched) (IsTouched m.chains) m more faults
+    (λ p held. All-contains (IsTouched m.chains) touched p agreement.all_touched.each held) agreement.all_touched.complete adds in
+    record {
+      meets = meets;
+      sides = agreement.sides;
+      cells = agreement.cells;
+      points = points.points;
+      named = touched;
+      all_meets = all;
+      all_sides = agreement.all_sides;
+      all_cells = agreement.all_cells;
+      all_points = points.all_points;
+      all_named = agreement.all_touched;
+      count = long;
+      are = points.are ∙ ap (λ (fs : List MapFault). fs ++ map fault.PolygonPoint points.points)
+          (agreement.are ∙ ap (λ (fs : List MapFault). fs ++ map (side_fault m.chains) agreement.sides ++ map fault.Cell agreement.cells) is);
+    }
+
 -- where the map has a fault, the list of all isn't empty
-pub some_told : (m : TheMap) (faults : List MapFault) (left : Bool) → AreMapFaults m faults left → IsFaulty m → faults ≢ []
-some_told m faults left all faulty = one_is_told m faults left faulty.0 all faulty.1
+pub some_told : (m : TheMap) (faults : List MapFault) (touched : ℕ) → AreMapFaults m faults touched → IsFaulty m → faults ≢ []
+some_told m faults touched all faulty = one_is_told m faults touched faulty.0 all faulty.1
 
 -- and so where some meet is listed
 pub meet_is_fault : (m : TheMap) (meets : List Meet) → AreAllMeets m.chains meets → meets ≢ [] → IsFaulty m
@@ -138,5 +146,25 @@ meet_is_fault m (meet ∷ meets) all some = (fault.Meet meet, all.true_ones 0 me
 
 -- of planar chains whose sides agree, zero-cell ids and points are all faults
 pub all_agreeing : (m : TheMap) (old cells faults : List MapFault) → IsPlanar m.chains → old ≡ [] → SidesAgree m.chains → AddsCells m old cells
-    → AddsPoints m false cells faults → AreMapFaults m faults false
-all_agreeing m old cells faults planar none agree told points = all_told m [] false old cells faults (no_meets m.chains planar) none (agreeing m old cells agree told) points
+    → AddsPoints (IsMarked []) m cells faults → AreMapFaults m faults 0
+all_agreeing m old cells faults planar none agree told points =
+    all_told m [] [] 0 old cells faults refl (no_meets m.chains planar) none (agreeing m old cells agree told)
+    (points_as (IsMarked []) (Contains []) m cells faults (λ p h. absurd (let wrong : false ≡ true = h in cc)) (λ p h. absurd (let lt : h.0 < 0 = h.1 in omega (arith, lt))) points)
+
+-- marks and touched polygons as they are lent
+pub same_marks : (marks lent : List Bool) (touched given seen : List ℕ) → lent ≡ marks → given ≡ touched → seen ≡ touched → ((p : ℕ) → IsMarked marks p ↔ Contains seen p)
+    → (p : ℕ) → IsMarked lent p ↔ Contains given p
+same_marks marks lent touched given seen a b c so p =
+    subst (λ l. IsMarked l p ↔ Contains given p) (sym a) (subst (λ t. IsMarked marks p ↔ Contains t p) (c ∙ sym b) (so p))
+
+-- each map is alike itself
+pub itself : (H : ℕ → Type 0) (m : TheMap) → AreMapsAlikeBut H m m
+itself H m = record { chains = alike_itself H m.chains; polygons = refl }
+
+-- what a look at the map whose sides name no touched polygon tells of the map
+pub hidden_points : (marks first second : List Bool) (touched : List ℕ) (m o : TheMap) (old new : List MapFault) → first ≡ marks → second ≡ marks
+    → ((p : ℕ) → IsMarked marks p ↔ Contains touched p) → AreMapsAlikeBut (IsMarked first) m o → AreProper m.chains → AddsPoints (IsMarked second) o old new
+    → AddsPoints (Contains touched) m old new
+hidden_points marks first second touched m o old new a b so alike proper adds =
+    points_there (IsMarked marks) (Contains touched) m o old new so (subst (λ l. AreMapsAlikeBut (IsMarked l) m o) a alike) proper
+    (subst (λ l. AddsPoints (IsMarked l) o old new) b adds)

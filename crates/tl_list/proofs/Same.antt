@@ -1,8 +1,9 @@
 -- A text has one listing, but for the points at which segments meet.
-use Rattle.std.proofs.Common.{◌≡◌, ◌≢◌, inl, inr, ℕ, suc, ◌≤ℤ◌, Bool, true, false, List, [], ◌∷◌, ◌++◌, map}
+use Rattle.std.proofs.Common.{◌≡◌, ◌≢◌, ◌<◌, inl, inr, ℕ, suc, ◌≤ℤ◌, Bool, List, [], ◌∷◌, ◌++◌, map, length}
 use Rattle.std.proofs.Common.{refl, sym, ap, ap₂, subst, ◌∙◌, arith}
 use Rattle.std.specs.List.{All, Any, Contains}
 use Rattle.std.proofs.lemmas.List.Elements.{All-contains}
+use Rattle.std.proofs.lemmas.List.Kept.{AllPairs-from_increasing}
 use Rattle.std.proofs.lemmas.Int.{ints}
 use Rattle.tl_record.specs.declared.options.Options.{Options}
 use Rattle.tl_record.specs.Layout.{layout_with}
@@ -11,7 +12,7 @@ use Rattle.tl_record.specs.declared.refusal.Refusal.{Refusal}
 use Rattle.tl_record.specs.Records.{Records, records_of}
 use Rattle.tl_record.specs.Searching.{pair_of}
 use Rattle.tl_map_rules.specs.Reading.{records_in}
-use Rattle.tl_list_records.proofs.OneListLemmas.{one_list}
+use Rattle.tl_list_records.proofs.OneListLemmas.{one_list as one_list_of_records}
 use Rattle.tl_map_county.specs.TheMap.{TheMap}
 use Rattle.tl_check_planar.specs.declared.meet.Meet.{Meet}
 use Rattle.tl_check_planar.specs.Searching.{IsTrueMeet}
@@ -24,6 +25,8 @@ use Rattle.tl_list_map.specs.Nodes.Disagreements.{HaveSidesAtOdds, AreAllDisagre
 use Rattle.tl_list_map.specs.Nodes.CellOdds.{AreToldAtOdds, AreAllCellsAtOdds}
 use Rattle.tl_list_map.proofs.NodesLemmas.Agreeing.{at_odds}
 use Rattle.tl_list_map.specs.Points.AllMisplaced.{AreAllMisplaced}
+use Rattle.tl_list_map.specs.Nodes.Touched.{IsTouched, AreAllTouched}
+use Rattle.tl_list_map.proofs.PointsLemmas.Unique.{one_list}
 use Rattle.tl_check_verdict.specs.declared.fault.MapFault.{MapFault}
 use Rattle.tl_check_verdict.specs.declared.fault.MapFault.TheVariants as fault
 use Rattle.tl_check_verdict.specs.declared.verdict.Report.{Report}
@@ -33,7 +36,7 @@ use Rattle.tl_check_verdict.specs.Records.{HaveMap}
 use Rattle.tl_check_verdict.proofs.OneMap.{both}
 use Rattle.tl_list_text.specs.declared.listing.Listing.{Listing}
 use Rattle.tl_list_text.specs.declared.listing.Listing.TheVariants.{Sound, Refused, Faults}
-use Rattle.tl_list_text.specs.MapFaults.{side_fault, ArePointsTold, AreMapFaults, AreFaceFaults, AreFaultsFor}
+use Rattle.tl_list_text.specs.MapFaults.{side_fault, AreMapFaults, AreFaceFaults, AreFaultsFor}
 use Rattle.tl_list_text.specs.Listings.{AreFaults, IsListingOf}
 use Rattle.tl_list.specs.Alike.{IsSameFault, AreSameFaults, HaveSameNumbers, AreAlike}
 use Rattle.tl_list.proofs.OneOrder.{AreOne, AreInOne, one_order}
@@ -150,22 +153,17 @@ module _ (m : TheMap) where
       (λ (o : CellsAtOdds). AreToldAtOdds m.chains o.first o.second o.first_id o.second_id) one_cell a b all.true_ones others.true_ones
       (cells_in_one a b all others)
 
-  -- points are left in both or in neither, and there one list tells them
-  module _ (one_points : (a b : List Misplaced) → AreAllMisplaced m a → AreAllMisplaced m b → a ≡ b) where
-    same_points : (s t : List Disagreement) (l r : Bool) (a b : List Misplaced) → AreInOne (λ x. x.first) (λ x. x.next) s t
-        → ArePointsTold m s l a → ArePointsTold m t r b → (a ≡ b) × (l ≡ r)
-    same_points s t true true a b one told other = (told.1 ∙ sym other.1, refl)
-    same_points s t false false a b one told other = (one_points a b told.1 other.1, refl)
-    same_points [] [] true false a b one told other = absurd (told.0 refl)
-    same_points [] [] false true a b one told other = absurd (other.0 refl)
-    same_points [] (y ∷ t) l r a b one told other = absurd one
-    same_points (x ∷ s) [] l r a b one told other = absurd one
-    same_points (x ∷ s) (y ∷ t) true false a b one told other = absurd (let wrong = other.0 in cc)
-    same_points (x ∷ s) (y ∷ t) false true a b one told other = absurd (let wrong = told.0 in cc)
+  -- as many polygons are touched in both, and one list tells what is wrong with points
+  same_named : (s t : List ℕ) → AreAllTouched m.chains s → AreAllTouched m.chains t → s ≡ t
+  same_named s t all others =
+      one_list (λ x y. x < y) (λ x y a b. omega (arith, a, b)) s t (AllPairs-from_increasing s all.rising) (AllPairs-from_increasing t others.rising)
+      (λ p held. others.complete p (All-contains (IsTouched m.chains) s p all.each held))
+      (λ p held. all.complete p (All-contains (IsTouched m.chains) t p others.each held))
 
-    same_of_map : (f g : List MapFault) (l r : Bool) → AreMapFaults m f l → AreMapFaults m g r → AreSameFaults f g × (l ≡ r)
+  module _ (one_points : (a b : List Misplaced) → AreAllMisplaced (IsTouched m.chains) m a → AreAllMisplaced (IsTouched m.chains) m b → a ≡ b) where
+    same_of_map : (f g : List MapFault) (l r : ℕ) → AreMapFaults m f l → AreMapFaults m g r → AreSameFaults f g × (l ≡ r)
     same_of_map f g l r a b =
-        let points = same_points a.sides b.sides l r a.points b.points (sides_in_one a.sides b.sides a.all_sides b.all_sides) a.all_points b.all_points in
+        let points : a.points ≡ b.points = one_points a.points b.points a.all_points b.all_points in
         let told : AreSameFaults
         (map fault.Meet a.meets ++ map (side_fault m.chains) a.sides ++ map fault.Cell a.cells ++ map fault.PolygonPoint a.points)
         (map fault.Meet b.meets ++ map (side_fault m.chains) b.sides ++ map fault.Cell b.cells ++ map fault.PolygonPoint b.points) =
@@ -175,9 +173,9 @@ module _ (m : TheMap) where
         (joined (map fault.Meet a.meets) (map fault.Meet b.meets) _ _ (same_meets a.meets b.meets a.all_meets b.all_meets)
         (same_sides a.sides b.sides a.all_sides b.all_sides))
         (same_cells a.cells b.cells a.all_cells b.all_cells))
-        (one_list_same _ _ (ap (map fault.PolygonPoint) points.0))
+        (one_list_same _ _ (ap (map fault.PolygonPoint) points))
         in
-        (rw (a.are, b.are) told, points.1)
+        (rw (a.are, b.are) told, a.count ∙ ap length (same_named a.named b.named a.all_named b.all_named) ∙ sym b.count)
 
 -- ---- lists of faces that disagree
 
@@ -238,19 +236,19 @@ module _ (m : TheMap) where
 
 -- what is wrong with polygons' points has one list
 abbrev pub OnePoints : Type 0
-OnePoints = (m : TheMap) (a b : List Misplaced) → AreAllMisplaced m a → AreAllMisplaced m b → a ≡ b
+OnePoints = (m : TheMap) (a b : List Misplaced) → AreAllMisplaced (IsTouched m.chains) m a → AreAllMisplaced (IsTouched m.chains) m b → a ≡ b
 
-same_for : OnePoints → (faces : Bool) (m : TheMap) (f g : List MapFault) (l r : Bool) → f ≢ [] → g ≢ [] → AreFaultsFor faces m f l
+same_for : OnePoints → (faces : Bool) (m : TheMap) (f g : List MapFault) (l r : ℕ) → f ≢ [] → g ≢ [] → AreFaultsFor faces m f l
     → AreFaultsFor faces m g r → AreSameFaults f g × (l ≡ r)
 same_for one_points faces m f g l r some_f some_g (inl a) (inl b) = same_of_map m (one_points m) f g l r a b
 same_for one_points faces m f g l r some_f some_g (inl a) (inr b) = absurd (unsound faces m f l some_f a b.1.1.sound)
 same_for one_points faces m f g l r some_f some_g (inr a) (inl b) = absurd (unsound faces m g r some_g b a.1.1.sound)
 same_for one_points faces m f g l r some_f some_g (inr a) (inr b) = (same_faces m f g a.1.1 b.1.1, a.1.0 ∙ sym b.1.0)
 
-same_faults : OnePoints → (faces : Bool) (all : Records) (f g : List MapFault) (l r : Bool) → f ≢ [] → g ≢ [] → AreFaults faces all f l
+same_faults : OnePoints → (faces : Bool) (all : Records) (f g : List MapFault) (l r : ℕ) → f ≢ [] → g ≢ [] → AreFaults faces all f l
     → AreFaults faces all g r → AreSameFaults f g × (l ≡ r)
 same_faults one_points faces all f g l r some_f some_g (inl a) (inl b) = (
-  one_list_same f g (a.0.are ∙ ap (map fault.Records) (one_list (records_in all) a.0.told b.0.told a.0.are_all b.0.are_all) ∙ sym b.0.are),
+  one_list_same f g (a.0.are ∙ ap (map fault.Records) (one_list_of_records (records_in all) a.0.told b.0.told a.0.are_all b.0.are_all) ∙ sym b.0.are),
   a.1 ∙ sym b.1,
 )
 same_faults one_points faces all f g l r some_f some_g (inl a) (inr have) = absurd (no_map faces all f l _ some_f a.0 have)

@@ -1,13 +1,17 @@
 -- Each fault that is true of a map is told by the list of all.
-use Rattle.std.proofs.Common.{◌≡◌, ◌≢◌, ℕ, inl, inr, Bool, true, false, Some, List, [], ◌++◌, map, refl, sym, subst}
+use Rattle.std.proofs.Common.{◌≡◌, ◌≢◌, ℕ, inl, inr, Bool, false, Some, List, [], ◌++◌, map, refl, sym, subst, arith}
 use Rattle.std.specs.List.{Contains}
-use Rattle.std.proofs.lemmas.List.Elements.{Contains-append_left, Contains-append_right}
+use Rattle.std.proofs.lemmas.List.Elements.{All-contains, Contains-append_left, Contains-append_right}
 use Rattle.tl_geom.specs.declared.point.Point.{Point}
 use Rattle.tl_map_county.specs.TheMap.{TheMap}
 use Rattle.tl_map_county.specs.Darts.{dart_start}
 use Rattle.tl_check_sides.specs.declared.fault.Disagreement.{Disagreement}
 use Rattle.tl_check_inside.specs.declared.misplaced.Misplaced.{Misplaced}
+use Rattle.tl_check_inside.specs.declared.misplaced.Misplaced.TheVariants.{OnChain, Outside, InOther}
 use Rattle.tl_check_sides.specs.declared.cells.at_odds.CellsAtOdds.{CellsAtOdds}
+use Rattle.tl_list_map.specs.Nodes.Touched.{IsTouched}
+use Rattle.tl_list_map.specs.Points.AllMisplaced.{FaultPlace, IsTrueAt, IsSettled}
+use Rattle.tl_list_map.proofs.PointsLemmas.Wholes.{place_of}
 use Rattle.tl_list_map.specs.Nodes.CellOdds.{AreAllCellsAtOdds}
 use Rattle.tl_list_map.proofs.NodesLemmas.Emptiness.{cells_agree}
 use Rattle.tl_check_verdict.specs.declared.fault.MapFault.{MapFault}
@@ -18,13 +22,13 @@ use Rattle.tl_check_verdict.proofs.Denials.{not_sound_alone}
 use Rattle.tl_check_faces.specs.declared.fault.FaceFault.{FaceFault}
 use Rattle.tl_check_faces.specs.Faults.{IsTrueFaceFault}
 use Rattle.tl_check_sweep.proofs.FaceSearch.Exact.{told as of_all_gaps}
-use Rattle.tl_list_text.specs.MapFaults.{side_fault, ArePointsTold, AreMapFaults, AreFaceFaults, AreFaultsFor}
-use Rattle.tl_list.specs.Telling.{IsMeetOf, IsOfSides, IsOfCells, IsTold}
+use Rattle.tl_list_text.specs.MapFaults.{side_fault, AreMapFaults, AreFaceFaults, AreFaultsFor}
+use Rattle.tl_list.specs.Telling.{IsMeetOf, IsOfSides, IsOfCells, HangsOnSides, IsTold}
 use Rattle.tl_list.proofs.Emptiness.{odds_deny}
-use Rattle.tl_list.proofs.Lists.{held_map, named_by, some_first}
+use Rattle.tl_list.proofs.Lists.{held_map, named_by, some_first, contains_or}
 use Rattle.tl_list.proofs.Truth.{start_is, each_is_true}
 
-module _ (m : TheMap) (faults : List MapFault) (points_left : Bool) (all : AreMapFaults m faults points_left) where
+module _ (m : TheMap) (faults : List MapFault) (touched : ℕ) (all : AreMapFaults m faults touched) where
   among_meets : (f : MapFault) → Contains (map fault.Meet all.meets) f → Contains faults f
   among_meets f held = rw all.are (Contains-append_left _ _ f (Contains-append_left _ _ f (Contains-append_left _ _ f held)))
 
@@ -48,15 +52,49 @@ module _ (m : TheMap) (faults : List MapFault) (points_left : Bool) (all : AreMa
   some_cell cells told odds true_one =
       λ none. odds_deny m.chains odds.first odds.second odds.first_id odds.second_id true_one (cells_agree m.chains (rw none at told))
 
-  point_told : (left : Bool) → ArePointsTold m all.sides left all.points → (misplaced : Misplaced) → IsTrueOfMap false m (fault.PolygonPoint misplaced)
-      → IsTold faults left (fault.PolygonPoint misplaced)
-  point_told false told misplaced true_one =
-      inl (among_points (fault.PolygonPoint misplaced) (held_map fault.PolygonPoint all.points misplaced (told.1.every misplaced true_one)))
-  point_told true told misplaced true_one =
-      let some = some_first all.sides told.0 in
-      inr (refl, named_by IsOfSides faults (side_fault m.chains some.0) (among_sides _ (held_map (side_fault m.chains) all.sides some.0 some.1)) tt)
+  -- where the place is settled it is listed
+  settled_told : (misplaced : Misplaced) (at : FaultPlace) → IsTrueAt m at misplaced → IsSettled (IsTouched m.chains) at → IsTold faults touched (fault.PolygonPoint misplaced)
+  settled_told misplaced at true_one settled =
+      inl (among_points (fault.PolygonPoint misplaced) (held_map fault.PolygonPoint all.points misplaced (all.all_points.every at misplaced settled true_one)))
 
-  pub told : (f : MapFault) → IsTrueOfMap false m f → IsTold faults points_left f
+  -- and where a polygon is touched some sides are listed
+  touched_told : (misplaced : Misplaced) (p : ℕ) → HangsOnSides misplaced → Contains all.named p → IsTold faults touched (fault.PolygonPoint misplaced)
+  touched_told misplaced p hangs held =
+      let t : IsTouched m.chains p = All-contains (IsTouched m.chains) all.named p all.all_named.each held in
+      let d = all.all_sides.complete t.first t.next t.odds in
+      let lt = held.1 in
+      let count = all.count in
+      inr (
+        hangs,
+        (
+          omega (arith, lt, count),
+          named_by IsOfSides faults (side_fault m.chains d.1) (among_sides _ (held_map (side_fault m.chains) all.sides d.1 (d.0, d.2, d.3))) tt,
+        ),
+      )
+
+  point_told : (misplaced : Misplaced) → IsTrueOfMap false m (fault.PolygonPoint misplaced) → IsTold faults touched (fault.PolygonPoint misplaced)
+  point_told (OnChain key tlid) true_one =
+      let at = place_of m (OnChain key tlid) true_one in
+      let kind = at.is.kind in
+      settled_told (OnChain key tlid) at.at at.is (record { own = λ e. absurd (omega (arith, kind, e)); other = λ e. absurd (omega (arith, kind, e)) })
+  point_told (Outside key) true_one =
+      let at = place_of m (Outside key) true_one in
+      let kind = at.is.kind in
+      elim (contains_or all.named at.at.polygon) [
+        | inl held ↦ touched_told (Outside key) at.at.polygon tt held
+        | inr none ↦ settled_told (Outside key) at.at at.is
+            (record { own = λ e t. none (all.all_named.complete at.at.polygon t); other = λ e. absurd (omega (arith, kind, e)) })
+      ]
+  point_told (InOther key other) true_one =
+      let at = place_of m (InOther key other) true_one in
+      let kind = at.is.kind in
+      elim (contains_or all.named at.at.other) [
+        | inl held ↦ touched_told (InOther key other) at.at.other tt held
+        | inr none ↦ settled_told (InOther key other) at.at at.is
+            (record { own = λ e. absurd (omega (arith, kind, e)); other = λ e t. none (all.all_named.complete at.at.other t) })
+      ]
+
+  pub told : (f : MapFault) → IsTrueOfMap false m f → IsTold faults touched f
   told (fault.Records of_records) true_one = absurd true_one
   told (fault.Meet meet) true_one =
       let named = all.all_meets.complete meet.s meet.t meet.at true_one.ordered true_one.told.meet in
@@ -65,7 +103,7 @@ module _ (m : TheMap) (faults : List MapFault) (points_left : Bool) (all : AreMa
       let named = all.all_sides.complete first next (record { is_next = true_one.is_next; differ = true_one.differ }) in
       subst (Contains faults) (side_told node first next named.1 true_one.at named.4.0 named.4.1)
       (among_sides _ (held_map (side_fault m.chains) all.sides named.1 (named.0, named.2, named.3)))
-  told (fault.PolygonPoint misplaced) true_one = point_told points_left all.all_points misplaced true_one
+  told (fault.PolygonPoint misplaced) true_one = point_told misplaced true_one
   told (fault.Cell odds) true_one =
       let some = some_first all.cells (some_cell all.cells all.all_cells odds true_one) in
       named_by IsOfCells faults (fault.Cell some.0) (among_cells _ (held_map fault.Cell all.cells some.0 some.1)) tt
@@ -73,23 +111,23 @@ module _ (m : TheMap) (faults : List MapFault) (points_left : Bool) (all : AreMa
 
 -- ---- where faces may be asked for
 
-module _ (faces : Bool) (m : TheMap) (faults : List MapFault) (points_left : Bool) (some : faults ≢ []) where
+module _ (faces : Bool) (m : TheMap) (faults : List MapFault) (touched : ℕ) (some : faults ≢ []) where
   -- where faults are told that aren't of faces, the map isn't sound
-  pub unsound : AreMapFaults m faults points_left → ¬ IsSound m
+  pub unsound : AreMapFaults m faults touched → ¬ IsSound m
   unsound all =
       let first = some_first faults some in
-      not_sound_alone m first.0 (subst (IsTrueOfMap false m) first.1.2 (each_is_true m faults points_left all first.1.0 first.0 first.1.1))
+      not_sound_alone m first.0 (subst (IsTrueOfMap false m) first.1.2 (each_is_true m faults touched all first.1.0 first.0 first.1.1))
 
-  face_told : AreFaceFaults m faults → (f : FaceFault) → IsTrueFaceFault m f → IsTold faults points_left (fault.Face f)
+  face_told : AreFaceFaults m faults → (f : FaceFault) → IsTrueFaceFault m f → IsTold faults touched (fault.Face f)
   face_told all f true_one =
       subst (λ (fs : List MapFault). Contains fs (fault.Face f)) (sym all.are) (held_map fault.Face all.told f (of_all_gaps m all.told all.all f true_one))
 
-  pub told_for : AreFaultsFor faces m faults points_left → (f : MapFault) → IsTrueOfMap faces m f → IsTold faults points_left f
+  pub told_for : AreFaultsFor faces m faults touched → (f : MapFault) → IsTrueOfMap faces m f → IsTold faults touched f
   told_for (inl all) (fault.Records f) true_one = absurd true_one
-  told_for (inl all) (fault.Meet meet) true_one = told m faults points_left all (fault.Meet meet) true_one
-  told_for (inl all) (fault.Side node first next) true_one = told m faults points_left all (fault.Side node first next) true_one
-  told_for (inl all) (fault.PolygonPoint misplaced) true_one = told m faults points_left all (fault.PolygonPoint misplaced) true_one
-  told_for (inl all) (fault.Cell odds) true_one = told m faults points_left all (fault.Cell odds) true_one
+  told_for (inl all) (fault.Meet meet) true_one = told m faults touched all (fault.Meet meet) true_one
+  told_for (inl all) (fault.Side node first next) true_one = told m faults touched all (fault.Side node first next) true_one
+  told_for (inl all) (fault.PolygonPoint misplaced) true_one = told m faults touched all (fault.PolygonPoint misplaced) true_one
+  told_for (inl all) (fault.Cell odds) true_one = told m faults touched all (fault.Cell odds) true_one
   told_for (inl all) (fault.Face f) true_one = absurd (unsound all true_one.1.0)
   told_for (inr of_faces) (fault.Records f) true_one = absurd true_one
   told_for (inr of_faces) (fault.Meet meet) true_one = absurd (not_sound_alone m (fault.Meet meet) true_one of_faces.1.1.sound)

@@ -26,14 +26,14 @@ pub record HaveSameNumbers (report other : Report) : Type 0 where
   pub polygons : report.polygons ≡ other.polygons
   pub landmarks : report.landmarks ≡ other.landmarks
 
--- both say that the map is sound; or they have the same refused lines; or the same faults, and leave points or don't
+-- both say that the map is sound; or they have the same refused lines; or the same faults, and as many polygons are touched
 abbrev pub AreAlike : Listing → Listing → Type 0
 AreAlike (Sound report) (Sound other) = HaveSameNumbers report other
 AreAlike (Sound report) (Refused others) = ⊥
-AreAlike (Sound report) (Faults others points_left) = ⊥
+AreAlike (Sound report) (Faults others touched) = ⊥
 AreAlike (Refused list) (Sound other) = ⊥
 AreAlike (Refused list) (Refused others) = list.items ≡ others.items
-AreAlike (Refused list) (Faults others points_left) = ⊥
-AreAlike (Faults faults left) (Sound other) = ⊥
-AreAlike (Faults faults left) (Refused others) = ⊥
-AreAlike (Faults faults left) (Faults others points_left) = AreSameFaults faults.items others.items × (left ≡ points_left)
+AreAlike (Refused list) (Faults others touched) = ⊥
+AreAlike (Faults faults named) (Sound other) = ⊥
+AreAlike (Faults faults named) (Refused others) = ⊥
+AreAlike (Faults faults named) (Faults others touched) = AreSameFaults faults.items others.items × (named ≡ touched)

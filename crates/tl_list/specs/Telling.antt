@@ -1,6 +1,8 @@
 -- How a list of faults tells one that is true.
-use Rattle.std.specs.Prelude.{◌≡◌, ◌⊎◌, ℕ, ⊤, Bool, true, List}
+use Rattle.std.specs.Prelude.{◌≡◌, ◌⊎◌, ◌<◌, ℕ, zero, ⊤, List}
 use Rattle.std.specs.List.{All, Any, Contains}
+use Rattle.tl_check_inside.specs.declared.misplaced.Misplaced.{Misplaced}
+use Rattle.tl_check_inside.specs.declared.misplaced.Misplaced.TheVariants.{OnChain, Outside, InOther}
 use Rattle.tl_check_verdict.specs.declared.fault.MapFault.{MapFault}
 use Rattle.tl_check_verdict.specs.declared.fault.MapFault.TheVariants.{Records, Meet, Side, PolygonPoint, Cell, Face}
 use Rattle.tl_list_text.specs.declared.listing.Listing.{Listing}
@@ -33,30 +35,37 @@ IsOfCells (PolygonPoint fault) = ⊥
 IsOfCells (Cell odds) = ⊤
 IsOfCells (Face fault) = ⊥
 
+-- what is wrong with a polygon's point hangs on what sides tell
+abbrev pub HangsOnSides : Misplaced → Type 0
+HangsOnSides (OnChain polygon tlid) = ⊥
+HangsOnSides (Outside polygon) = ⊤
+HangsOnSides (InOther polygon other) = ⊤
+
 -- The fault stands in the list. Of two segments that meet, it stands there with some point; of zero-cell ids at odds some
--- pair stands there; and what is wrong with a polygon's point stands there unless points are left and sides disagree.
-abbrev pub IsTold : List MapFault → Bool → MapFault → Type 0
-IsTold faults points_left (Records fault) = Contains faults (Records fault)
-IsTold faults points_left (Meet meet) = Any (IsMeetOf meet.s meet.t) faults
-IsTold faults points_left (Side node first next) = Contains faults (Side node first next)
-IsTold faults points_left (PolygonPoint fault) = Contains faults (PolygonPoint fault) ⊎ ((points_left ≡ true) × Any IsOfSides faults)
-IsTold faults points_left (Cell odds) = Any IsOfCells faults
-IsTold faults points_left (Face fault) = Contains faults (Face fault)
+-- pair stands there; and what is wrong with a polygon's point stands there unless it hangs on sides, some polygon is touched, and so sides
+-- are at odds.
+abbrev pub IsTold : List MapFault → ℕ → MapFault → Type 0
+IsTold faults touched (Records fault) = Contains faults (Records fault)
+IsTold faults touched (Meet meet) = Any (IsMeetOf meet.s meet.t) faults
+IsTold faults touched (Side node first next) = Contains faults (Side node first next)
+IsTold faults touched (PolygonPoint fault) = Contains faults (PolygonPoint fault) ⊎ (HangsOnSides fault × ((zero < touched) × Any IsOfSides faults))
+IsTold faults touched (Cell odds) = Any IsOfCells faults
+IsTold faults touched (Face fault) = Contains faults (Face fault)
 
 -- faults are listed, and the fault is told by them
 abbrev pub Tells : Listing → MapFault → Type 0
 Tells (listing.Sound report) fault = ⊥
 Tells (listing.Refused list) fault = ⊥
-Tells (listing.Faults faults points_left) fault = IsTold faults.items points_left fault
+Tells (listing.Faults faults touched) fault = IsTold faults.items touched fault
 
 -- the listing is that the map is sound
 abbrev pub SaysSound : Listing → Type 0
 SaysSound (listing.Sound report) = ⊤
 SaysSound (listing.Refused list) = ⊥
-SaysSound (listing.Faults faults points_left) = ⊥
+SaysSound (listing.Faults faults touched) = ⊥
 
 -- so is each fault that is listed, if faults are
 abbrev pub EachFault : Listing → (MapFault → Type 0) → Type 0
 EachFault (listing.Sound report) P = ⊤
 EachFault (listing.Refused list) P = ⊤
-EachFault (listing.Faults faults points_left) P = All P faults.items
+EachFault (listing.Faults faults touched) P = All P faults.items

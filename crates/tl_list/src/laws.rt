@@ -27,7 +27,7 @@ pub fn each_fault_that_is_listed_is_true()
 {}
 
 /// The list tells each fault that is true, so that the one of several which `tl_build` names is among them: itself, but
-/// for the point at which two segments meet, the pair of zero-cell ids, and a polygon's point where points are left.
+/// for the point at which two segments meet, the pair of zero-cell ids, and what hangs on polygons that sides at odds name.
 pub fn each_fault_that_is_true_is_told()
     ensures { (options : Options) (text : List ℕ) (listing : Listing) (fault : MapFault) →
         IsListingOf options text listing → IsTrueOfRecords options.faces (records_of (layout_with options) text) fault → Tells listing fault }

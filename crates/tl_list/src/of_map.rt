@@ -1,6 +1,6 @@
 //! All faults of a map, or that it is sound.
 
-ghost use Rattle.std.specs.Prelude.{◌≡◌, [], IfOk, length, true};
+ghost use Rattle.std.specs.Prelude.{◌≡◌, ◌↔◌, ℕ, [], IfOk, IfSome, length, true, Contains};
 ghost use Rattle.tl_map_county.specs.Segments.{segments_before};
 ghost use Rattle.tl_check_planar.specs.Planar.{IsPlanar};
 ghost use Rattle.tl_check_planar.specs.Rectangles.{segment_rect};
@@ -11,10 +11,13 @@ ghost use Rattle.tl_check_sweep.specs.Gaps.{AreAllOddGaps};
 ghost use Rattle.tl_check_inside.specs.Suspects.{AreSuspects};
 ghost use Rattle.tl_check_verdict.specs.Sound.{IsSound};
 ghost use Rattle.tl_check_verdict.specs.Verdicts.{IsReport};
-ghost use Rattle.tl_check_sweep.specs.Parts.{IsPlanarPart};
+ghost use Rattle.tl_map_county.specs.Remaining.{remaining};
+ghost use Rattle.tl_list_map.specs.Nodes.Disagreements.{AreAllDisagreements};
+ghost use Rattle.tl_list_map.specs.Nodes.Touched.{AreAllTouched};
+ghost use Rattle.tl_list_map.specs.Points.Hidden.{IsMarked, AreMapsAlikeBut};
 ghost use Rattle.tl_list.specs.Keeping.OfMap.{IsListingOfMap, IsListingFor};
 
-use crate::met::list_met;
+use crate::met::{Differing, list_met};
 use crate::planar::list_planar;
 use crate::tell::push_faces;
 use std::alloc::Global;
@@ -25,6 +28,8 @@ use tl_check_planar::{Meet, Segments};
 use tl_check_sweep::face_search::all_face_faults;
 use tl_check_sweep::{Gaps, PlanarPart, SweepReport, Swept, planar_part, sweep};
 use tl_check_verdict::Report;
+use tl_list_map::nodes::{all_disagreements, touched_polygons};
+use tl_list_map::points::{hide_polygons, marks_of};
 use tl_list_text::Listing;
 use tl_map_county::Map;
 use tl_tree::{FlatTree, PlainList};
@@ -76,13 +81,7 @@ fn list_for(
     match list_swept(alloc, map, swept, suspects)? {
         Listing::Sound(report) => list_faces(alloc, map, report, faces, gaps),
         Listing::Refused(_) => unreachable!(),
-        Listing::Faults {
-            faults,
-            points_left,
-        } => Ok(Listing::Faults {
-            faults,
-            points_left,
-        }),
+        Listing::Faults { faults, touched } => Ok(Listing::Faults { faults, touched }),
     }
 }
 
@@ -112,10 +111,7 @@ fn list_faces(
     map.has_proper_chains();
     let mut faults = Vec::new(alloc);
     push_faces(&mut faults, &disagreeing)?;
-    Ok(Listing::Faults {
-        faults,
-        points_left: false,
-    })
+    Ok(Listing::Faults { faults, touched: 0 })
 }
 
 /// All faults but those of faces of a map of which a sweep has said this, or its report where it is sound.
@@ -132,9 +128,8 @@ fn list_swept(alloc: Global, map: &Map, swept: Swept, suspects: Vec<u32>) -> Res
     }
 }
 
-/// All faults of a map, or its report where it is sound, from two segments on that a sweep says to meet. Chains are taken out until the others
-/// are planar, so that only those that are have to be searched for. It is kept out of where it is called, so that calls of it can be
-/// counted.
+/// All faults of a map, or its report where it is sound, from two segments on that a sweep says to meet. It is kept out of where it is called,
+/// so that calls of it can be counted.
 #[inline(never)]
 fn list_by_search(
     alloc: Global,
@@ -145,7 +140,51 @@ fn list_by_search(
     requires { AreSuspects map.now suspects.items }
     ensures { IfOk result (IsListingOfMap map.now) }
 {
-    let Ok(part) = planar_part(alloc, map, meet) else {
+    let sides = all_disagreements(alloc, map)?;
+    let touched = touched_polygons(alloc, map, &sides)?;
+    let marks = marks_of(alloc, &touched)?;
+    let differing = Differing {
+        sides: &sides,
+        touched: &touched,
+        marks: &marks,
+    };
+    match hidden_if_any(alloc, map, &differing)? {
+        Some(hidden) => list_by_part(alloc, map, &hidden, meet, suspects, &differing),
+        None => list_by_part(alloc, map, map, meet, suspects, &differing),
+    }
+}
+
+/// A map like this one in which no side names a touched polygon, where there are such.
+fn hidden_if_any(alloc: Global, map: &Map, differing: &Differing) -> Result<Option<Map>, Memory>
+    ensures { IfOk result (λ made. IfSome made (AreMapsAlikeBut (IsMarked differing.now.marks.now) map.now)) }
+{
+    if differing.touched.is_empty() {
+        return Ok(None);
+    }
+    match hide_polygons(alloc, map, differing.marks) {
+        Ok(hidden) => Ok(hidden),
+        Err(_) => Err(Memory),
+    }
+}
+
+/// All faults of a map, or its report where it is sound. Of one that is alike but for sides that name touched polygons chains are taken out
+/// until the others are planar, so that meets have to be searched for beside those that are out alone.
+fn list_by_part(
+    alloc: Global,
+    map: &Map,
+    seen: &Map,
+    meet: Meet,
+    suspects: Vec<u32>,
+    differing: &Differing,
+) -> Result<Listing, Memory>
+    requires suspects { AreSuspects map.now suspects.items }
+    requires sides { AreAllDisagreements map.now.chains differing.now.sides.now }
+    requires touched { AreAllTouched map.now.chains differing.now.touched.now }
+    requires marks { (p : ℕ) → IsMarked differing.now.marks.now p ↔ Contains differing.now.touched.now p }
+    requires alike { AreMapsAlikeBut (IsMarked differing.now.marks.now) map.now seen.now }
+    ensures { IfOk result (IsListingOfMap map.now) }
+{
+    let Ok(part) = planar_part(alloc, seen, meet) else {
         return Err(Memory);
     };
     let meets = meets_beside(alloc, map, &part)?;
@@ -154,13 +193,14 @@ fn list_by_search(
     if meets.is_empty() {
         list_planar(alloc, map, suspects)
     } else {
-        list_met(alloc, map, &part, meets)
+        list_met(alloc, map, seen, &part, meets, differing)
     }
 }
 
-/// All meets of a map of which this part is planar. Where few segments were taken out each is held against all, and else a tree is made.
+/// All meets of a map without whose marked chains the others are planar. Where few segments were taken out each is held against all, and else a
+/// tree is made.
 fn meets_beside(alloc: Global, map: &Map, part: &PlanarPart) -> Result<Vec<Meet>, Memory>
-    requires { IsPlanarPart map.now part.now }
+    requires { IsPlanar (remaining part.now.marks.items map.now.chains) }
     ensures { IfOk result (λ meets. AreAllMeets map.now.chains meets.items) }
 {
     if map.segments().saturating_sub(part.map.segments()) <= FEW {
@@ -186,7 +226,7 @@ fn meets_by<X: BoxIndex>(
 ) -> Result<Vec<Meet>, Memory>
     requires fits { X.fits index.now (segments_before map.now.chains (length map.now.chains))
         (segment_rect map.now.chains) }
-    requires part { IsPlanarPart map.now part.now }
+    requires planar { IsPlanar (remaining part.now.marks.items map.now.chains) }
     ensures { IfOk result (λ meets. AreAllMeets map.now.chains meets.items) }
 {
     all_meets(alloc, index, map, &part.marks)

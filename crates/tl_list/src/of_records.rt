@@ -137,10 +137,7 @@ fn list_told(alloc: Global, kept: KeptRecords) -> Result<Findings, Stop>
     let mut faults = Vec::new(alloc);
     push_records(&mut faults, &told)?;
     Ok(Findings {
-        listing: Listing::Faults {
-            faults,
-            points_left: false,
-        },
+        listing: Listing::Faults { faults, touched: 0 },
         map: None,
     })
 }

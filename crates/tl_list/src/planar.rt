@@ -1,11 +1,11 @@
 //! All faults of a map whose chains are planar, or that it is sound.
 
-ghost use Rattle.std.specs.Prelude.{◌≡◌, [], false, IfOk, OnOk, MatchOption};
+ghost use Rattle.std.specs.Prelude.{◌≡◌, [], IfOk, MatchOption};
 ghost use Rattle.tl_check_planar.specs.Planar.{IsPlanar};
 ghost use Rattle.tl_check_inside.specs.Suspects.{AreSuspects};
-ghost use Rattle.tl_list.specs.Keeping.OfMap.{IsListingOfMap, IsFaulty, HasRings, AddsPoints};
+ghost use Rattle.tl_list.specs.Keeping.OfMap.{IsListingOfMap, IsFaulty, HasRings};
 
-use crate::parts::{push_all_cells, push_disagreements, push_suspects};
+use crate::parts::{push_all_cells, push_disagreements, push_suspects, push_untouched};
 use std::alloc::Global;
 use tl_build_propose::{find_sides_at_odds, propose_walks};
 use tl_check_verdict::{MapFault, report};
@@ -24,7 +24,7 @@ pub fn list_planar(alloc: Global, map: &Map, suspects: Vec<u32>) -> Result<Listi
 {
     match count_rings(alloc, map)? {
         Some(rings) => list_agreeing(alloc, map, rings, suspects),
-        None => list_differing(alloc, map, suspects),
+        None => list_differing(alloc, map),
     }
 }
 
@@ -45,18 +45,17 @@ fn count_rings(alloc: Global, map: &Map) -> Result<Option<u32>, Memory>
 }
 
 /// All faults of such a map whose sides don't agree.
-fn list_differing(alloc: Global, map: &Map, suspects: Vec<u32>) -> Result<Listing, Memory>
+fn list_differing(alloc: Global, map: &Map) -> Result<Listing, Memory>
     requires planar { IsPlanar map.now.chains }
     requires faulty { IsFaulty map.now }
-    requires suspects { AreSuspects map.now suspects.items }
     ensures { IfOk result (IsListingOfMap map.now) }
 {
     let mut faults = Vec::new(alloc);
-    let points_left = push_disagreements(alloc, map, &mut faults)?;
-    push_unless_left(alloc, map, points_left, suspects, &mut faults)?;
+    let touched = push_disagreements(alloc, map, &mut faults)?;
+    push_untouched(alloc, map, &touched, &mut faults)?;
     Ok(Listing::Faults {
         faults,
-        points_left,
+        touched: touched.len() as u64,
     })
 }
 
@@ -74,32 +73,12 @@ fn list_agreeing(
 {
     let mut faults = Vec::new(alloc);
     push_all_cells(alloc, map, &mut faults)?;
-    push_suspects(alloc, map, None, suspects, &mut faults)?;
+    push_suspects(alloc, map, None, &[], suspects, &mut faults)?;
     // So the map is sound where nothing is told.
     cells_agree_where_no_pair_is_listed();
     placed_where_no_fault_is_listed();
     if faults.is_empty() {
         return Ok(Listing::Sound(report(map, rings)));
     }
-    Ok(Listing::Faults {
-        faults,
-        points_left: false,
-    })
-}
-
-/// Appends what is wrong with where polygons' points lie, unless they are left.
-fn push_unless_left(
-    alloc: Global,
-    map: &Map,
-    left: bool,
-    suspects: Vec<u32>,
-    faults: &mut Vec<MapFault>,
-) -> Result<(), Memory>
-    requires { AreSuspects map.now suspects.items }
-    ensures { OnOk result (AddsPoints map.now left faults.old.items faults.new.items) }
-{
-    if left {
-        return Ok(());
-    }
-    push_suspects(alloc, map, None, suspects, faults)
+    Ok(Listing::Faults { faults, touched: 0 })
 }

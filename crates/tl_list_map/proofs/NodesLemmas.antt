@@ -10,3 +10,4 @@ pub mod OddLemmas
 pub mod Agreeing
 pub mod Telling
 pub mod Emptiness
+pub mod Touching

@@ -3,6 +3,9 @@ pub mod Joining
 pub mod Rows
 pub mod Odds
 pub mod Wholes
+pub mod Alike
+pub mod Marking
+pub mod Hiding
 pub mod Pushing
 pub mod Unique
 pub mod Crossing

@@ -1,3 +1,4 @@
 pub mod Disagreements
+pub mod Touched
 pub mod CellOdds
 pub mod Keeping

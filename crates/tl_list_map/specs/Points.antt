@@ -1,2 +1,3 @@
 pub mod AllMisplaced
+pub mod Hidden
 pub mod Keeping

@@ -1,5 +1,7 @@
 -- Texts that are put together of several parts, one behind the other.
-use Rattle.std.proofs.Common.{◌≡◌, ℕ, List, ◌++◌, append_assoc}
+use Rattle.std.proofs.Common.{◌≡◌, ◌≢◌, ℕ, List, [], ◌∷◌, ◌++◌, append_assoc, codes, decimal, sym}
+use Rattle.std.proofs.lemmas.Bool.{ne_eqb}
+use Rattle.tl_list_text.specs.Texts.{touched_text}
 
 -- a key behind what comes before it
 pub key_parts : (before c d e f g slash number : List ℕ)
@@ -11,3 +13,7 @@ pub report_parts : (head a w b x c y d z e v f end : List ℕ)
     → head ++ a ++ w ++ b ++ x ++ c ++ y ++ d ++ z ++ e ++ v ++ f ++ end
     ≡ (head ++ (a ++ (w ++ (b ++ (x ++ (c ++ (y ++ (d ++ (z ++ (e ++ (v ++ f))))))))))) ++ end
 report_parts head a w b x c y d z e v f end = simp append_assoc
+
+-- the line of touched polygons
+pub touched_line : (n : ℕ) → n ≢ 0 → (codes "touched polygons=" ++ decimal n) ++ codes " not looked at\n" ≡ touched_text n
+touched_line n some = rw (ne_eqb n 0 some) (sym (append_assoc (codes "touched polygons=" ++ decimal n) (codes " not looked at") (10 ∷ [])))

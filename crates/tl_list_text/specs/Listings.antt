@@ -1,5 +1,5 @@
 -- What a county's text is told to be where all that is wrong with it is asked for.
-use Rattle.std.specs.Prelude.{◌≡◌, ◌≢◌, ◌⊎◌, ℕ, Bool, false, List, [], map, None}
+use Rattle.std.specs.Prelude.{◌≡◌, ◌≢◌, ◌⊎◌, ℕ, Bool, List, [], map, None}
 use Rattle.tl_record.specs.declared.options.Options.{Options}
 use Rattle.tl_record.specs.Layout.{layout_with}
 use Rattle.tl_record.specs.Records.{Records, records_of}
@@ -24,15 +24,15 @@ pub record AreRecordFaults (all : Records) (faults : List MapFault) : Type 0 whe
   pub are : faults ≡ map fault.Records told
 
 -- the faults are all that are true of the records, or where they have a map, all faults of that
-abbrev pub AreFaults : (faces : Bool) → Records → List MapFault → Bool → Type 0
-AreFaults faces all faults points_left =
-    (AreRecordFaults all faults × (points_left ≡ false)) ⊎ HaveMap all (λ m. AreFaultsFor faces m faults points_left)
+abbrev pub AreFaults : (faces : Bool) → Records → List MapFault → ℕ → Type 0
+AreFaults faces all faults touched =
+    (AreRecordFaults all faults × (touched ≡ 0)) ⊎ HaveMap all (λ m. AreFaultsFor faces m faults touched)
 
 -- what is told of a text: its map keeps what is asked of it, and these are its numbers; or these are all its lines that are refused;
 -- or none is refused, and these are all faults. A list that is told isn't empty.
 abbrev pub IsListingOf : Options → List ℕ → Listing → Type 0
 IsListingOf options text (Sound report) = HaveMap (records_of (layout_with options) text) (λ m. IsSoundFor options.faces m × IsReport m report)
 IsListingOf options text (Refused list) = (list.items ≢ []) × ListsAll (refusals_of (layout_with options) text) list.items
-IsListingOf options text (Faults faults points_left) =
+IsListingOf options text (Faults faults touched) =
     (faults.items ≢ []) × ((records_of (layout_with options) text).refusal ≡ None)
-    × AreFaults options.faces (records_of (layout_with options) text) faults.items points_left
+    × AreFaults options.faces (records_of (layout_with options) text) faults.items touched

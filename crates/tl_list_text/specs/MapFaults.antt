@@ -1,5 +1,5 @@
 -- All faults of a map, in their order.
-use Rattle.std.specs.Prelude.{◌≡◌, ◌≢◌, ℕ, pos, Bool, true, false, List, [], ◌++◌, map, ◌⊎◌, IsTrue, All}
+use Rattle.std.specs.Prelude.{◌≡◌, ℕ, pos, Bool, List, ◌++◌, map, length, ◌⊎◌, IsTrue, All}
 use Rattle.std.specs.Option.{unwrap_or}
 use Rattle.tl_geom.specs.declared.point.Point.{Point}
 use Rattle.tl_map_county.specs.TheMap.{TheMap, MapChain}
@@ -10,6 +10,7 @@ use Rattle.tl_check_sides.specs.declared.cells.at_odds.CellsAtOdds.{CellsAtOdds}
 use Rattle.tl_check_inside.specs.declared.misplaced.Misplaced.{Misplaced}
 use Rattle.tl_check_meets.specs.Meets.{AreAllMeets}
 use Rattle.tl_list_map.specs.Nodes.Disagreements.{AreAllDisagreements}
+use Rattle.tl_list_map.specs.Nodes.Touched.{IsTouched, AreAllTouched}
 use Rattle.tl_list_map.specs.Nodes.CellOdds.{AreAllCellsAtOdds}
 use Rattle.tl_list_map.specs.Points.AllMisplaced.{AreAllMisplaced}
 use Rattle.tl_check_planar.specs.ByHeight.Heights.{widest}
@@ -33,23 +34,22 @@ start_of chains dart = unwrap_or (dart_start chains dart) nowhere
 abbrev pub side_fault : List MapChain → Disagreement → MapFault
 side_fault chains d = fault.Side (start_of chains d.first) d.first d.next
 
--- The points of polygons are looked at where sides agree. Where they don't, a wrong side shifts the counts of all
--- polygons to its west, and none is told.
-abbrev pub ArePointsTold : TheMap → List Disagreement → Bool → List Misplaced → Type 0
-ArePointsTold m sides false points = (sides ≡ []) × AreAllMisplaced m points
-ArePointsTold m sides true points = (sides ≢ []) × (points ≡ [])
-
 -- all faults of a map but those of faces: each two segments that meet, all sides that disagree, all zero-cell ids that are at odds, and
--- unless points are left, all that is wrong with where polygons' points lie
-pub record AreMapFaults (m : TheMap) (faults : List MapFault) (points_left : Bool) : Type 0 where
+-- all that is wrong with where polygons' points lie. Sides that disagree touch the polygons that they name, since one of them may be wrong,
+-- and shift the counts of that one and of another at all points to the west: of touched polygons it isn't told that their points are outside
+-- of them, nor that other points are in them.
+pub record AreMapFaults (m : TheMap) (faults : List MapFault) (touched : ℕ) : Type 0 where
   pub meets : List Meet
   pub sides : List Disagreement
   pub cells : List CellsAtOdds
   pub points : List Misplaced
+  pub named : List ℕ
   pub all_meets : AreAllMeets m.chains meets
   pub all_sides : AreAllDisagreements m.chains sides
   pub all_cells : AreAllCellsAtOdds m.chains cells
-  pub all_points : ArePointsTold m sides points_left points
+  pub all_points : AreAllMisplaced (IsTouched m.chains) m points
+  pub all_named : AreAllTouched m.chains named
+  pub count : touched ≡ length named
   pub are : faults ≡ map fault.Meet meets ++ map (side_fault m.chains) sides ++ map fault.Cell cells ++ map fault.PolygonPoint points
 
 -- all faults of a map that is sound but for its faces, which aren't true: one of each gap along which sides that face one another differ
@@ -62,6 +62,6 @@ pub record AreFaceFaults (m : TheMap) (faults : List MapFault) : Type 0 where
   pub are : faults ≡ map fault.Face told
 
 -- all faults of a map where faces may be asked for: they are told where nothing else is wrong
-abbrev pub AreFaultsFor : (faces : Bool) → TheMap → List MapFault → Bool → Type 0
-AreFaultsFor faces m faults points_left =
-    AreMapFaults m faults points_left ⊎ (IsTrue faces × ((points_left ≡ false) × AreFaceFaults m faults))
+abbrev pub AreFaultsFor : (faces : Bool) → TheMap → List MapFault → ℕ → Type 0
+AreFaultsFor faces m faults touched =
+    AreMapFaults m faults touched ⊎ (IsTrue faces × ((touched ≡ 0) × AreFaceFaults m faults))

@@ -1,5 +1,5 @@
 -- What is printed of a listing.
-use Rattle.std.specs.Prelude.{ℕ, Bool, true, false, List, [], ◌∷◌, ◌++◌, Option, None, Some, codes, decimal, length, min, take}
+use Rattle.std.specs.Prelude.{ℕ, ◌==◌, if◌then◌else◌, List, [], ◌∷◌, ◌++◌, Option, None, Some, codes, decimal, length, min, take}
 use Rattle.tl_cert_output.specs.Writing.{line_of}
 use Rattle.tl_record.specs.declared.refusal.Refusal.{Refusal}
 use Rattle.tl_record.specs.Messages.{refusal_text}
@@ -26,10 +26,9 @@ abbrev pub printed_text : Option ℕ → ℕ → List ℕ
 printed_text None count = []
 printed_text (Some most) count = codes " printed=" ++ decimal (min most count)
 
--- whether polygons' points weren't looked at
-abbrev pub left_text : Bool → List ℕ
-left_text true = line_of (codes "points not looked at")
-left_text false = []
+-- how many polygons are touched, where some are
+abbrev pub touched_text : ℕ → List ℕ
+touched_text touched = if touched == 0 then [] else line_of (codes "touched polygons=" ++ decimal touched ++ codes " not looked at")
 
 -- the last line: a word, how many there are, and where a number is given, how many of them are printed
 abbrev pub count_line : List ℕ → Option ℕ → ℕ → List ℕ
@@ -39,6 +38,6 @@ count_line word most count = line_of (word ++ decimal count ++ printed_text most
 abbrev pub listing_text : Option ℕ → Listing → List ℕ
 listing_text most (Sound report) = line_of (codes "sound " ++ report_text report)
 listing_text most (Refused list) = lines told_refusal (printed most list.items) ++ count_line (codes "refused=") most (length list.items)
-listing_text most (Faults faults points_left) =
+listing_text most (Faults faults touched) =
     lines map_fault_text (printed most faults.items)
-    ++ (left_text points_left ++ count_line (codes "faults=") most (length faults.items))
+    ++ (touched_text touched ++ count_line (codes "faults=") most (length faults.items))

@@ -11,9 +11,7 @@ pub enum Listing {
     /// The lines that are refused. Nothing further was looked at.
     Refused(Vec<Refusal>),
     /// All faults of the records, where they have some, or else of their map; those of faces where they are asked for, and nothing
-    /// else is wrong. Where `points_left`, the polygons' points weren't looked at, since sides don't agree.
-    Faults {
-        faults: Vec<MapFault>,
-        points_left: bool,
-    },
+    /// else is wrong. So many polygons are touched: sides that disagree name them. Of these it isn't looked whether their points are outside
+    /// of them, or other points in them.
+    Faults { faults: Vec<MapFault>, touched: u64 },
 }

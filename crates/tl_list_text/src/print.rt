@@ -7,7 +7,7 @@ ghost use Rattle.tl_cert_output.specs.Printing.{Prints};
 ghost use Rattle.tl_cert_output.specs.Texts.{PrintsText};
 ghost use Rattle.tl_check_verdict.specs.Messages.{map_fault_text};
 ghost use Rattle.tl_list_text.specs.declared.listing.Listing.TheVariants.{Sound};
-ghost use Rattle.tl_list_text.specs.Texts.{lines, told_refusal, printed, printed_text, left_text, count_line, listing_text};
+ghost use Rattle.tl_list_text.specs.Texts.{lines, told_refusal, printed, printed_text, touched_text, count_line, listing_text};
 
 use crate::faults::fault_line;
 use crate::line::{LINE_ROOM, push_number};
@@ -36,10 +36,13 @@ fn print_lines<S: Sink>(listing: &Listing, most: Option<u64>, printer: &mut Prin
     match listing {
         Listing::Sound(report) => print_report(report, printer, out),
         Listing::Refused(list) => print_refusals(list.as_slice(), most, printer, out),
-        Listing::Faults {
-            faults,
-            points_left,
-        } => print_faults(faults.as_slice(), *points_left, most, printer, out),
+        Listing::Faults { faults, touched } => print_faults(
+            faults.as_slice(),
+            *touched,
+            most,
+            printer,
+            out,
+        ),
     }
 }
 
@@ -73,23 +76,23 @@ fn print_refusals<S: Sink>(list: &[Refusal], most: Option<u64>, printer: &mut Pr
         (lines told_refusal (printed most list.now) ++ count_line (codes "refused=") most (length list.now)) }
 {
     print_refusal_lines(first_of(list, most), printer, out);
-    print_end(false, "refused=", most, list.len(), printer, out);
+    print_end(0, "refused=", most, list.len(), printer, out);
 }
 
-// The faults, or so many of them, whether points weren't looked at, and how many there are.
+// The faults, or so many of them, how many polygons are touched, and how many faults there are.
 fn print_faults<S: Sink>(
     list: &[MapFault],
-    points_left: bool,
+    touched: u64,
     most: Option<u64>,
     printer: &mut Printer,
     out: &mut S,
 )
     ensures { Prints S.contents S.failure_count (out.old, printer.old) (out.new, printer.new)
         (lines map_fault_text (printed most list.now)
-        ++ (left_text points_left ++ count_line (codes "faults=") most (length list.now))) }
+        ++ (touched_text touched ++ count_line (codes "faults=") most (length list.now))) }
 {
     print_fault_lines(first_of(list, most), printer, out);
-    print_end(points_left, "faults=", most, list.len(), printer, out);
+    print_end(touched, "faults=", most, list.len(), printer, out);
 }
 
 /// What is printed of a list: all of it, or where a number is given, so many from the front.
@@ -124,9 +127,9 @@ fn print_fault_lines<S: Sink>(list: &[MapFault], printer: &mut Printer, out: &mu
     }
 }
 
-// Whether points weren't looked at, and the line of how many there are.
+// How many polygons are touched, and the line of how many there are.
 fn print_end<S: Sink>(
-    points_left: bool,
+    touched: u64,
     word: &str,
     most: Option<u64>,
     count: usize,
@@ -135,44 +138,45 @@ fn print_end<S: Sink>(
 )
     requires { length word.now ≤ 10 }
     ensures { Prints S.contents S.failure_count (out.old, printer.old) (out.new, printer.new)
-        (left_text points_left ++ count_line word.now most count) }
+        (touched_text touched ++ count_line word.now most count) }
 {
-    let text = text_of_end(points_left, word, most, count as u64);
+    let text = text_of_end(touched, word, most, count as u64);
     printer.add(text.as_str().as_bytes(), out);
 }
 
-/// Whether points weren't looked at, and the line of how many there are, behind a word of at most ten bytes.
+/// How many polygons are touched, and the line of how many there are, behind a word of at most ten bytes.
 pub fn text_of_end(
-    points_left: bool,
+    touched: u64,
     word: &str,
     most: Option<u64>,
     count: u64,
 ) -> ArrayString<LINE_ROOM>
     requires { length word.now ≤ 10 }
-    ensures { result.bytes ≡ left_text points_left ++ count_line word.now most count }
+    ensures { result.bytes ≡ touched_text touched ++ count_line word.now most count }
 {
-    let mut text = text_of_left(points_left);
+    let mut text = text_of_touched(touched);
     push_number(&mut text, word, count);
     push_printed(&mut text, most, count);
     text.push_str("\n");
     text
 }
 
-// The line that says that points weren't looked at, where they weren't.
-fn text_of_left(points_left: bool) -> ArrayString<LINE_ROOM>
-    ensures bytes { result.bytes ≡ left_text points_left }
-    ensures room { array_string_len result ≤ 30 }
+// The line that says how many polygons are touched, where some are.
+fn text_of_touched(touched: u64) -> ArrayString<LINE_ROOM>
+    ensures bytes { result.bytes ≡ touched_text touched }
+    ensures room { array_string_len result ≤ 80 }
 {
     let mut text = ArrayString::new();
-    if points_left {
-        text.push_str("points not looked at\n");
+    if touched != 0 {
+        push_number(&mut text, "touched polygons=", touched);
+        text.push_str(" not looked at\n");
     }
     text
 }
 
 // Adds how many of so many lines are printed, where a number is given.
 fn push_printed(text: &mut ArrayString<LINE_ROOM>, most: Option<u64>, count: u64)
-    requires { array_string_len text.old ≤ 100 }
+    requires { array_string_len text.old ≤ 130 }
     ensures bytes { text.new.bytes ≡ text.old.bytes ++ printed_text most count }
     ensures room { array_string_len text.new ≤ 200 }
 {

@@ -35,6 +35,7 @@ impl AreaRecords {
     }
 
     /// Keeps one more record.
+    #[inline(always)]
     pub fn add(&mut self, next: &Record) -> Result<(), AllocError>
         ensures { (rs : List Record) → KeepsAreas rs self.old →
             OnOk result (KeepsAreas (rs ++ next.now ∷ []) self.new) }

@@ -81,6 +81,7 @@ impl SidesOfChains {
     }
 
     /// Keeps what lies on the sides of one chain more.
+    #[inline(always)]
     pub fn push(&mut self, sides: ChainSides) -> Result<(), AllocError>
         requires left { HasNumber sides.left }
         requires right { HasNumber sides.right }

@@ -121,6 +121,7 @@ impl<const N: usize> LineBuffer<N> {
 }
 
 /// Fetches until the buffer holds a whole line, or no more can be fetched.
+#[inline(always)]
 pub fn fetch_line<const N: usize, R: Source>(buffer: &mut LineBuffer<N>, source: &mut R) -> Fetched
     ensures shows { Shows N buffer.new (R.remaining source.new) result }
     ensures bytes { Keeps (prepend_known buffer.old (R.remaining source.old))

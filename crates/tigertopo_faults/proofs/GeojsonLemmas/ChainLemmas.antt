@@ -46,7 +46,7 @@ chains_same (Some m) xs ys moved = named_same m.polygons xs ys moved m.chains
 
 -- a chain that was looked up, and is named
 pub named_is : (m : TheMap) (tlids : List ℕ) (c tlid : ℕ) (points : List Point) (left right : Side) → IsChain (slice_get m.chains c) tlid points left right
-    → is_among tlid tlids ≡ true → codes ",\n" ++ chain_feature m c ≡ option_map_or (named_chain m.polygons tlids) (slice_get m.chains c) []
+    → is_among tlid tlids ≡ true → codes ",\n" ++ chain_feature None m c ≡ option_map_or (named_chain m.polygons tlids) (slice_get m.chains c) []
 named_is m tlids c tlid points left right is named =
     let among : is_among is.chain.tlid tlids ≡ true = ap (λ t. is_among t tlids) (sym is.tlid_is) ∙ named in
     rw (is.is, among) refl

@@ -1,5 +1,5 @@
 -- Lines that are held are those of the text, which is that of the files that are read again.
-use Rattle.std.proofs.Common.{◌≡◌, ◌⊎◌, ℕ, zero, suc, Bool, List, [], ◌∷◌, ◌++◌, Option, None, Some, IfSome, Result, Ok, Err, IfOk, IfErr, length, take, slice_get, refl, ap, subst, inl, inr}
+use Rattle.std.proofs.Common.{◌⊎◌, ℕ, List, Option, None, Some, IfSome, Result, Ok, Err, IfOk, IfErr, subst, inl, inr}
 use Rattle.std.specs.Prelude.{IsSomeAnd}
 use Rattle.tigertopo_text.specs.Joining.{joined}
 use Rattle.tigertopo_text.proofs.JoiningLemmas.{joined_bytes-known}
@@ -13,69 +13,6 @@ use Rattle.tigertopo_where.specs.Hint.Again.{FailsAgain}
 use Rattle.tigertopo_where.specs.Hint.Telling.{HaveTexts}
 use Rattle.tigertopo_where.proofs.HintLemmas.HintLemmas.{none_passing}
 use Rattle.tigertopo_where.proofs.HintLemmas.AgainLemmas.{stops_again}
-use Rattle.tl_record.specs.declared.record.Record.{Record}
-use Rattle.tl_map_county.specs.TheMap.{MapChain}
-use Rattle.tl_check_verdict.specs.declared.fault.MapFault.{MapFault}
-use Rattle.tl_check_faces.specs.declared.fault.FaceFault.TheVariants.{Facing, Outward}
-use Rattle.tl_check_verdict.specs.declared.fault.MapFault.TheVariants.{Records, Meet, Side, PolygonPoint, Cell, Face}
-use Rattle.tl_check_verdict.specs.Messages.{map_fault_text}
-use Rattle.tl_cert_output.specs.Writing.{line_of}
-use Rattle.tigertopo_words.specs.declared.budget.Told.{Told}
-use Rattle.tigertopo_words.specs.declared.budget.Told.TheVariants.{One, All}
-use Rattle.tigertopo_faults.specs.declared.records.subject.Subject.{Subject}
-use Rattle.tigertopo_faults.specs.declared.records.lines.RecordLines.{RecordLines}
-use Rattle.tigertopo_faults.specs.Records.SpokenOf.{subjects_of, lines_about}
-use Rattle.tigertopo_faults.specs.Records.Keeping.{held}
-use Rattle.tigertopo_faults.specs.Records.Finding.{HoldsLines, HoldsAll}
-use Rattle.tigertopo_faults.specs.Lines.Texts.{lines_for, fault_place, first_point, record_lines_text, placed_fault_text, placed_faults_text, placed_text, chosen, end_text}
-
-module _ (names : List (List ℕ)) (counts : List ℕ) (chains : List MapChain) (entries : List (ℕ × Record)) (kept : RecordLines) where
-  -- the lines of a subject
-  same_lines : (subject : Option Subject) → HoldsLines entries kept subject → lines_for (held kept) subject ≡ lines_for (lines_about entries) subject
-  same_lines None holds = refl
-  same_lines (Some s) holds = holds
-
-  -- where a fault lies
-  same_place : (fault : MapFault) → HoldsLines entries kept (subjects_of chains fault).0 → fault_place chains (held kept) fault ≡ fault_place chains (lines_about entries) fault
-  same_place (Records fault) holds = refl
-  same_place (Meet meet) holds = refl
-  same_place (Side node first next) holds = refl
-  same_place (PolygonPoint misplaced) holds = ap first_point (same_lines (subjects_of chains (PolygonPoint misplaced)).0 holds)
-  same_place (Cell odds) holds = refl
-  same_place (Face (Facing first last)) holds = refl
-  same_place (Face (Outward face way)) holds = refl
-
-  same_fault : (fault : MapFault) → HoldsLines entries kept (subjects_of chains fault).0 → HoldsLines entries kept (subjects_of chains fault).1
-      → placed_fault_text names counts chains (held kept) fault ≡ placed_fault_text names counts chains (lines_about entries) fault
-  same_fault fault one two =
-      let place = same_place fault one in
-      let first = same_lines (subjects_of chains fault).0 one in
-      let second = same_lines (subjects_of chains fault).1 two in
-      λ i. line_of (map_fault_text fault) ++ (record_lines_text names counts (place i) (first i) ++ record_lines_text names counts (place i) (second i))
-
-  same_faults : (faults : List MapFault) → HoldsAll chains faults entries kept → placed_faults_text names counts chains (held kept) faults ≡ placed_faults_text names counts chains (lines_about entries) faults
-  same_faults [] holds = refl
-  same_faults (fault ∷ rest) holds =
-      let here = holds 0 fault refl in
-      let one = same_fault fault here.0 here.1 in
-      let more = same_faults rest (λ k f there. holds (suc k) f there) in
-      λ i. one i ++ more i
-
-  got_taken : (n : ℕ) (faults : List MapFault) (k : ℕ) (fault : MapFault) → slice_get (take n faults) k ≡ Some fault → slice_get faults k ≡ Some fault
-  got_taken zero faults k fault there = absurd (let wrong = there in cc)
-  got_taken (suc n) [] k fault there = there
-  got_taken (suc n) (first ∷ faults) zero fault there = there
-  got_taken (suc n) (first ∷ faults) (suc k) fault there = got_taken n faults k fault there
-
-  same_chosen : (told : Told) (faults : List MapFault) → HoldsAll chains faults entries kept → HoldsAll chains (chosen told faults) entries kept
-  same_chosen One faults holds = λ k fault there. holds k fault (got_taken 1 faults k fault there)
-  same_chosen (All None) faults holds = holds
-  same_chosen (All (Some n)) faults holds = λ k fault there. holds k fault (got_taken n faults k fault there)
-
-  pub same_text : (told : Told) (faults : List MapFault) (points_left : Bool) → HoldsAll chains faults entries kept
-      → placed_text names counts chains (held kept) told faults points_left ≡ placed_text names counts chains (lines_about entries) told faults points_left
-  same_text told faults points_left holds =
-      ap (λ (l : List ℕ). l ++ end_text told (length faults) points_left) (same_faults (chosen told faults) (same_chosen told faults holds))
 
 -- ---- files that are read as one text once more
 

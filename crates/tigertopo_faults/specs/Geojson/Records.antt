@@ -1,5 +1,5 @@
 -- The records that a fault speaks of.
-use Rattle.std.specs.Prelude.{ℕ, List, ◌++◌, codes, decimal, slice_get}
+use Rattle.std.specs.Prelude.{ℕ, List, [], ◌++◌, Option, None, Some, codes, decimal, slice_get}
 use Rattle.std.specs.Option.{option_map_or}
 use Rattle.tl_record.specs.declared.record.Record.{Record}
 use Rattle.tl_record.specs.declared.record.Record.TheVariants.{Chain, Shape, Sides, PolyPoint, Landmark, AreaLink}
@@ -8,8 +8,10 @@ use Rattle.tl_check_verdict.specs.declared.fault.MapFault.{MapFault}
 use Rattle.tigertopo_where.specs.LinePlaces.{place_of}
 use Rattle.tigertopo_faults.specs.declared.records.line.RecordLine.{RecordLine}
 use Rattle.tigertopo_faults.specs.declared.records.subject.Subject.{Subject}
-use Rattle.tigertopo_faults.specs.Records.SpokenOf.{subjects_of}
-use Rattle.tigertopo_faults.specs.Lines.Texts.{lines_for}
+use Rattle.tigertopo_faults.specs.declared.records.line.SegmentEnds.{SegmentEnds}
+use Rattle.tigertopo_faults.specs.declared.records.line.Part.{Part}
+use Rattle.tigertopo_faults.specs.declared.records.line.Part.TheVariants.{Start, Pair, End}
+use Rattle.tigertopo_faults.specs.Lines.Texts.{spoken_of}
 use Rattle.tigertopo_geojson.specs.Strings.{string_text}
 use Rattle.tigertopo_geojson.specs.Features.{separated}
 
@@ -35,14 +37,30 @@ known_text names number place =
 abbrev pub line_text : List (List ℕ) → List ℕ → ℕ → List ℕ
 line_text names counts number = option_map_or (known_text names number) (place_of counts number) (unknown_text number)
 
--- a record: its file, its line there and its type
+-- where in its record an end of a segment is: a pair by its number
+abbrev pub part_text : Part → List ℕ
+part_text Start = codes "\"start\""
+part_text (Pair n) = decimal n
+part_text End = codes "\"end\""
+
+-- the other end, behind the one
+abbrev pub other_text : Option Part → List ℕ
+other_text None = []
+other_text (Some part) = codes "," ++ part_text part
+
+-- the segment that is spoken of, and the ends that the record holds of it, where one is
+abbrev pub ends_text : Option SegmentEnds → List ℕ
+ends_text None = []
+ends_text (Some ends) = codes ",\"segment\":" ++ decimal ends.segment ++ codes ",\"ends\":[" ++ part_text ends.part ++ other_text ends.other ++ codes "]"
+
+-- a record: its file, its line there and its type, and where a segment is spoken of, which of its ends the record holds
 unfoldable pub record_text : List (List ℕ) → List ℕ → RecordLine → List ℕ
 record_text names counts line =
-    codes "{\"file\":" ++ line_text names counts line.line ++ codes ",\"type\":\"" ++ type_text line.holds ++ codes "\"}"
+    codes "{\"file\":" ++ line_text names counts line.line ++ codes ",\"type\":\"" ++ type_text line.holds ++ codes "\"" ++ ends_text line.ends ++ codes "}"
 
--- the records that a fault speaks of: those about its first subject, then those about its second
+-- the records that a fault speaks of, one after the other
 abbrev pub spoken_lines : List MapChain → (Subject → List RecordLine) → MapFault → List RecordLine
-spoken_lines chains about fault = lines_for about (subjects_of chains fault).0 ++ lines_for about (subjects_of chains fault).1
+spoken_lines chains about fault = (spoken_of chains about fault).0 ++ (spoken_of chains about fault).1
 
 -- a list of records
 unfoldable pub records_text : List (List ℕ) → List ℕ → List RecordLine → List ℕ

@@ -8,7 +8,8 @@ use Rattle.tl_check_verdict.specs.declared.fault.MapFault.{MapFault}
 use Rattle.tigertopo_faults.specs.declared.records.line.RecordLine.{RecordLine}
 use Rattle.tigertopo_faults.specs.declared.records.subject.Subject.{Subject}
 use Rattle.tigertopo_faults.specs.Records.SpokenOf.{chains_of}
-use Rattle.tigertopo_faults.specs.Lines.Texts.{fault_place}
+use Rattle.tl_geom.specs.declared.rational.Rational.{Rational}
+use Rattle.tigertopo_faults.specs.Lines.Places.{place_at}
 use Rattle.tigertopo_geojson.specs.Strings.{string_text, key_string}
 use Rattle.tigertopo_geojson.specs.Features.{separated, features_below, chain_text, collection_opening, collection_closing}
 use Rattle.tigertopo_faults.specs.Geojson.Named.{listed, tlids_of, keys_of, land_of}
@@ -30,16 +31,16 @@ names_text chains fault =
     ++ codes "],\"landmarks\":[" ++ separated decimal (option_to_list (land_of fault)) ++ codes "]"
 
 -- a fault: the point where it lies, its words, what it names and the records that it speaks of
-unfoldable pub fault_text : List (List ℕ) → List ℕ → List MapChain → (Subject → List RecordLine) → MapFault → List ℕ
-fault_text names counts chains about fault =
-    codes "{\"type\":\"Feature\",\"geometry\":" ++ geometry_text (fault_place chains about fault)
+unfoldable pub fault_text : List (List ℕ) → List ℕ → List MapChain → (Subject → List RecordLine) → Option Rational → MapFault → List ℕ
+fault_text names counts chains about at fault =
+    codes "{\"type\":\"Feature\",\"geometry\":" ++ geometry_text at
     ++ codes ",\"properties\":{" ++ words_text (told_text fault)
-    ++ codes ",\"at\":" ++ exact_text (fault_place chains about fault)
+    ++ codes ",\"at\":" ++ exact_text at
     ++ names_text chains fault ++ records_text names counts (spoken_lines chains about fault) ++ codes "}}"
 
--- the fault with this number
-abbrev pub fault_feature : List (List ℕ) → List ℕ → List MapChain → (Subject → List RecordLine) → List MapFault → ℕ → List ℕ
-fault_feature names counts chains about faults n = option_map_or (fault_text names counts chains about) (slice_get faults n) []
+-- the fault with this number, at the place with it
+abbrev pub fault_feature : List (List ℕ) → List ℕ → List MapChain → (Subject → List RecordLine) → List (Option Rational) → List MapFault → ℕ → List ℕ
+fault_feature names counts chains about places faults n = option_map_or (fault_text names counts chains about (place_at places n)) (slice_get faults n) []
 
 -- the TLIDs that faults name
 abbrev pub named_tlids : List MapChain → List MapFault → List ℕ
@@ -52,19 +53,19 @@ is_among tlid tlids = list_any (λ t. t == tlid) tlids
 -- a chain behind another feature, where its TLID is one of these
 abbrev pub named_chain : List Polygon → List ℕ → MapChain → List ℕ
 named_chain polygons tlids chain =
-    if is_among chain.tlid tlids then codes ",\n" ++ chain_text polygons chain.tlid chain.points chain.left chain.right else []
+    if is_among chain.tlid tlids then codes ",\n" ++ chain_text None polygons chain.tlid chain.points chain.left chain.right else []
 
 -- the chains of a map that have these TLIDs, by rising number
 abbrev pub chains_text : Option TheMap → List ℕ → List ℕ
 chains_text None tlids = []
 chains_text (Some m) tlids = flat_map (named_chain m.polygons tlids) m.chains
 
--- the end of the collection, which says where they weren't that polygons' points weren't looked at
-abbrev pub closing_text : Bool → List ℕ
-closing_text points_left = if points_left then codes "\n],\"points\":\"not looked at\"}\n" else collection_closing
+-- the end of the collection, which says how many polygons are touched, where some are
+abbrev pub closing_text : ℕ → List ℕ
+closing_text touched = if touched == 0 then collection_closing else codes "\n],\"touched\":" ++ decimal touched ++ codes "}\n"
 
 -- all faults, and behind them the chains that they name; where there is no fault, there is no such chain
-unfoldable pub faults_text : List (List ℕ) → List ℕ → Option TheMap → (Subject → List RecordLine) → List MapFault → Bool → List ℕ
-faults_text names counts drawn about faults points_left =
-    collection_opening ++ features_below 0 (fault_feature names counts (chains_of drawn) about faults) (length faults)
-    ++ chains_text drawn (named_tlids (chains_of drawn) faults) ++ closing_text points_left
+unfoldable pub faults_text : List (List ℕ) → List ℕ → Option TheMap → (Subject → List RecordLine) → List (Option Rational) → List MapFault → ℕ → List ℕ
+faults_text names counts drawn about places faults touched =
+    collection_opening ++ features_below 0 (fault_feature names counts (chains_of drawn) about places faults) (length faults)
+    ++ chains_text drawn (named_tlids (chains_of drawn) faults) ++ closing_text touched

@@ -1,14 +1,16 @@
 -- What faults speak of, in files that are read again.
-use Rattle.std.specs.Prelude.{◌≡◌, ℕ, List, map}
+use Rattle.std.specs.Prelude.{◌≡◌, ℕ, List, Option, map}
 use Rattle.tl_record.specs.declared.layout.Layout.{Layout}
 use Rattle.tl_record.specs.Records.{records_of}
 use Rattle.tigertopo_text.specs.Joining.{joined}
-use Rattle.tl_map_county.specs.TheMap.{MapChain}
+use Rattle.tl_map_county.specs.TheMap.{TheMap, MapChain}
 use Rattle.tigertopo_files.specs.Files.{Under}
 use Rattle.tl_check_verdict.specs.declared.fault.MapFault.{MapFault}
 use Rattle.tigertopo_where.specs.LinePlaces.{line_count}
 use Rattle.tigertopo_where.specs.Hint.Telling.{HaveTexts}
 use Rattle.tigertopo_faults.specs.Records.Finding.{HoldsAll}
+use Rattle.tigertopo_faults.specs.Records.SpokenOf.{chains_of}
+use Rattle.tigertopo_faults.specs.Lines.Places.{fault_place}
 use Rattle.tigertopo_faults.specs.declared.lines.again.Spoken.{Spoken}
 
 -- of files of these texts: so many lines has each, and the lines of all records that the faults speak of are held
@@ -16,6 +18,7 @@ pub record AreOf (layout : Layout) (texts : List (List ℕ)) (chains : List MapC
   pub counted : spoken.counts.items ≡ map line_count texts
   pub lines : HoldsAll chains faults (records_of layout (joined texts)).entries spoken.lines
 
--- the same where the text under each name is known
-abbrev pub AreSpoken : Layout → Under → List (List ℕ) → List MapChain → List MapFault → Spoken → Type 0
-AreSpoken layout under names chains faults spoken = (texts : List (List ℕ)) → HaveTexts under names texts → AreOf layout texts chains faults spoken
+-- where the faults lie on the map, where there is one; and the same where the text under each name is known
+pub record AreSpoken (layout : Layout) (under : Under) (names : List (List ℕ)) (drawn : Option TheMap) (faults : List MapFault) (spoken : Spoken) : Type 0 where
+  pub placed : spoken.places.items ≡ map (fault_place drawn) faults
+  pub read : (texts : List (List ℕ)) → HaveTexts under names texts → AreOf layout texts (chains_of drawn) faults spoken

@@ -31,7 +31,7 @@ is_about s r = false
 
 -- a record with the number of its line
 abbrev pub line_of : ℕ × Record → RecordLine
-line_of entry = record { line = entry.0; holds = entry.1 }
+line_of entry = record { line = entry.0; holds = entry.1; ends = None }
 
 -- the records that a subject names, with their lines, in the order of the text
 abbrev pub lines_about : List (ℕ × Record) → Subject → List RecordLine

@@ -96,7 +96,7 @@ fn print_named<S: Sink>(map: &Map, number: u32, tlids: &[u64], printer: &mut Pri
 {
     if is_among(map.chain(number).tlid, tlids) {
         printer.add(b",\n", out);
-        print_chain(map, number, printer, out);
+        print_chain(map, number, None, printer, out);
     }
 }
 

@@ -14,32 +14,35 @@ use crate::geojson::named::{keys_of, land_of, tlids_of};
 use crate::geojson::place::{print_exact, print_geometry};
 use crate::geojson::record::print_records;
 use crate::geojson::words::{print_words, rest_of};
-use crate::lines::{fault_place, lines_for};
+use crate::lines::{lines_for, place_at, segment_spoken};
 use crate::records::{RecordLines, subjects_of};
 use tigertopo_geojson::{print_key, print_lead};
 use tl_cert_output::Printer;
 use tl_check_verdict::MapFault;
+use tl_geom::Rational;
 use tl_list_text::fault_line;
 use tl_map_county::Map;
 use tl_record::{PolyKey, Sink};
 
-/// Prints faults, each as a feature.
+/// Prints faults, which lie at these places, each as a feature.
 pub fn print_features<S: Sink>(
     names: &[String],
     counts: &[u64],
     drawn: Option<&Map>,
     lines: &RecordLines,
+    places: &[Option<Rational>],
     faults: &[MapFault],
     printer: &mut Printer,
     out: &mut S,
 )
     ensures { Prints S.contents S.failure_count (out.old, printer.old) (out.new, printer.new)
         (features_below 0 (fault_feature (map string_bytes names.now) counts.now (chains_of (option_copied drawn.entry))
-        (held lines.now) faults.now) (length faults.now)) }
+        (held lines.now) places.now faults.now) (length faults.now)) }
 {
     for (number, fault) in faults.iter().enumerate() {
         print_lead(number as u64, printer, out);
-        print_fault(names, counts, drawn, lines, fault, printer, out);
+        let at = place_at(places, number);
+        print_fault(names, counts, drawn, lines, at, fault, printer, out);
     }
 }
 
@@ -49,14 +52,14 @@ fn print_fault<S: Sink>(
     counts: &[u64],
     drawn: Option<&Map>,
     lines: &RecordLines,
+    at: Option<Rational>,
     fault: &MapFault,
     printer: &mut Printer,
     out: &mut S,
 )
     ensures { Prints S.contents S.failure_count (out.old, printer.old) (out.new, printer.new)
-        (fault_text (map string_bytes names.now) counts.now (chains_of (option_copied drawn.entry)) (held lines.now) fault.now) }
+        (fault_text (map string_bytes names.now) counts.now (chains_of (option_copied drawn.entry)) (held lines.now) at fault.now) }
 {
-    let at = fault_place(drawn, lines, fault);
     let line = fault_line(fault);
     printer.add(b"{\"type\":\"Feature\",\"geometry\":", out);
     print_geometry(at, printer, out);
@@ -144,6 +147,18 @@ fn print_spoken<S: Sink>(
     ensures { Prints S.contents S.failure_count (out.old, printer.old) (out.new, printer.new) (records_text
         (map string_bytes names.now) counts.now (spoken_lines (chains_of (option_copied drawn.entry)) (held lines.now) fault.now)) }
 {
+    if let MapFault::Meet(meet) = fault {
+        let first = segment_spoken(drawn, lines, meet.tlid, meet.s);
+        let second = segment_spoken(drawn, lines, meet.other, meet.t);
+        return print_records(
+            names,
+            counts,
+            first.as_slice(),
+            second.as_slice(),
+            printer,
+            out,
+        );
+    }
     let (first, second) = subjects_of(drawn, fault);
     print_records(
         names,

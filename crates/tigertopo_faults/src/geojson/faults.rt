@@ -8,27 +8,31 @@ ghost use Rattle.tigertopo_faults.specs.Geojson.Texts.{closing_text, faults_text
 use crate::geojson::chains::{list_tlids, print_chains};
 use crate::geojson::fault::print_features;
 use crate::records::RecordLines;
+use arrayvec::ArrayString;
 use std::alloc::Global;
 use tl_cert_output::{Printer, Stop};
 use tl_check_verdict::MapFault;
+use tl_geom::Rational;
+use tl_list_text::{LINE_ROOM, push_number};
 use tl_map_county::Map;
 use tl_record::Sink;
 
 /// Prints faults as features, and behind them the chains that they name, where the records have a map. The files have these
-/// names and so many lines each, and `lines` has those of the records that the faults speak of. Where `points_left`, it is said at the
-/// end that polygons' points weren't looked at.
+/// names and so many lines each, and `lines` has those of the records that the faults speak of, which lie at these places. How many polygons
+/// are touched is said at the end, where some are.
 pub fn print_faults<S: Sink>(
     alloc: Global,
     names: &[String],
     counts: &[u64],
     drawn: Option<&Map>,
     lines: &RecordLines,
+    places: &[Option<Rational>],
     faults: &[MapFault],
-    points_left: bool,
+    touched: u64,
     out: &mut S,
 ) -> Result<(), Stop>
     ensures { PrintsText S.contents S.failure_count out.old out.new (faults_text (map string_bytes names.now) counts.now
-        (option_copied drawn.entry) (held lines.now) faults.now points_left) result }
+        (option_copied drawn.entry) (held lines.now) places.now faults.now touched) result }
 {
     let tlids = list_tlids(alloc, drawn, faults)?;
     let mut printer = Printer::new();
@@ -36,19 +40,31 @@ pub fn print_faults<S: Sink>(
         b"{\"type\":\"FeatureCollection\",\"name\":\"tigertopo\",\"features\":[",
         out,
     );
-    print_features(names, counts, drawn, lines, faults, &mut printer, out);
+    print_features(
+        names,
+        counts,
+        drawn,
+        lines,
+        places,
+        faults,
+        &mut printer,
+        out,
+    );
     print_chains(drawn, tlids.as_slice(), &mut printer, out);
-    printer.add(closing(points_left), out);
+    printer.add(closing(touched).as_str().as_bytes(), out);
     printer.finish(out)
 }
 
 // The end of a collection of faults.
-fn closing<'a>(points_left: bool) -> &'a [u8]
-    ensures { result.now ≡ closing_text points_left }
+fn closing(touched: u64) -> ArrayString<LINE_ROOM>
+    ensures { result.bytes ≡ closing_text touched }
 {
-    if points_left {
-        b"\n],\"points\":\"not looked at\"}\n"
+    let mut text = ArrayString::new();
+    if touched == 0 {
+        text.push_str("\n]}\n");
     } else {
-        b"\n]}\n"
+        push_number(&mut text, "\n],\"touched\":", touched);
+        text.push_str("}\n");
     }
+    text
 }

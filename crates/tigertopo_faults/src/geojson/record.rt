@@ -7,13 +7,14 @@ ghost use Rattle.tl_cert_output.specs.Printing.{Prints};
 ghost use Rattle.tigertopo_geojson.specs.Features.{separated};
 ghost use Rattle.tigertopo_faults.specs.Geojson.Records.{type_text, unknown_text, known_text, line_text, record_text, records_text};
 
+use crate::geojson::ends::print_ends;
 use crate::records::RecordLine;
 use tigertopo_geojson::print_string;
 use tigertopo_where::{TextLine, place_of};
 use tl_cert_output::Printer;
 use tl_record::{Record, Sink};
 
-/// Prints a list of records: those about a fault's first subject, then those about its second.
+/// Prints a list of records: some, then others.
 pub fn print_records<S: Sink>(
     names: &[String],
     counts: &[u64],
@@ -84,7 +85,7 @@ fn print_more<S: Sink>(
     }
 }
 
-// Prints a record: its file, its line there and its type.
+// Prints a record: its file, its line there and its type, and where a segment is spoken of, which of its ends the record holds.
 fn print_record<S: Sink>(
     names: &[String],
     counts: &[u64],
@@ -99,7 +100,9 @@ fn print_record<S: Sink>(
     print_line(names, counts, line.line, printer, out);
     printer.add(b",\"type\":\"", out);
     printer.add(type_of(&line.holds), out);
-    printer.add(b"\"}", out);
+    printer.add(b"\"", out);
+    print_ends(line.ends, printer, out);
+    printer.add(b"}", out);
 }
 
 // Prints a line's file and its number there, or where the files have fewer lines, its number in all of them.

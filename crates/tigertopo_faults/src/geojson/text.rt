@@ -5,6 +5,7 @@ use crate::records::RecordLines;
 use std::alloc::Global;
 use tl_cert_output::{Stop, Text};
 use tl_check_verdict::MapFault;
+use tl_geom::Rational;
 use tl_map_county::Map;
 use tl_record::Sink;
 
@@ -19,9 +20,11 @@ pub struct FaultsText<'a> {
     pub drawn: Option<&'a Map>,
     /// The lines of the records that the faults speak of.
     pub lines: &'a RecordLines,
+    /// Where the faults lie.
+    pub places: &'a [Option<Rational>],
     pub faults: &'a [MapFault],
-    /// Whether the polygons' points weren't looked at.
-    pub points_left: bool,
+    /// How many polygons are touched.
+    pub touched: u64,
 }
 
 impl Text for FaultsText<'_> {
@@ -30,7 +33,7 @@ impl Text for FaultsText<'_> {
     ghost use Rattle.tigertopo_faults.specs.Geojson.Texts.{faults_text};
 
     ghost text = { λ told. faults_text (map_list string_bytes told.names.now) told.counts.now (option_copied told.drawn)
-        (held told.lines.now) told.faults.now told.points_left };
+        (held told.lines.now) told.places.now told.faults.now told.touched };
 
     ghost is_ready = { λ told. ⊤ };
 
@@ -41,8 +44,9 @@ impl Text for FaultsText<'_> {
             self.counts,
             self.drawn,
             self.lines,
+            self.places,
             self.faults,
-            self.points_left,
+            self.touched,
             out,
         )
     }

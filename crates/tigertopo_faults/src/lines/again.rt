@@ -15,6 +15,7 @@ ghost use Rattle.tigertopo_faults.specs.Records.Keeping.{held};
 ghost use Rattle.tl_cert_output.specs.Stops.{StopsFor};
 ghost use Rattle.tigertopo_faults.specs.Lines.Again.{AreSpoken};
 
+use crate::lines::places::fault_places;
 use crate::records::{RecordLines, record_lines};
 use std::alloc::{AllocError, Global};
 use std::hash::RandomState;
@@ -22,6 +23,7 @@ use tigertopo_files::{FileSystem, Reading};
 use tigertopo_where::hint::count_all;
 use tl_cert_output::Stop;
 use tl_check_verdict::MapFault;
+use tl_geom::Rational;
 use tl_map_county::Map;
 use tl_record::{Options, Source};
 
@@ -32,24 +34,41 @@ pub struct Spoken {
     pub counts: Vec<u64>,
     /// The records that the faults speak of, with their lines.
     pub lines: RecordLines,
+    /// Where the faults lie.
+    pub places: Vec<Option<Rational>>,
 }
 
 impl Spoken {
-    /// Nothing: no file and no record.
+    /// Nothing: no file, no record and no place.
     pub fn nothing(alloc: Global, hasher: RandomState) -> Result<Spoken, AllocError>
         ensures counts { IfOk result (λ spoken. spoken.counts.items ≡ []) }
         ensures lines { IfOk result (λ spoken. (s : Subject) → held spoken.lines s ≡ []) }
+        ensures places { IfOk result (λ spoken. spoken.places.items ≡ []) }
+    {
+        Spoken::at(alloc, hasher, Vec::new(alloc))
+    }
+
+    // No file and no record, of faults that lie at these places.
+    fn at(
+        alloc: Global,
+        hasher: RandomState,
+        places: Vec<Option<Rational>>,
+    ) -> Result<Spoken, AllocError>
+        ensures counts { IfOk result (λ spoken. spoken.counts.items ≡ []) }
+        ensures lines { IfOk result (λ spoken. (s : Subject) → held spoken.lines s ≡ []) }
+        ensures places { IfOk result (λ spoken. spoken.places ≡ places) }
     {
         let lines = RecordLines::none(alloc, hasher)?;
         Ok(Spoken {
             counts: Vec::new(alloc),
             lines,
+            places,
         })
     }
 }
 
-/// Reads the files of these names again for the records that faults speak of, which were found in them. Where one of the files
-/// can't be read again, as a pipe can't, there are none. Chains of darts are those of the map, where the records have one.
+/// Where faults lie on the map, where the records have one, and the records that they speak of, from the files of these names, in which
+/// they were found: these are read again. Where one of them can't be, as a pipe can't, there are no records.
 pub fn read_again<F: FileSystem>(
     files: &mut F,
     alloc: Global,
@@ -59,22 +78,27 @@ pub fn read_again<F: FileSystem>(
     drawn: Option<&Map>,
     faults: &[MapFault],
 ) -> Result<Spoken, Stop>
-    // Where the bytes of all files are known: so many lines have these, and the records are all that the faults speak of, and
-    // no other.
+    // Each fault has its place. Where the bytes of all files are known: so many lines have these, and the records are all that the
+    // faults speak of, and no other.
     ensures spoken { IfOk result (AreSpoken (layout_with options) (F.under files.old) (map string_bytes names.now)
-        (chains_of (option_copied drawn.entry)) faults.now) }
+        (option_copied drawn.entry) faults.now) }
     // `Device` is answered where one of the files may not be opened, a read failed, or one has no end within 2^64 - 1 bytes, and
     // nowhere else.
     ensures stops { IfErr result (StopsFor (FailsAgain (world F.under F.log F.knows files.old files.new) (map string_bytes names.now))) }
     ensures stays { F.under files.new ≡ F.under files.old }
     ensures logged { F.knows ≡ true → LogsAgain (F.log files.old) (F.log files.new) result }
 {
+    let places = fault_places(alloc, hasher, drawn, faults)?;
     let Some(counts) = count_all(files, alloc, names)? else {
-        return Ok(Spoken::nothing(alloc, hasher)?);
+        return Ok(Spoken::at(alloc, hasher, places)?);
     };
     match lines_again(files, alloc, hasher, names, options, drawn, faults)? {
-        Some(lines) => Ok(Spoken { counts, lines }),
-        None => Ok(Spoken::nothing(alloc, hasher)?),
+        Some(lines) => Ok(Spoken {
+            counts,
+            lines,
+            places,
+        }),
+        None => Ok(Spoken::at(alloc, hasher, places)?),
     }
 }
 

@@ -4,6 +4,7 @@ ghost use Rattle.std.specs.Prelude.{◌≡◌, ◌++◌, OnOk, map, string_bytes
 ghost use Rattle.tigertopo_where.specs.LinePlaces.{place_pair};
 ghost use Rattle.tigertopo_faults.specs.Lines.Texts.{record_text, at_text, number_text, named_text, where_text, record_line_text, record_lines_text};
 
+use crate::lines::ends::push_ends;
 use crate::records::RecordLine;
 use arrayvec::ArrayString;
 use itoa::Buffer;
@@ -45,6 +46,7 @@ fn push_record_line(
     text.extend_from_slice(b"  ")?;
     push_where(text, names, counts, line.line)?;
     text.extend_from_slice(record_words(&line.holds).as_str().as_bytes())?;
+    push_ends(text, line.ends)?;
     text.extend_from_slice(at_words(at).as_str().as_bytes())?;
     text.extend_from_slice(b"\n")?;
     Ok(())
@@ -90,8 +92,8 @@ fn push_whole(text: &mut Vec<u8>, number: u64) -> Result<(), AllocError>
     Ok(())
 }
 
-// Adds a word and a number.
-fn push_count(text: &mut Vec<u8>, word: &[u8], number: u64) -> Result<(), AllocError>
+/// Adds a word and a number.
+pub(crate) fn push_count(text: &mut Vec<u8>, word: &[u8], number: u64) -> Result<(), AllocError>
     ensures { OnOk result (text.new.items ≡ text.old.items ++ word.now ++ decimal number) }
 {
     let mut digits = Buffer::new();

@@ -74,10 +74,15 @@ impl RecordLines {
     }
 
     // Adds a record's line to those of each wanted subject that names it.
-    pub(crate) fn note(&mut self, line: RecordLine) -> Result<(), AllocError>
-        ensures { OnOk result (Notes self.old self.new (line.line, line.holds)) }
+    pub(crate) fn note(&mut self, line: u64, holds: Record) -> Result<(), AllocError>
+        ensures { OnOk result (Notes self.old self.new (line, holds)) }
     {
-        let (narrow, wide) = subjects_naming(&line.holds);
+        let (narrow, wide) = subjects_naming(&holds);
+        let line = RecordLine {
+            line,
+            holds,
+            ends: None,
+        };
         self.add(narrow, line)?;
         self.add(wide, line)
     }

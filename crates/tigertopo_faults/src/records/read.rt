@@ -12,7 +12,6 @@ ghost use Rattle.tigertopo_faults.specs.Records.Finding.{HoldsAll};
 ghost use Rattle.tl_cert_output.specs.Stops.{StopsFor, TellsDevice};
 ghost use Rattle.tigertopo_faults.specs.Records.Reading.{KeptAll};
 
-use crate::records::line::RecordLine;
 use crate::records::lines::RecordLines;
 use crate::records::wanted::wanted_subjects;
 use std::alloc::Global;
@@ -63,7 +62,7 @@ fn read_into<R: Source>(
     let mut next = NO_RECORD;
     'records: loop {
         match reader.read_next(&mut next) {
-            Ok(Some(line)) => lines.note(RecordLine { line, holds: next })?,
+            Ok(Some(line)) => lines.note(line, next)?,
             Ok(None) => return Ok(lines),
             Err(ReadStop::Refused { .. }) => return Ok(lines),
             Err(ReadStop::Device) => return Err(Stop::Device),

@@ -51,15 +51,15 @@ no_told : (all : AllRecords) (faults : List MapFault) (told : List RecordFault) 
 no_told all faults [] some are all_told none = some are
 no_told all faults (f ∷ rest) some are all_told none = none f (all_told.each 0 f (omega arith))
 
-shown_faults : (faces : Bool) (all : AllRecords) (m : TheMap) (faults : List MapFault) (left : Bool) → IsReadFrom all m → faults ≢ [] → AreFaults faces all faults left → AreFaultsOf faces m faults
-shown_faults faces all m faults left is some (inl records) = absurd (no_told all faults records.0.told some records.0.are records.0.are_all is.no_fault)
-shown_faults faces all m faults left is some (inr have) = inr (left, subst (λ n. AreFaultsFor faces n faults left) (same_map all have.map m have.is_read is) have.so)
+shown_faults : (faces : Bool) (all : AllRecords) (m : TheMap) (faults : List MapFault) (touched : ℕ) → IsReadFrom all m → faults ≢ [] → AreFaults faces all faults touched → AreFaultsOf faces m faults
+shown_faults faces all m faults touched is some (inl records) = absurd (no_told all faults records.0.told some records.0.are records.0.are_all is.no_fault)
+shown_faults faces all m faults touched is some (inr have) = inr (touched, subst (λ n. AreFaultsFor faces n faults touched) (same_map all have.map m have.is_read is) have.so)
 
 -- what is listed of records that have a map is all faults of it
 shown_findings : (options : Options) (text : List ℕ) (listing : Listing) (m : TheMap) → IsListingOf options text listing → IsReadFrom (records_of (layout_with options) text) m → AreFaultsOf options.faces m (listed_faults listing)
 shown_findings options text (Sound report) m have is = inl (refl, subst (IsSoundFor options.faces) (same_map (records_of (layout_with options) text) have.map m have.is_read is) have.so.0)
 shown_findings options text (Refused list) m lists is = absurd (no_refused (layout_with options) text list.items lists.0 lists.1 is.no_refusal)
-shown_findings options text (Faults faults left) m lists is = shown_faults options.faces (records_of (layout_with options) text) m faults.items left is lists.0 lists.2
+shown_findings options text (Faults faults touched) m lists is = shown_faults options.faces (records_of (layout_with options) text) m faults.items touched is lists.0 lists.2
 
 -- ---- where there is none
 
@@ -82,7 +82,7 @@ first_findings : (options : Options) (text : List ℕ) (listing : Listing) → I
     → IsWhy (layout_with options) (Some text) (first_listed listing)
 first_findings options text (Sound report) have none = absurd (none (record { map = have.map; is_read = have.is_read; so = tt }))
 first_findings options text (Refused list) lists none = first_refusal (layout_with options) text list.items lists.0 lists.1
-first_findings options text (Faults faults left) lists none = elim lists.2 [
+first_findings options text (Faults faults touched) lists none = elim lists.2 [
   | inl records ↦ first_told (layout_with options) text faults.items records.0.told lists.0 records.0.are records.0.are_all lists.1
   | inr have ↦ absurd (none (record { map = have.map; is_read = have.is_read; so = tt }))
 ]
@@ -104,7 +104,7 @@ unknown_faults layout (fault.Face f ∷ rest) = tt
 unknown_first : (layout : Layout) (listing : Listing) → IsWhy layout None (first_listed listing)
 unknown_first layout (Sound report) = tt
 unknown_first layout (Refused list) = unknown_refused layout list.items
-unknown_first layout (Faults faults left) = unknown_faults layout faults.items
+unknown_first layout (Faults faults touched) = unknown_faults layout faults.items
 
 -- ---- what is answered
 

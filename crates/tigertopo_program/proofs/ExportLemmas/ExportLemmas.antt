@@ -23,24 +23,25 @@ use Rattle.tigertopo_outcome.specs.declared.said.Said.{Said}
 use Rattle.tigertopo_outcome.specs.Answers.{IsSaid, IsReadMap, answer_of}
 use Rattle.tigertopo_outcome.specs.Records.{StopsNever, StopsRecords}
 use Rattle.tigertopo_outcome.proofs.RecordLemmas.{tells_fault}
-use Rattle.tigertopo_program.specs.Export.Exports.{ExportAnswers, IsExportedOf, counts_of}
+use Rattle.tigertopo_program.specs.Export.Exports.{Asked, ExportAnswers, IsExportedOf, counts_of}
 
 -- ---- what is answered of a map, with no file read before
 
 -- a map that isn't sound was exported
-pub exported_plain : (w : World) (name : List ℕ) (m : TheMap) → ¬ IsSound m → StandsUnder w.after name (county_text m) → IsExportedOf w name m (answer_of (Exported (counts_of m None)))
-exported_plain w name m faulty kept = record {
+pub exported_plain : (w : World) (asked : Asked) (m : TheMap) → ¬ IsSound m → StandsUnder w.after asked.name (county_text asked.file asked.layer m)
+    → IsExportedOf w asked m (answer_of (Exported (counts_of m None)))
+exported_plain w asked m faulty kept = record {
   rings = None;
-  exported = record { text = county_text m; is = inl (record { faulty = faulty; none = refl; is = refl }); kept = kept };
+  exported = record { text = county_text asked.file asked.layer m; is = inl (record { faulty = faulty; none = refl; is = refl }); kept = kept };
   is = refl;
 }
 
 -- a sound one was, whose walks these are
-pub exported_whole : (w : World) (name : List ℕ) (m : TheMap) (walks : List (List ℕ)) (count : ℕ) → IsSound m → AreWalks m.chains walks → count ≡ ring_count m.chains walks → StandsUnder w.after name (county_text_with m walks)
-    → IsExportedOf w name m (answer_of (Exported (counts_of m (Some count))))
-exported_whole w name m walks count sound are counted kept = record {
+pub exported_whole : (w : World) (asked : Asked) (m : TheMap) (walks : List (List ℕ)) (count : ℕ) → IsSound m → AreWalks m.chains walks → count ≡ ring_count m.chains walks → StandsUnder w.after asked.name (county_text_with asked.file asked.layer m walks)
+    → IsExportedOf w asked m (answer_of (Exported (counts_of m (Some count))))
+exported_whole w asked m walks count sound are counted kept = record {
   rings = Some count;
-  exported = record { text = county_text_with m walks; is = inr (record { sound = sound; walks = walks; are = are; some = ap Some counted; is = refl }); kept = kept };
+  exported = record { text = county_text_with asked.file asked.layer m walks; is = inr (record { sound = sound; walks = walks; are = are; some = ap Some counted; is = refl }); kept = kept };
   is = refl;
 }
 
@@ -57,20 +58,20 @@ export_stopped u l k name R Budget memory r is = absurd memory
 -- ---- what is answered of records
 
 -- they were read, and no file was made: they have a fault
-pub export_of_fault : (w : World) (names : List (List ℕ)) (name : List ℕ) (layout : Layout) (known : Option (List ℕ)) (fault : TheMapFault)
+pub export_of_fault : (w : World) (names : List (List ℕ)) (asked : Asked) (layout : Layout) (known : Option (List ℕ)) (fault : TheMapFault)
     → Does w names None (IsReadMap layout known) (StopsRecords layout known) (Ok (Err fault))
-    → Does w names (Some name) (IsSaid (ExportAnswers w layout known name)) (StopsRecords layout known) (Ok (answer_of (Verdict (MapFault fault))))
-export_of_fault w names name layout known fault first =
-    does_read w names (IsReadMap layout known) (StopsRecords layout known) (Some name) (Err fault) first (IsSaid (ExportAnswers w layout known name)) (answer_of (Verdict (MapFault fault)))
-    (inr (tells_fault layout known (λ fault. ⊤) fault first.answered, none_made w (Some name) first.keeps), tt)
+    → Does w names (Some asked.name) (IsSaid (ExportAnswers w layout known asked)) (StopsRecords layout known) (Ok (answer_of (Verdict (MapFault fault))))
+export_of_fault w names asked layout known fault first =
+    does_read w names (IsReadMap layout known) (StopsRecords layout known) (Some asked.name) (Err fault) first (IsSaid (ExportAnswers w layout known asked)) (answer_of (Verdict (MapFault fault)))
+    (inr (tells_fault layout known (λ fault. ⊤) fault first.answered, none_made w (Some asked.name) first.keeps), tt)
 
-module _ (u v after : Under) (l m q : Log) (k : Bool) (names : List (List ℕ)) (name : List ℕ) (layout : Layout) (known : Option (List ℕ)) (map : TheMap)
+module _ (u v after : Under) (l m q : Log) (k : Bool) (names : List (List ℕ)) (asked : Asked) (layout : Layout) (known : Option (List ℕ)) (map : TheMap)
     (first : Does (record { before = u; after = v; log = l; logged = m; knows = k }) names None (IsReadMap layout known) (StopsRecords layout known) (Ok (Ok map))) where
   -- what is answered of their map is answered of them
-  said_of : (answer : Answer Said) → IsExportedOf (record { before = v; after = after; log = m; logged = q; knows = k }) name map answer
-      → IsSaid (ExportAnswers (record { before = u; after = after; log = l; logged = q; knows = k }) layout known name) answer
+  said_of : (answer : Answer Said) → IsExportedOf (record { before = v; after = after; log = m; logged = q; knows = k }) asked map answer
+      → IsSaid (ExportAnswers (record { before = u; after = after; log = l; logged = q; knows = k }) layout known asked) answer
   said_of answer so =
-      subst (IsSaid (ExportAnswers (record { before = u; after = after; log = l; logged = q; knows = k }) layout known name)) (sym so.is) (
+      subst (IsSaid (ExportAnswers (record { before = u; after = after; log = l; logged = q; knows = k }) layout known asked)) (sym so.is) (
         inl (record {
           map = map;
           drawn = first.answered;
@@ -84,9 +85,9 @@ module _ (u v after : Under) (l m q : Log) (k : Bool) (names : List (List ℕ)) 
 
   -- they were read, and then a file was made of their map, or none
   pub export_of_read : (r : Result (Answer Said) Stop)
-      → Does (record { before = v; after = after; log = m; logged = q; knows = k }) [] (Some name) (IsExportedOf (record { before = v; after = after; log = m; logged = q; knows = k }) name map) StopsNever r
-      → Does (record { before = u; after = after; log = l; logged = q; knows = k }) names (Some name) (IsSaid (ExportAnswers (record { before = u; after = after; log = l; logged = q; knows = k }) layout known name)) (StopsRecords layout known) r
+      → Does (record { before = v; after = after; log = m; logged = q; knows = k }) [] (Some asked.name) (IsExportedOf (record { before = v; after = after; log = m; logged = q; knows = k }) asked map) StopsNever r
+      → Does (record { before = u; after = after; log = l; logged = q; knows = k }) names (Some asked.name) (IsSaid (ExportAnswers (record { before = u; after = after; log = l; logged = q; knows = k }) layout known asked)) (StopsRecords layout known) r
   export_of_read r second =
-      does_then u v after l m q k names (Some name) (IsReadMap layout known) (StopsRecords layout known) (Ok map) first
-      (IsExportedOf (record { before = v; after = after; log = m; logged = q; knows = k }) name map)
-      (IsSaid (ExportAnswers (record { before = u; after = after; log = l; logged = q; knows = k }) layout known name)) StopsNever r second said_of (λ s never. absurd never)
+      does_then u v after l m q k names (Some asked.name) (IsReadMap layout known) (StopsRecords layout known) (Ok map) first
+      (IsExportedOf (record { before = v; after = after; log = m; logged = q; knows = k }) asked map)
+      (IsSaid (ExportAnswers (record { before = u; after = after; log = l; logged = q; knows = k }) layout known asked)) StopsNever r second said_of (λ s never. absurd never)

@@ -12,7 +12,7 @@ use Rattle.tl_list_text.specs.declared.listing.Listing.TheVariants.{Sound, Refus
 abbrev pub listed_faults : Listing → List MapFault
 listed_faults (Sound report) = []
 listed_faults (Refused list) = []
-listed_faults (Faults faults points_left) = faults.items
+listed_faults (Faults faults touched) = faults.items
 
 -- the first of refusals
 abbrev pub first_refused : List Refusal → Stop
@@ -33,4 +33,4 @@ first_fault (Face fault ∷ rest) = Err stop.Memory
 abbrev pub first_listed : Listing → Result MapFault Stop
 first_listed (Sound report) = Err stop.Memory
 first_listed (Refused list) = Err (first_refused list.items)
-first_listed (Faults faults points_left) = first_fault faults.items
+first_listed (Faults faults touched) = first_fault faults.items

@@ -13,7 +13,7 @@ use Rattle.tigertopo_program.specs.declared.draw.subject.Subject.{Subject}
 
 -- these are all faults of a map, and there are none where it keeps what is asked of it; `faces` says whether faces are asked for
 abbrev pub AreFaultsOf : (faces : Bool) → TheMap → List MapFault → Type 0
-AreFaultsOf faces m faults = ((faults ≡ []) × IsSoundFor faces m) ⊎ ((points_left : Bool) × AreFaultsFor faces m faults points_left)
+AreFaultsOf faces m faults = ((faults ≡ []) × IsSoundFor faces m) ⊎ ((touched : ℕ) × AreFaultsFor faces m faults touched)
 
 -- the faults that a picture is to show: all faults of the map, or none where they aren't asked for
 abbrev pub AreToShow : (faces : Bool) → Bool → TheMap → List MapFault → Type 0

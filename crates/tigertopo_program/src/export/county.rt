@@ -1,6 +1,6 @@
 //! Counties that are exported.
 
-ghost use Rattle.std.specs.Prelude.{◌≡◌, [], Some, map as map_list, string_bytes};
+ghost use Rattle.std.specs.Prelude.{◌≡◌, [], Some, map as map_list, option_map, slice_get, string_bytes};
 ghost use Rattle.tl_record.specs.Layout.{layout_with};
 ghost use Rattle.tigertopo_files.specs.Files.{IsFree};
 ghost use Rattle.tigertopo_files.specs.World.{Does, world};
@@ -11,7 +11,7 @@ ghost use Rattle.tigertopo_geojson.specs.Holes.{AreShapes};
 ghost use Rattle.tigertopo_outcome.specs.Answers.{IsSaid};
 ghost use Rattle.tigertopo_files.specs.Reading.{text_under};
 ghost use Rattle.tigertopo_outcome.specs.Records.{StopsNever, StopsRecords};
-ghost use Rattle.tigertopo_program.specs.Export.Exports.{ExportAnswers, IsExportedOf, counts_of};
+ghost use Rattle.tigertopo_program.specs.Export.Exports.{ExportAnswers, IsExportedOf, asked_of, counts_of};
 
 use std::alloc::Global;
 use std::hash::RandomState;
@@ -21,13 +21,15 @@ use tigertopo_outcome::outcome::{Exported, Outcome};
 use tigertopo_outcome::reading::over_records;
 use tigertopo_outcome::records::MapOf;
 use tigertopo_outcome::said::{Answer, Said};
+use tigertopo_words::Layer;
 use tl_build::find_walks;
 use tl_cert_output::Stop;
 use tl_map_county::Map;
 use tl_record::Options;
 
-/// Exports the map of the records in the files of these names as GeoJSON, to a file of the name `made`, which it may take. The map need
-/// not be sound: of one that isn't there are no polygons, and the answer says so. The file takes its name when it is whole.
+/// Exports the map of the records in the files of these names as GeoJSON, or one layer of it, to a file of the name `made`, which it may
+/// take. The map need not be sound: of one that isn't there are no polygons, and the answer says so. The file takes its name when it
+/// is whole.
 pub fn export<F: FileSystem>(
     files: &mut F,
     alloc: Global,
@@ -35,15 +37,17 @@ pub fn export<F: FileSystem>(
     options: Options,
     names: &[String],
     made: &String,
+    layer: Option<Layer>,
 ) -> Result<Answer<Said>, Stop>
     requires { IsFree (F.under files.old) (string_bytes made.now) (map_list string_bytes names.now) Collection }
     ensures { let w = world F.under F.log F.knows files.old files.new in
         let known = text_under (F.under files.old) (map_list string_bytes names.now) in
+        let asked = asked_of (map_list string_bytes names.now) (string_bytes made.now) layer in
         Does w (map_list string_bytes names.now) (Some (string_bytes made.now))
-        (IsSaid (ExportAnswers w (layout_with options) known (string_bytes made.now))) (StopsRecords (layout_with options) known) result }
+        (IsSaid (ExportAnswers w (layout_with options) known asked)) (StopsRecords (layout_with options) known) result }
 {
     match over_records(files, alloc, hasher, names, &MapOf { options })? {
-        Ok(map) => export_map(files, alloc, names, made, &map),
+        Ok(map) => export_map(files, alloc, names, made, layer, &map),
         Err(fault) => Ok(Answer::of(Outcome::fault(fault))),
     }
 }
@@ -54,15 +58,17 @@ fn export_map<F: FileSystem>(
     alloc: Global,
     names: &[String],
     made: &String,
+    layer: Option<Layer>,
     map: &Map,
 ) -> Result<Answer<Said>, Stop>
     requires { IsFree (F.under files.old) (string_bytes made.now) (map_list string_bytes names.now) Collection }
     ensures { let w = world F.under F.log F.knows files.old files.new in
-        Does w [] (Some (string_bytes made.now)) (IsExportedOf w (string_bytes made.now) map.now) StopsNever result }
+        let asked = asked_of (map_list string_bytes names.now) (string_bytes made.now) layer in
+        Does w [] (Some (string_bytes made.now)) (IsExportedOf w asked map.now) StopsNever result }
 {
     match find_walks(alloc, map)? {
-        Some(walks) => export_walked(files, alloc, names, made, map, &walks),
-        None => export_faulty(files, alloc, names, made, map),
+        Some(walks) => export_walked(files, alloc, names, made, layer, map, &walks),
+        None => export_faulty(files, alloc, names, made, layer, map),
     }
 }
 
@@ -72,6 +78,7 @@ fn export_walked<F: FileSystem>(
     alloc: Global,
     names: &[String],
     made: &String,
+    layer: Option<Layer>,
     map: &Map,
     walks: &[Vec<u32>],
 ) -> Result<Answer<Said>, Stop>
@@ -79,10 +86,11 @@ fn export_walked<F: FileSystem>(
     requires sound { IsSound map.now }
     requires walks { AreWalks map.now.chains (map_list (λ w. w.items) walks.now) }
     ensures { let w = world F.under F.log F.knows files.old files.new in
-        Does w [] (Some (string_bytes made.now)) (IsExportedOf w (string_bytes made.now) map.now) StopsNever result }
+        let asked = asked_of (map_list string_bytes names.now) (string_bytes made.now) layer in
+        Does w [] (Some (string_bytes made.now)) (IsExportedOf w asked map.now) StopsNever result }
 {
     match Shapes::new(alloc, map, walks) {
-        Ok(shapes) => export_sound(files, alloc, names, made, map, walks, &shapes),
+        Ok(shapes) => export_sound(files, alloc, names, made, layer, map, walks, &shapes),
         Err(_) => Err(Stop::Memory),
     }
 }
@@ -93,6 +101,7 @@ fn export_sound<F: FileSystem>(
     alloc: Global,
     names: &[String],
     made: &String,
+    layer: Option<Layer>,
     map: &Map,
     walks: &[Vec<u32>],
     shapes: &Shapes,
@@ -102,9 +111,17 @@ fn export_sound<F: FileSystem>(
     requires walks { AreWalks map.now.chains (map_list (λ w. w.items) walks.now) }
     requires shapes { AreShapes map.now (map_list (λ w. w.items) walks.now) shapes.now }
     ensures { let w = world F.under F.log F.knows files.old files.new in
-        Does w [] (Some (string_bytes made.now)) (IsExportedOf w (string_bytes made.now) map.now) StopsNever result }
+        let asked = asked_of (map_list string_bytes names.now) (string_bytes made.now) layer in
+        Does w [] (Some (string_bytes made.now)) (IsExportedOf w asked map.now) StopsNever result }
 {
-    let text = CountyTextWith { map, walks, shapes };
+    let file = first_name(names);
+    let text = CountyTextWith {
+        map,
+        layer,
+        file,
+        walks,
+        shapes,
+    };
     make_file(
         files,
         alloc,
@@ -122,14 +139,17 @@ fn export_faulty<F: FileSystem>(
     alloc: Global,
     names: &[String],
     made: &String,
+    layer: Option<Layer>,
     map: &Map,
 ) -> Result<Answer<Said>, Stop>
     requires free { IsFree (F.under files.old) (string_bytes made.now) (map_list string_bytes names.now) Collection }
     requires faulty { ¬ IsSound map.now }
     ensures { let w = world F.under F.log F.knows files.old files.new in
-        Does w [] (Some (string_bytes made.now)) (IsExportedOf w (string_bytes made.now) map.now) StopsNever result }
+        let asked = asked_of (map_list string_bytes names.now) (string_bytes made.now) layer in
+        Does w [] (Some (string_bytes made.now)) (IsExportedOf w asked map.now) StopsNever result }
 {
-    let text = CountyText { map };
+    let file = first_name(names);
+    let text = CountyText { map, layer, file };
     make_file(
         files,
         alloc,
@@ -139,6 +159,16 @@ fn export_faulty<F: FileSystem>(
         &text,
     )?;
     Ok(Answer::of(Outcome::Exported(counts(map, None))))
+}
+
+// The name that stands for all files: that of the first.
+fn first_name(names: &[String]) -> Option<&str>
+    ensures { option_map (λ name. name.now) result ≡ slice_get (map_list string_bytes names.now) 0 }
+{
+    match names {
+        [first, ..] => Some(first.as_str()),
+        [] => None,
+    }
 }
 
 // The numbers of a map that was exported, with so many rings.

@@ -89,8 +89,8 @@ fn trouble_hint<F: FileSystem>(
     Ok(Vec::new(alloc))
 }
 
-// The line of a file that can't be opened or read.
-fn trouble_line(alloc: Global, name: &str, words: &str) -> Result<Vec<u8>, AllocError>
+/// The line of a file that can't be opened, read or made.
+pub fn trouble_line(alloc: Global, name: &str, words: &str) -> Result<Vec<u8>, AllocError>
     ensures { IfOk result (λ text. text.items ≡ line_of (trouble_text name.now words.now)) }
 {
     let mut text = Vec::from_slice(alloc, b"  ")?;

@@ -1,5 +1,5 @@
 -- What is told of a map.
-use Rattle.std.specs.Prelude.{◌≡◌, ◌≢◌, ℕ, Bool, true, false, List, [], ◌++◌, map, length}
+use Rattle.std.specs.Prelude.{◌≡◌, ◌≢◌, ℕ, Bool, false, List, [], ◌++◌, map, length, Contains}
 use Rattle.tl_map_county.specs.TheMap.{TheMap}
 use Rattle.tl_check_sides.specs.declared.fault.Disagreement.{Disagreement}
 use Rattle.tl_check_sides.specs.Sides.{SidesAgree}
@@ -7,6 +7,7 @@ use Rattle.tl_check_sides.specs.Walks.{AreWalks}
 use Rattle.tl_check_sides.specs.declared.cells.at_odds.CellsAtOdds.{CellsAtOdds}
 use Rattle.tl_check_inside.specs.declared.misplaced.Misplaced.{Misplaced}
 use Rattle.tl_list_map.specs.Nodes.Disagreements.{AreAllDisagreements}
+use Rattle.tl_list_map.specs.Nodes.Touched.{AreAllTouched}
 use Rattle.tl_list_map.specs.Nodes.CellOdds.{AreAllCellsAtOdds}
 use Rattle.tl_list_map.specs.Points.AllMisplaced.{AreAllMisplaced}
 use Rattle.tl_check_verdict.specs.declared.fault.MapFault.{MapFault}
@@ -22,41 +23,31 @@ use Rattle.tl_list_text.specs.MapFaults.{side_fault, AreMapFaults, AreFaultsFor}
 abbrev pub IsListingOfMap : TheMap → Listing → Type 0
 IsListingOfMap m (Sound report) = IsSound m × IsReport m report
 IsListingOfMap m (Refused list) = ⊥
-IsListingOfMap m (Faults faults points_left) = (faults.items ≢ []) × AreMapFaults m faults.items points_left
+IsListingOfMap m (Faults faults touched) = (faults.items ≢ []) × AreMapFaults m faults.items touched
 
 -- the same where faces may be asked for
 abbrev pub IsListingFor : (faces : Bool) → TheMap → Listing → Type 0
 IsListingFor faces m (Sound report) = IsSoundFor faces m × IsReport m report
 IsListingFor faces m (Refused list) = ⊥
-IsListingFor faces m (Faults faults points_left) = (faults.items ≢ []) × AreFaultsFor faces m faults.items points_left
+IsListingFor faces m (Faults faults touched) = (faults.items ≢ []) × AreFaultsFor faces m faults.items touched
 
 -- some fault is true of the map
 abbrev pub IsFaulty : TheMap → Type 0
 IsFaulty m = (fault : MapFault) × IsTrueOfMap false m fault
 
--- sides differ exactly where there is one to tell
-abbrev pub Differ : Bool → List Disagreement → Type 0
-Differ true sides = sides ≢ []
-Differ false sides = sides ≡ []
-
--- to the faults are appended all that tells whether sides and zero-cell ids agree
-pub record AddsAgreement (m : TheMap) (differ : Bool) (old new : List MapFault) : Type 0 where
+-- to the faults are appended all that tells whether sides and zero-cell ids agree; these polygons are touched
+pub record AddsAgreement (m : TheMap) (touched : List ℕ) (old new : List MapFault) : Type 0 where
   pub sides : List Disagreement
   pub cells : List CellsAtOdds
   pub all_sides : AreAllDisagreements m.chains sides
   pub all_cells : AreAllCellsAtOdds m.chains cells
-  pub is : Differ differ sides
+  pub all_touched : AreAllTouched m.chains touched
   pub are : new ≡ old ++ map (side_fault m.chains) sides ++ map fault.Cell cells
 
--- all that is wrong with where polygons' points lie, unless they are left
-abbrev pub AreLookedAt : TheMap → Bool → List Misplaced → Type 0
-AreLookedAt m true points = points ≡ []
-AreLookedAt m false points = AreAllMisplaced m points
-
--- that is appended to the faults
-pub record AddsPoints (m : TheMap) (left : Bool) (old new : List MapFault) : Type 0 where
+-- all that is wrong with where polygons' points lie is appended, but what hangs on hidden polygons
+pub record AddsPoints (Hidden : ℕ → Type 0) (m : TheMap) (old new : List MapFault) : Type 0 where
   pub points : List Misplaced
-  pub all_points : AreLookedAt m left points
+  pub all_points : AreAllMisplaced Hidden m points
   pub are : new ≡ old ++ map fault.PolygonPoint points
 
 -- all zero-cell ids that are at odds are appended
@@ -65,11 +56,11 @@ pub record AddsCells (m : TheMap) (old new : List MapFault) : Type 0 where
   pub all_cells : AreAllCellsAtOdds m.chains cells
   pub are : new ≡ old ++ map fault.Cell cells
 
--- all that is wrong but meets is appended, unless points are left
-pub record AddsRest (m : TheMap) (left : Bool) (old new : List MapFault) : Type 0 where
+-- all that is wrong but meets is appended; these polygons are touched
+pub record AddsRest (m : TheMap) (touched : List ℕ) (old new : List MapFault) : Type 0 where
   pub between : List MapFault
-  pub agreement : AddsAgreement m left old between
-  pub points : AddsPoints m left between new
+  pub agreement : AddsAgreement m touched old between
+  pub points : AddsPoints (Contains touched) m between new
 
 -- sides agree, and the map's boundaries have so many rings
 pub record HasRings (m : TheMap) (rings : ℕ) : Type 0 where

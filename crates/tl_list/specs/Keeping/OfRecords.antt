@@ -1,5 +1,5 @@
 -- What is told of records that are read.
-use Rattle.std.specs.Prelude.{◌≡◌, ◌≢◌, ℕ, false, List, [], map, None, Bool}
+use Rattle.std.specs.Prelude.{◌≡◌, ◌≢◌, ℕ, List, [], map, None, Bool}
 use Rattle.tl_record.specs.declared.stop.Cause.{Cause}
 use Rattle.tl_record.specs.Records.{Records}
 use Rattle.tl_list_records.specs.Refusals.Listing.{ListsAll}
@@ -20,8 +20,8 @@ use Rattle.tl_list.specs.Findings.{IsMapIfAny}
 abbrev pub IsListingOfRecords : (faces : Bool) → Records → Listing → Type 0
 IsListingOfRecords faces all (Sound report) = HaveMap all (λ m. IsSoundFor faces m × IsReport m report)
 IsListingOfRecords faces all (Refused list) = ⊥
-IsListingOfRecords faces all (Faults faults points_left) =
-    (faults.items ≢ []) × (all.refusal ≡ None) × AreFaults faces all faults.items points_left
+IsListingOfRecords faces all (Faults faults touched) =
+    (faults.items ≢ []) × (all.refusal ≡ None) × AreFaults faces all faults.items touched
 
 -- what is listed of records, none of whose lines is refused, and their map
 pub record AreFindingsOfRecords (faces : Bool) (all : Records) (listed : Findings) : Type 0 where
@@ -32,7 +32,7 @@ pub record AreFindingsOfRecords (faces : Bool) (all : Records) (listed : Finding
 abbrev pub IsListOf : List RecordFault → Listing → Type 0
 IsListOf told (Sound report) = ⊥
 IsListOf told (Refused list) = ⊥
-IsListOf told (Faults faults points_left) = (faults.items ≡ map fault.Records told) × (points_left ≡ false)
+IsListOf told (Faults faults touched) = (faults.items ≡ map fault.Records told) × (touched ≡ 0)
 
 -- all faults of the records are listed, and no map
 pub record AreTold (rs : List Record) (listed : Findings) : Type 0 where
@@ -45,4 +45,4 @@ pub record AreTold (rs : List Record) (listed : Findings) : Type 0 where
 abbrev pub ListsRefusals : Listing → List (ℕ × Cause) → Type 0
 ListsRefusals (Sound report) refusals = ⊥
 ListsRefusals (Refused list) refusals = ListsAll refusals list.items
-ListsRefusals (Faults faults points_left) refusals = ⊥
+ListsRefusals (Faults faults touched) refusals = ⊥

@@ -8,7 +8,7 @@ use Rattle.std.proofs.lemmas.List.Elements.{All-append, All-weaker, All-nil, Con
 use Rattle.tl_map_county.specs.TheMap.{TheMap}
 use Rattle.tl_check_inside.specs.declared.misplaced.Misplaced.{Misplaced}
 use Rattle.tl_list_map.specs.Points.AllMisplaced.{FaultPlace, ComesBefore, IsTrueAt, AreTrueAt}
-use Rattle.tl_list_map.specs.Points.Keeping.Parts.{AreFaultsIn, HasPart, IsBefore, IsOfPolygon}
+use Rattle.tl_list_map.specs.Points.Keeping.Parts.{AreFaultsIn, HasPart, IsBefore, IsOfPolygon, AndSettled}
 
 pub told_append : (m : TheMap) (places others : List FaultPlace) (found more : List Misplaced) → AreTrueAt m places found → AreTrueAt m others more →
     AreTrueAt m (places ++ others) (found ++ more)
@@ -51,22 +51,22 @@ joined m In First Second found more between first_in second_in split a b = recor
 }
 
 -- no polygon comes before the first
-pub none_yet : (m : TheMap) → AreFaultsIn m (IsBefore 0) []
-none_yet m = record {
+pub none_yet : (H : ℕ → Type 0) (m : TheMap) → AreFaultsIn m (AndSettled H (IsBefore 0)) []
+none_yet H m = record {
   places = [];
   told = tt;
-  within = All-nil (IsBefore 0);
-  whole = λ at fault lt told. absurd (omega (arith, lt));
+  within = All-nil (AndSettled H (IsBefore 0));
+  whole = λ at fault inside told. absurd (let lt = inside.0 in omega (arith, lt));
   in_order = λ i j d lt within. absurd (omega (arith, within));
 }
 
 -- those of one polygon more
-pub one_more : (m : TheMap) (p : ℕ) (old new : List Misplaced) → AreFaultsIn m (IsBefore p) old → HasPart m (IsOfPolygon p) old new →
-    AreFaultsIn m (IsBefore (p + 1)) new
-one_more m p old new before h =
-    rw h.are (joined m (IsBefore (p + 1)) (IsBefore p) (IsOfPolygon p) old h.faults
-    (λ f g lt is. inl (omega (arith, lt, is)))
-    (λ f lt. omega (arith, lt))
-    (λ f is. omega (arith, is))
-    (λ f fault lt told. elim (cases_lt f.polygon p) [ inl low ↦ inl low | inr high ↦ inr (omega (arith, lt, high)) ])
+pub one_more : (H : ℕ → Type 0) (m : TheMap) (p : ℕ) (old new : List Misplaced) → AreFaultsIn m (AndSettled H (IsBefore p)) old →
+    HasPart m (AndSettled H (IsOfPolygon p)) old new → AreFaultsIn m (AndSettled H (IsBefore (p + 1))) new
+one_more H m p old new before h =
+    rw h.are (joined m (AndSettled H (IsBefore (p + 1))) (AndSettled H (IsBefore p)) (AndSettled H (IsOfPolygon p)) old h.faults
+    (λ f g low here. inl (let lt = low.0 in let is = here.0 in omega (arith, lt, is)))
+    (λ f low. (let lt = low.0 in omega (arith, lt), low.1))
+    (λ f here. (let is = here.0 in omega (arith, is), here.1))
+    (λ f fault low told. let lt = low.0 in elim (cases_lt f.polygon p) [ inl less ↦ inl (less, low.1) | inr high ↦ inr (omega (arith, lt, high), low.1) ])
     before h.part)

@@ -19,7 +19,7 @@ use Rattle.tl_check_inside.specs.Suspects.{AreSuspects}
 use Rattle.tl_check_inside.specs.declared.misplaced.Misplaced.{Misplaced}
 use Rattle.tl_list_map.specs.Points.AllMisplaced.{AreAllMisplaced}
 use Rattle.tl_list_map.specs.Points.Keeping.Known.{TellAt}
-use Rattle.tl_list_map.specs.Points.Keeping.Parts.{AreFaultsIn, IsOfAny}
+use Rattle.tl_list_map.specs.Points.Keeping.Parts.{AreFaultsIn, IsOfAny, AndSettled}
 use Rattle.tl_list_map.proofs.PointsLemmas.Suspected.{all_among}
 use Rattle.tl_list_map.specs.Points.Keeping.Listed.{AreListed}
 
@@ -76,10 +76,10 @@ all_sorted n suspects sorted polygons same known back =
     subst (All (λ p. p < n)) (sym same)
     (All-weaker (Contains sorted) (λ p. p < n) (λ x among. All-contains (λ p. p < n) suspects x known (back x among)) sorted (All-contains_itself sorted))
 
-pub all_answered : (m : TheMap) (suspects sorted polygons : List ℕ) (found : Result (Vec Misplaced Global) Memory) → polygons ≡ sorted → AreSuspects m suspects →
+pub all_answered : (H : ℕ → Type 0) (m : TheMap) (suspects sorted polygons : List ℕ) (found : Result (Vec Misplaced Global) Memory) → polygons ≡ sorted → AreSuspects m suspects →
     ((x : ℕ) → Contains suspects x → Contains sorted x) → ((x : ℕ) → Contains sorted x → Contains suspects x) →
-    IfOk found (λ faults. AreFaultsIn m (IsOfAny polygons) faults.items) → IfOk found (λ faults. AreAllMisplaced m faults.items)
-all_answered m suspects sorted polygons (Ok faults) same are there back told =
-    all_among m suspects sorted (length sorted) faults.items (omega arith) are there back
-    (subst (λ l. AreFaultsIn m (IsOfAny l) faults.items) (same ∙ sym (take_all (length sorted) sorted (omega arith))) told)
-all_answered m suspects sorted polygons (Err error) same are there back told = tt
+    IfOk found (λ faults. AreFaultsIn m (AndSettled H (IsOfAny polygons)) faults.items) → IfOk found (λ faults. AreAllMisplaced H m faults.items)
+all_answered H m suspects sorted polygons (Ok faults) same are there back told =
+    all_among H m suspects sorted (length sorted) faults.items (omega arith) are there back
+    (subst (λ l. AreFaultsIn m (AndSettled H (IsOfAny l)) faults.items) (same ∙ sym (take_all (length sorted) sorted (omega arith))) told)
+all_answered H m suspects sorted polygons (Err error) same are there back told = tt

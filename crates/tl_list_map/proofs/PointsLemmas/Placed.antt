@@ -9,9 +9,10 @@ use Rattle.tl_check_inside.specs.declared.misplaced.Misplaced.{Misplaced}
 use Rattle.tl_check_inside.specs.declared.misplaced.Misplaced.TheVariants.{OnChain, Outside, InOther}
 use Rattle.tl_check_inside.specs.Inside.{is_polygon, IsPolygonCount}
 use Rattle.tl_check_inside.specs.Placed.{ArePlaced, IsTrueMisplaced}
-use Rattle.tl_list_map.specs.Points.AllMisplaced.{AreAllMisplaced}
+use Rattle.tl_list_map.specs.Points.AllMisplaced.{AreAllMisplaced, NoneHidden}
 use Rattle.tl_check_inside.proofs.Counting.{one_count}
 use Rattle.tl_list_map.proofs.PointsLemmas.Crossing.{polygon_count}
+use Rattle.tl_list_map.proofs.PointsLemmas.Wholes.{place_of}
 
 -- where the points are placed, nothing is true
 none_true : (m : TheMap) (fault : Misplaced) → ArePlaced m → IsTrueMisplaced m fault → ⊥
@@ -20,7 +21,7 @@ none_true m (Outside key) placed t = t.outside (placed t.p (record { key = key; 
 none_true m (InOther key other) placed t = t.within ((placed t.p (record { key = key; point = t.point }) t.of).clear t.q
     (slice_get_within m.polygons t.q (record { key = other; point = t.other_point }) t.other_of) t.two)
 
-empty : (m : TheMap) (found : List Misplaced) → AreAllMisplaced m found → ArePlaced m → found ≡ []
+empty : (m : TheMap) (found : List Misplaced) → AreAllMisplaced NoneHidden m found → ArePlaced m → found ≡ []
 empty m [] all placed = refl
 empty m (fault ∷ found) all placed = absurd (none_true m fault placed (all.each 0 fault (omega arith)))
 
@@ -52,11 +53,12 @@ placed m never p polygon is = record {
       }));
 }
 
-pub placed_where_none : (m : TheMap) (found : List Misplaced) → AreAllMisplaced m found → ArePlaced m ↔ (found ≡ [])
+pub placed_where_none : (m : TheMap) (found : List Misplaced) → AreAllMisplaced NoneHidden m found → ArePlaced m ↔ (found ≡ [])
 placed_where_none m found all = (
   empty m found all,
   λ none. placed m (λ fault true_one.
-      let named = subst (λ fs. Contains fs fault) none (all.every fault true_one) in
+      let at = place_of m fault true_one in
+      let named = subst (λ fs. Contains fs fault) none (all.every at.at fault (record { own = λ e h. h; other = λ e h. h }) at.is) in
       let lt = named.1 in
       omega (arith, lt)),
 )

@@ -6,7 +6,7 @@ use Rattle.std.specs.Bool.{IsTrue}
 use Rattle.std.specs.List.{AllPairs}
 use Rattle.std.specs.List.Sorted.{IsStrictlyIncreasing}
 use Rattle.std.proofs.lemmas.List.{map-append, take_more, take_all, length-map, get_or-map, append-nil, append_assoc}
-use Rattle.std.proofs.lemmas.List.Elements.{All-nil, All-cons}
+use Rattle.std.proofs.lemmas.List.Elements.{All-nil, All-cons, All-head, All-tail}
 use Rattle.std.proofs.lemmas.List.Kept.{AllPairs-from_increasing}
 use Rattle.std.proofs.lemmas.Option.{slice_get_within}
 use Rattle.tl_geom.specs.declared.point.Point.{Point}
@@ -19,9 +19,9 @@ use Rattle.tl_check_inside.specs.declared.misplaced.Misplaced.{Misplaced}
 use Rattle.tl_check_inside.specs.declared.misplaced.Misplaced.TheVariants.{OnChain, Outside, InOther}
 use Rattle.tl_check_inside.specs.Inside.{IsInside, IsClear}
 use Rattle.tl_check_inside.specs.Places.{IsHeldBy}
-use Rattle.tl_list_map.specs.Points.AllMisplaced.{FaultPlace, ComesBefore, IsTrueAt, AreTrueAt}
+use Rattle.tl_list_map.specs.Points.AllMisplaced.{FaultPlace, ComesBefore, IsTrueAt, AreTrueAt, IsSettled}
 use Rattle.tl_list_map.specs.Points.Keeping.Listed.{AreListed}
-use Rattle.tl_list_map.specs.Points.Keeping.Parts.{AreFaultsIn, HasPart, HasRow, IsOf, IsOfPolygon, IsIn, row_places}
+use Rattle.tl_list_map.specs.Points.Keeping.Parts.{AreFaultsIn, HasPart, HasRow, IsOf, IsOfPolygon, IsIn, AndSettled, row_places}
 use Rattle.tl_list_map.proofs.PointsLemmas.Joining.{told_append, joined}
 
 abbrev pub place : (p kind n : ℕ) → FaultPlace
@@ -81,9 +81,12 @@ module _ (m : TheMap) (p : ℕ) (polygon : Polygon) (is : slice_get m.polygons p
     within = h.within;
   }
 
-row_within : (p kind : ℕ) (others : List ℕ) → All (IsOf p kind) (row_places p kind others)
-row_within p kind [] = All-nil (IsOf p kind)
-row_within p kind (n ∷ others) = All-cons (IsOf p kind) (place p kind n) (row_places p kind others) (refl, refl) (row_within p kind others)
+row_within : (H P : ℕ → Type 0) (p kind : ℕ) (others : List ℕ) → ((n : ℕ) → P n → IsSettled H (place p kind n)) → All P others →
+    All (AndSettled H (IsOf p kind)) (row_places p kind others)
+row_within H P p kind [] fits each = All-nil (AndSettled H (IsOf p kind))
+row_within H P p kind (n ∷ others) fits each =
+    All-cons (AndSettled H (IsOf p kind)) (place p kind n) (row_places p kind others) ((refl, refl), fits n (All-head P n others each))
+    (row_within H P p kind others fits (All-tail P n others each))
 
 row_has : (p kind : ℕ) (others : List ℕ) (at : FaultPlace) → at.polygon ≡ p → at.kind ≡ kind → Contains others at.other →
     Contains (row_places p kind others) at
@@ -101,16 +104,18 @@ row_rises p kind others up i j d lt within =
     (inr (refl, inr (refl, AllPairs-from_increasing others up i j 0 lt inner)))
 
 -- those of one kind
-pub row_part : (m : TheMap) (P : ℕ → Type 0) (p kind : ℕ) (others : List ℕ) (faults : List Misplaced) → AreListed P others →
-    ((n : ℕ) (fault : Misplaced) → IsTrueAt m (place p kind n) fault → P n) → AreTrueAt m (row_places p kind others) faults →
-    AreFaultsIn m (IsOf p kind) faults
-row_part m P p kind others faults listed wanted told = record {
+pub row_part : (H : ℕ → Type 0) (m : TheMap) (P : ℕ → Type 0) (p kind : ℕ) (others : List ℕ) (faults : List Misplaced) → AreListed P others →
+    ((n : ℕ) (fault : Misplaced) → IsSettled H (place p kind n) → IsTrueAt m (place p kind n) fault → P n) →
+    ((n : ℕ) → P n → IsSettled H (place p kind n)) → AreTrueAt m (row_places p kind others) faults →
+    AreFaultsIn m (AndSettled H (IsOf p kind)) faults
+row_part H m P p kind others faults listed wanted fits told = record {
   places = row_places p kind others;
   told = told;
-  within = row_within p kind others;
+  within = row_within H P p kind others fits listed.each;
   whole = λ at fault of is.
-      row_has p kind others at of.0 of.1 (listed.complete at.other (wanted at.other fault
-      (subst (λ f. IsTrueAt m f fault) (sym (place_is at p kind of.0 of.1)) is)));
+      let same : place p kind at.other ≡ at = place_is at p kind of.0.0 of.0.1 in
+      row_has p kind others at of.0.0 of.0.1 (listed.complete at.other (wanted at.other fault (subst (IsSettled H) (sym same) of.1)
+      (subst (λ f. IsTrueAt m f fault) (sym same) is)));
   in_order = row_rises p kind others listed.rising;
 }
 
@@ -156,36 +161,39 @@ outside_listed {P} false is = record {
   complete = λ x h. absurd (let t : IsTrue false = is.1 h.1 in cc);
 }
 
--- all that is wrong with a polygon's point
-pub rows_joined : (m : TheMap) (p : ℕ) (polygon : Polygon) (held : List ℕ) (out : Bool) (odd : List ℕ) (old first second new : List Misplaced) →
+-- all that is wrong with a polygon's point, but what hangs on hidden polygons
+pub rows_joined : (H : ℕ → Type 0) (m : TheMap) (p : ℕ) (polygon : Polygon) (held : List ℕ) (out : Bool) (odd : List ℕ) (old first second new : List Misplaced) →
     slice_get m.polygons p ≡ Some polygon → AreListed (IsHeldBy m.chains polygon.point) held →
-    (IsTrue out ↔ (¬ IsInside m.chains polygon.point p)) → AreListed (IsIn m polygon.point p) odd → HasRow m p 0 held old first →
-    HasRow m p 1 (cond out (0 ∷ []) []) first second → HasRow m p 2 odd second new → HasPart m (IsOfPolygon p) old new
-rows_joined m p polygon held out odd old first second new is held_are out_is odd_are a b c = record {
+    (IsTrue out ↔ ((¬ IsInside m.chains polygon.point p) × (¬ H p))) → AreListed (λ n. IsIn m polygon.point p n × (¬ H n)) odd → HasRow m p 0 held old first →
+    HasRow m p 1 (cond out (0 ∷ []) []) first second → HasRow m p 2 odd second new → HasPart m (AndSettled H (IsOfPolygon p)) old new
+rows_joined H m p polygon held out odd old first second new is held_are out_is odd_are a b c = record {
   faults = a.faults ++ (b.faults ++ c.faults);
   are = c.are ∙ ap (λ fs. fs ++ c.faults) (b.are ∙ ap (λ fs. fs ++ b.faults) a.are) ∙ append_assoc (old ++ a.faults) b.faults c.faults ∙
       append_assoc old a.faults (b.faults ++ c.faults);
   part =
-      joined m (IsOfPolygon p) (IsOf p 0) Later a.faults (b.faults ++ c.faults)
-      (λ f g u v. inr (u.0 ∙ sym v.0, inl (let k = u.1 in let l = v.1 in omega (arith, k, l))))
-      (λ f u. u.0) (λ f u. u.0)
+      joined m (AndSettled H (IsOfPolygon p)) (AndSettled H (IsOf p 0)) (AndSettled H Later) a.faults (b.faults ++ c.faults)
+      (λ f g u v. inr (u.0.0 ∙ sym v.0.0, inl (let k = u.0.1 in let l = v.0.1 in omega (arith, k, l))))
+      (λ f u. (u.0.0, u.1)) (λ f u. (u.0.0, u.1))
       (λ f fault u t. elim (kinds m f fault t) [
-        | inl k ↦ inl (u, k)
-        | inr (inl k) ↦ inr (u, omega (arith, k))
-        | inr (inr k) ↦ inr (u, omega (arith, k))
+        | inl k ↦ inl ((u.0, k), u.1)
+        | inr (inl k) ↦ inr ((u.0, omega (arith, k)), u.1)
+        | inr (inr k) ↦ inr ((u.0, omega (arith, k)), u.1)
       ])
-      (row_part m (IsHeldBy m.chains polygon.point) p 0 held a.faults held_are (held_at m p polygon is) a.told)
-      (joined m Later (IsOf p 1) (IsOf p 2) b.faults c.faults
-      (λ f g u v. inr (u.0 ∙ sym v.0, inl (let k = u.1 in let l = v.1 in omega (arith, k, l))))
-      (λ f u. (u.0, let k = u.1 in omega (arith, k))) (λ f u. (u.0, let k = u.1 in omega (arith, k)))
+      (row_part H m (IsHeldBy m.chains polygon.point) p 0 held a.faults held_are (λ n fault s t. held_at m p polygon is n fault t)
+      (λ n h. record { own = λ k. absurd (omega (arith, k)); other = λ k. absurd (omega (arith, k)) }) a.told)
+      (joined m (AndSettled H Later) (AndSettled H (IsOf p 1)) (AndSettled H (IsOf p 2)) b.faults c.faults
+      (λ f g u v. inr (u.0.0 ∙ sym v.0.0, inl (let k = u.0.1 in let l = v.0.1 in omega (arith, k, l))))
+      (λ f u. ((u.0.0, let k = u.0.1 in omega (arith, k)), u.1)) (λ f u. ((u.0.0, let k = u.0.1 in omega (arith, k)), u.1))
       (λ f fault u t. elim (kinds m f fault t) [
-        | inl k ↦ absurd (let l = u.1 in omega (arith, k, l))
-        | inr (inl k) ↦ inl (u.0, k)
-        | inr (inr k) ↦ inr (u.0, k)
+        | inl k ↦ absurd (let l = u.0.1 in omega (arith, k, l))
+        | inr (inl k) ↦ inl ((u.0.0, k), u.1)
+        | inr (inr k) ↦ inr ((u.0.0, k), u.1)
       ])
-      (row_part m (λ n. (n ≡ 0) × (¬ IsInside m.chains polygon.point p)) p 1 (cond out (0 ∷ []) []) b.faults (outside_listed out out_is)
-      (outside_at m p polygon is) b.told)
-      (row_part m (IsIn m polygon.point p) p 2 odd c.faults odd_are (in_at m p polygon is) c.told));
+      (row_part H m (λ n. (n ≡ 0) × ((¬ IsInside m.chains polygon.point p) × (¬ H p))) p 1 (cond out (0 ∷ []) []) b.faults (outside_listed out out_is)
+      (λ n fault s t. let o = outside_at m p polygon is n fault t in (o.0, (o.1, s.own refl)))
+      (λ n h. record { own = λ k. h.1.1; other = λ k. absurd (omega (arith, k)) }) b.told)
+      (row_part H m (λ n. IsIn m polygon.point p n × (¬ H n)) p 2 odd c.faults odd_are (λ n fault s t. (in_at m p polygon is n fault t, s.other refl))
+      (λ n h. record { own = λ k. absurd (omega (arith, k)); other = λ k. h.1 }) c.told));
 }
   where
     Later : FaultPlace → Type 0

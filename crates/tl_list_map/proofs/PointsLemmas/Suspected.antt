@@ -12,16 +12,16 @@ use Rattle.tl_check_inside.specs.declared.misplaced.Misplaced.{Misplaced}
 use Rattle.tl_check_inside.specs.declared.misplaced.Misplaced.TheVariants.{OnChain, Outside, InOther}
 use Rattle.tl_list_map.specs.Points.AllMisplaced.{FaultPlace, IsTrueAt, AreAllMisplaced}
 use Rattle.tl_check_inside.specs.Suspects.{AreSuspects}
-use Rattle.tl_list_map.specs.Points.Keeping.Parts.{AreFaultsIn, HasPart, IsBefore, IsOfPolygon, IsOfAny}
+use Rattle.tl_list_map.specs.Points.Keeping.Parts.{AreFaultsIn, HasPart, IsBefore, IsOfPolygon, IsOfAny, AndSettled}
 use Rattle.tl_list_map.proofs.PointsLemmas.Joining.{joined}
 use Rattle.tl_list_map.proofs.PointsLemmas.Wholes.{all_of}
 
-pub none_among : (m : TheMap) → AreFaultsIn m (IsOfAny []) []
-none_among m = record {
+pub none_among : (H : ℕ → Type 0) (m : TheMap) → AreFaultsIn m (AndSettled H (IsOfAny [])) []
+none_among H m = record {
   places = [];
   told = tt;
-  within = All-nil (IsOfAny []);
-  whole = λ at fault inside told. absurd (let lt = inside.1 in omega (arith, lt));
+  within = All-nil (AndSettled H (IsOfAny []));
+  whole = λ at fault inside told. absurd (let lt = inside.0.1 in omega (arith, lt));
   in_order = λ i j d lt within. absurd (omega (arith, within));
 }
 
@@ -37,18 +37,18 @@ below_next polygons k lt up p h =
     subst (λ q. q < slice_index polygons k) is (subst (λ q. get_or polygons h.0 p < q) (get_or_default polygons k p 0 lt) rises)
 
 -- those of one polygon more
-pub one_more_among : (m : TheMap) (polygons : List ℕ) (k : ℕ) (old new : List Misplaced) → k < length polygons → IsStrictlyIncreasing polygons →
-    AreFaultsIn m (IsOfAny (take k polygons)) old → HasPart m (IsOfPolygon (slice_index polygons k)) old new →
-    AreFaultsIn m (IsOfAny (take (k + 1) polygons)) new
-one_more_among m polygons k old new lt up before h =
+pub one_more_among : (H : ℕ → Type 0) (m : TheMap) (polygons : List ℕ) (k : ℕ) (old new : List Misplaced) → k < length polygons → IsStrictlyIncreasing polygons →
+    AreFaultsIn m (AndSettled H (IsOfAny (take k polygons))) old → HasPart m (AndSettled H (IsOfPolygon (slice_index polygons k))) old new →
+    AreFaultsIn m (AndSettled H (IsOfAny (take (k + 1) polygons))) new
+one_more_among H m polygons k old new lt up before h =
     let p : ℕ = slice_index polygons k in
-    rw (h.are, take_more polygons k 0 lt) (joined m (IsOfAny (take k polygons ++ p ∷ [])) (IsOfAny (take k polygons)) (IsOfPolygon p) old h.faults
-    (λ f g first is. inl (let less = below_next polygons k lt up f.polygon first in omega (arith, less, is)))
-    (λ f first. Contains-append_left (take k polygons) (p ∷ []) f.polygon first)
-    (λ f is. subst (Contains (take k polygons ++ p ∷ [])) (sym is) (Contains-append_right (take k polygons) (p ∷ []) p (0, omega arith, refl)))
-    (λ f fault any told. elim (Contains-append_cases (take k polygons) (p ∷ []) f.polygon any) [
-      | inl first ↦ inl first
-      | inr last ↦ inr (only p f.polygon last)
+    rw (h.are, take_more polygons k 0 lt) (joined m (AndSettled H (IsOfAny (take k polygons ++ p ∷ []))) (AndSettled H (IsOfAny (take k polygons))) (AndSettled H (IsOfPolygon p)) old h.faults
+    (λ f g first here. inl (let less = below_next polygons k lt up f.polygon first.0 in let is = here.0 in omega (arith, less, is)))
+    (λ f first. (Contains-append_left (take k polygons) (p ∷ []) f.polygon first.0, first.1))
+    (λ f here. (subst (Contains (take k polygons ++ p ∷ [])) (sym here.0) (Contains-append_right (take k polygons) (p ∷ []) p (0, omega arith, refl)), here.1))
+    (λ f fault any told. elim (Contains-append_cases (take k polygons) (p ∷ []) f.polygon any.0) [
+      | inl first ↦ inl (first, any.1)
+      | inr last ↦ inr (only p f.polygon last, any.1)
     ])
     before h.part)
   where
@@ -56,20 +56,20 @@ one_more_among m polygons k old new lt up before h =
     only p q h = let lt : h.0 < 1 = h.1 in let zero_is : h.0 ≡ 0 = omega (arith, lt) in sym (subst (λ n. get_or (p ∷ []) n q ≡ q) zero_is h.2)
 
 -- those of all that are suspected are those of all polygons
-pub all_among : (m : TheMap) (suspects polygons : List ℕ) (k : ℕ) (found : List Misplaced) → length polygons ≤ k → AreSuspects m suspects →
+pub all_among : (H : ℕ → Type 0) (m : TheMap) (suspects polygons : List ℕ) (k : ℕ) (found : List Misplaced) → length polygons ≤ k → AreSuspects m suspects →
     ((x : ℕ) → Contains suspects x → Contains polygons x) → ((x : ℕ) → Contains polygons x → Contains suspects x) →
-    AreFaultsIn m (IsOfAny (take k polygons)) found → AreAllMisplaced m found
-all_among m suspects polygons k found past are there back part =
+    AreFaultsIn m (AndSettled H (IsOfAny (take k polygons))) found → AreAllMisplaced H m found
+all_among H m suspects polygons k found past are there back part =
     let whole : take k polygons ≡ polygons = take_all k polygons past in
-    all_of m (length m.polygons) found (omega arith) (record {
+    all_of H m (length m.polygons) found (omega arith) (record {
       places = part.places;
       told = part.told;
-      within = All-weaker (IsOfAny (take k polygons)) (IsBefore (length m.polygons))
+      within = All-weaker (AndSettled H (IsOfAny (take k polygons))) (AndSettled H (IsBefore (length m.polygons)))
           (λ at any.
-          let of = back at.polygon (subst (λ ps. Contains ps at.polygon) whole any) in
-          subst (λ p. p < length m.polygons) of.2 (are.known of.0 at.polygon of.1)) part.places part.within;
-      whole = λ at fault lt told. part.whole at fault
-          (subst (λ ps. Contains ps at.polygon) (sym whole) (there at.polygon (suspected at fault told))) told;
+          let of = back at.polygon (subst (λ ps. Contains ps at.polygon) whole any.0) in
+          (subst (λ p. p < length m.polygons) of.2 (are.known of.0 at.polygon of.1), any.1)) part.places part.within;
+      whole = λ at fault low told. part.whole at fault
+          (subst (λ ps. Contains ps at.polygon) (sym whole) (there at.polygon (suspected at fault told)), low.1) told;
       in_order = part.in_order;
     })
   where

@@ -4,7 +4,7 @@ use Rattle.std.proofs.Common.{[], ◌∷◌, length, get_or, Contains, refl, sym
 use Rattle.std.specs.List.{AllPairs}
 use Rattle.tl_map_county.specs.TheMap.{TheMap}
 use Rattle.tl_check_inside.specs.declared.misplaced.Misplaced.{Misplaced}
-use Rattle.tl_list_map.specs.Points.AllMisplaced.{FaultPlace, ComesBefore, IsTrueAt, AreTrueAt, AreAllMisplaced}
+use Rattle.tl_list_map.specs.Points.AllMisplaced.{FaultPlace, ComesBefore, IsTrueAt, AreTrueAt, IsSettled, AreAllMisplaced}
 use Rattle.tl_list_map.proofs.PointsLemmas.Wholes.{told_at, one_fault}
 
 -- of two places one at most comes before the other
@@ -85,14 +85,14 @@ one_told m (at ∷ places) (f ∷ found) (g ∷ others) a b =
     let rest : found ≡ others = one_told m places found others a.1 b.1 in
     λ i. first i ∷ rest i
 
-stands_in : (m : TheMap) (found others : List Misplaced) (a : AreAllMisplaced m found) (b : AreAllMisplaced m others) (at : FaultPlace) →
+stands_in : (H : ℕ → Type 0) (m : TheMap) (found others : List Misplaced) (a : AreAllMisplaced H m found) (b : AreAllMisplaced H m others) (at : FaultPlace) →
     Contains a.places at → Contains b.places at
-stands_in m found others a b at h =
+stands_in H m found others a b at h =
     let told = told_at m a.places found h.0 at a.told h.1 in
-    b.whole at told.fault (subst (λ f. IsTrueAt m f told.fault) h.2 told.true_one)
+    b.whole at told.fault (subst (IsSettled H) h.2 (a.settled h.0 at h.1)) (subst (λ f. IsTrueAt m f told.fault) h.2 told.true_one)
 
-pub one_list_of_all : (m : TheMap) (found others : List Misplaced) → AreAllMisplaced m found → AreAllMisplaced m others → found ≡ others
-one_list_of_all m found others a b =
-    let places : a.places ≡ b.places = one_list ComesBefore asymmetric a.places b.places a.in_order b.in_order (stands_in m found others a b)
-    (stands_in m others found b a) in
+pub one_list_of_all : (H : ℕ → Type 0) (m : TheMap) (found others : List Misplaced) → AreAllMisplaced H m found → AreAllMisplaced H m others → found ≡ others
+one_list_of_all H m found others a b =
+    let places : a.places ≡ b.places = one_list ComesBefore asymmetric a.places b.places a.in_order b.in_order (stands_in H m found others a b)
+    (stands_in H m others found b a) in
     one_told m b.places found others (subst (λ ps. AreTrueAt m ps found) places a.told) b.told

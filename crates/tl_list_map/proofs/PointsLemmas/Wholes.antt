@@ -2,8 +2,8 @@
 use Rattle.std.proofs.Common.{◌≡◌, ℕ, zero, suc, ◌<◌, ◌≤◌, List, [], ◌∷◌}
 use Rattle.std.proofs.Common.{length, get_or, Contains, refl, sym, subst, ap, ◌∙◌, arith}
 use Rattle.std.specs.Prelude.{slice_get}
-use Rattle.std.specs.List.{AllByRecursion}
-use Rattle.std.proofs.lemmas.List.Elements.{All-from_recursion}
+use Rattle.std.specs.List.{All, AllByRecursion}
+use Rattle.std.proofs.lemmas.List.Elements.{All-from_recursion, All-weaker}
 use Rattle.std.proofs.lemmas.Option.{slice_get_within}
 use Rattle.tl_geom.specs.declared.point.Point.{Point}
 use Rattle.tl_record_key.specs.declared.key.PolyKey.{PolyKey}
@@ -13,8 +13,8 @@ use Rattle.tl_check_planar.specs.Keeping.Apart.{one_found}
 use Rattle.tl_check_inside.specs.declared.misplaced.Misplaced.{Misplaced}
 use Rattle.tl_check_inside.specs.declared.misplaced.Misplaced.TheVariants.{OnChain, Outside, InOther}
 use Rattle.tl_check_inside.specs.Placed.{IsPointOf, IsTrueMisplaced}
-use Rattle.tl_list_map.specs.Points.AllMisplaced.{FaultPlace, IsTrueAt, AreTrueAt, AreAllMisplaced}
-use Rattle.tl_list_map.specs.Points.Keeping.Parts.{AreFaultsIn, IsBefore}
+use Rattle.tl_list_map.specs.Points.AllMisplaced.{FaultPlace, IsTrueAt, AreTrueAt, IsSettled, AreAllMisplaced}
+use Rattle.tl_list_map.specs.Points.Keeping.Parts.{AreFaultsIn, IsBefore, AndSettled}
 
 -- what is true at a place is true
 pub true_at : (m : TheMap) (at : FaultPlace) (fault : Misplaced) → IsTrueAt m at fault → IsTrueMisplaced m fault
@@ -95,6 +95,9 @@ each_true m [] (fault ∷ found) t = absurd t
 each_true m (at ∷ places) [] t = absurd t
 each_true m (at ∷ places) (fault ∷ found) t = (true_at m at fault t.0, each_true m places found t.1)
 
+pub each_of : (m : TheMap) (places : List FaultPlace) (found : List Misplaced) → AreTrueAt m places found → All (IsTrueMisplaced m) found
+each_of m places found t = All-from_recursion (IsTrueMisplaced m) found (each_true m places found t)
+
 -- what is true at one of the places is told
 told_has : (m : TheMap) (places : List FaultPlace) (found : List Misplaced) (at : FaultPlace) (fault : Misplaced) → AreTrueAt m places found →
     Contains places at → IsTrueAt m at fault → Contains found fault
@@ -108,15 +111,16 @@ known_at m at (OnChain key tlid) t = slice_get_within m.polygons at.polygon (rec
 known_at m at (Outside key) t = slice_get_within m.polygons at.polygon (record { key = key; point = t.point }) t.of
 known_at m at (InOther key other) t = slice_get_within m.polygons at.polygon (record { key = key; point = t.point }) t.of
 
-pub all_of : (m : TheMap) (n : ℕ) (found : List Misplaced) → length m.polygons ≤ n → AreFaultsIn m (IsBefore n) found → AreAllMisplaced m found
-all_of m n found past part = record {
-  each = All-from_recursion (IsTrueMisplaced m) found (each_true m part.places found part.told);
-  every = λ fault is. let at = place_of m fault is in told_has m part.places found at.at fault part.told (whole at.at fault at.is) at.is;
+pub all_of : (H : ℕ → Type 0) (m : TheMap) (n : ℕ) (found : List Misplaced) → length m.polygons ≤ n → AreFaultsIn m (AndSettled H (IsBefore n)) found → AreAllMisplaced H m found
+all_of H m n found past part = record {
+  each = each_of m part.places found part.told;
+  every = λ at fault s is. told_has m part.places found at fault part.told (whole at fault s is) is;
   places = part.places;
   told = part.told;
+  settled = All-weaker (AndSettled H (IsBefore n)) (IsSettled H) (λ at inside. inside.1) part.places part.within;
   whole = whole;
   in_order = part.in_order;
 }
   where
-    whole : (at : FaultPlace) (fault : Misplaced) → IsTrueAt m at fault → Contains part.places at
-    whole at fault is = part.whole at fault (let known = known_at m at fault is in omega (arith, known, past)) is
+    whole : (at : FaultPlace) (fault : Misplaced) → IsSettled H at → IsTrueAt m at fault → Contains part.places at
+    whole at fault s is = part.whole at fault (let known = known_at m at fault is in omega (arith, known, past), s) is

@@ -4,3 +4,4 @@ pub mod Grouped
 pub mod Telling
 pub mod Starts
 pub mod Odds
+pub mod Named

@@ -1,4 +1,4 @@
--- All faults of the points of a map's polygons, in their order.
+-- All faults of the points of a map's polygons, in their order, but those that hang on sides which name a hidden polygon.
 use Rattle.std.specs.Prelude.{⊤, ◌≡◌, ◌≢◌, ◌⊎◌, ℕ, ◌<◌, List, [], ◌∷◌, All, Contains}
 use Rattle.std.specs.List.{AllPairs}
 use Rattle.tl_geom.specs.declared.point.Point.{Point}
@@ -61,12 +61,23 @@ AreTrueAt m [] (fault ∷ found) = ⊥
 AreTrueAt m (at ∷ places) [] = ⊥
 AreTrueAt m (at ∷ places) (fault ∷ found) = IsTrueAt m at fault × AreTrueAt m places found
 
--- each is true; each that is true stands there; and each place where one is true stands once, before all later ones, with
--- the fault that is true there
-pub record AreAllMisplaced (m : TheMap) (found : List Misplaced) : Type 0 where
+-- what is told at the place doesn't hang on sides that name a hidden polygon: where the point is outside, the polygon isn't hidden, and
+-- where it's in another polygon, that one isn't
+pub record IsSettled (Hidden : ℕ → Type 0) (at : FaultPlace) : Type 0 where
+  pub own : at.kind ≡ 1 → ¬ Hidden at.polygon
+  pub other : at.kind ≡ 2 → ¬ Hidden at.other
+
+-- each is true; each that is true at a settled place stands there; and each settled place where one is true stands once, before all later
+-- ones, with the fault that is true there
+pub record AreAllMisplaced (Hidden : ℕ → Type 0) (m : TheMap) (found : List Misplaced) : Type 0 where
   pub each : All (IsTrueMisplaced m) found
-  pub every : (fault : Misplaced) → IsTrueMisplaced m fault → Contains found fault
+  pub every : (at : FaultPlace) (fault : Misplaced) → IsSettled Hidden at → IsTrueAt m at fault → Contains found fault
   pub places : List FaultPlace
   pub told : AreTrueAt m places found
-  pub whole : (at : FaultPlace) (fault : Misplaced) → IsTrueAt m at fault → Contains places at
+  pub settled : All (IsSettled Hidden) places
+  pub whole : (at : FaultPlace) (fault : Misplaced) → IsSettled Hidden at → IsTrueAt m at fault → Contains places at
   pub in_order : AllPairs ComesBefore places
+
+-- no polygon is hidden
+abbrev pub NoneHidden : ℕ → Type 0
+NoneHidden p = ⊥

@@ -4,3 +4,4 @@ pub mod Odd
 pub mod Parts
 pub mod Known
 pub mod Joined
+pub mod Hiding

@@ -9,8 +9,9 @@ ghost use Rattle.tl_check_inside.specs.Keeping.Tallies.{AreClear};
 ghost use Rattle.tl_check_counts.specs.Counts.{AreCountsAt};
 ghost use Rattle.tl_check_sweep.specs.Parts.{IsPlanarPart};
 ghost use Rattle.tl_list_map.specs.Points.AllMisplaced.{AreAllMisplaced};
+ghost use Rattle.tl_list_map.specs.Points.Hidden.{IsMarked};
 ghost use Rattle.tl_list_map.specs.Points.Keeping.Known.{TellAt};
-ghost use Rattle.tl_list_map.specs.Points.Keeping.Parts.{IsOfPolygon, IsOfAny, AreFaultsIn, HasPart};
+ghost use Rattle.tl_list_map.specs.Points.Keeping.Parts.{IsOfPolygon, IsOfAny, AndSettled, AreFaultsIn, HasPart};
 ghost use Rattle.tl_check_inside.specs.Suspects.{AreSuspects};
 
 use crate::points::listed::sort_once;
@@ -27,8 +28,8 @@ use tl_check_sweep::PlanarPart;
 use tl_map_county::Map;
 use tl_tree_index::{BoxIndex, Memory};
 
-/// All faults of the points of a map's polygons, as [`crate::points::all_misplaced`] lists them, where the points of all polygons but
-/// these are known to lie where they have to. These are given in any order, and are left sorted. The counts at most of them become known
+/// All faults of the points of a map's polygons, as [`crate::points::all_misplaced`] lists them, but that a point is outside of a marked polygon or
+/// in one, where the points of all polygons but these are known to lie where they have to. These are given in any order, and are left sorted. The counts at most of them become known
 /// in one sweep over the map or, where its chains meet, over a part of it that is planar; it takes a search for each of the others alone.
 /// An error says that memory was refused.
 pub fn all_misplaced_among<X: BoxIndex>(
@@ -36,17 +37,18 @@ pub fn all_misplaced_among<X: BoxIndex>(
     index: &X,
     map: &Map,
     part: Option<&PlanarPart>,
+    marks: &[bool],
     suspects: &mut Vec<u32>,
 ) -> Result<Vec<Misplaced>, Memory>
     requires fits { X.fits index.now (segments_before map.now.chains (length map.now.chains))
         (segment_rect map.now.chains) }
     requires part { IfSome part (λ part. IsPlanarPart map.now part.now) }
     requires suspects { AreSuspects map.now suspects.old.items }
-    ensures { IfOk result (λ found. AreAllMisplaced map.now found.items) }
+    ensures { IfOk result (λ found. AreAllMisplaced (IsMarked marks.now) map.now found.items) }
 {
     look_at_points(map);
     sort_once(suspects);
-    list_each(alloc, index, map, part, suspects)
+    list_each(alloc, index, map, part, marks, suspects)
 }
 
 /// The counts of all polygons at these points, in one sweep over the map or by such a part.
@@ -75,6 +77,7 @@ fn list_each<X: BoxIndex>(
     index: &X,
     map: &Map,
     part: Option<&PlanarPart>,
+    marks: &[bool],
     polygons: &[u32],
 ) -> Result<Vec<Misplaced>, Memory>
     requires fits { X.fits index.now (segments_before map.now.chains (length map.now.chains))
@@ -83,7 +86,7 @@ fn list_each<X: BoxIndex>(
     requires reach { ChainsAreInReach map.now.chains }
     requires known { All (λ p. p < length map.now.polygons) polygons.now }
     requires rising { IsStrictlyIncreasing polygons.now }
-    ensures { IfOk result (λ found. AreFaultsIn map.now (IsOfAny polygons.now) found.items) }
+    ensures { IfOk result (λ found. AreFaultsIn map.now (AndSettled (IsMarked marks.now) (IsOfAny polygons.now)) found.items) }
 {
     let sites = sites_of(alloc, map, polygons)?;
     let counts = counts_of(alloc, map, part, &sites)?;
@@ -95,6 +98,7 @@ fn list_each<X: BoxIndex>(
             map,
             polygons[place],
             counts.at(place),
+            marks,
             &mut room,
             &mut found,
         )?;
@@ -108,6 +112,7 @@ fn list_one<X: BoxIndex>(
     map: &Map,
     p: u32,
     known: Option<&[Flanks]>,
+    marks: &[bool],
     room: &mut Room,
     found: &mut Vec<Misplaced>,
 ) -> Result<(), Memory>
@@ -117,12 +122,12 @@ fn list_one<X: BoxIndex>(
     requires polygon { p < length map.now.polygons }
     requires tell { IfSome known (λ flanks. TellAt map.now p flanks.now) }
     requires clear { AreClear (length map.now.polygons) room.old.near.items room.old.far.items }
-    ensures part { OnOk result (HasPart map.now (IsOfPolygon p) found.old.items found.new.items) }
+    ensures part { OnOk result (HasPart map.now (AndSettled (IsMarked marks.now) (IsOfPolygon p)) found.old.items found.new.items) }
     ensures clear { OnOk result (AreClear (length map.now.polygons) room.new.near.items room.new.far.items) }
 {
     match known {
-        Some(flanks) => list_known(map, p, flanks, room, found),
-        None => list_at(index, map, p, room, found),
+        Some(flanks) => list_known(map, p, flanks, marks, room, found),
+        None => list_at(index, map, p, marks, room, found),
     }
 }
 
@@ -131,17 +136,28 @@ fn list_known(
     map: &Map,
     p: u32,
     flanks: &[Flanks],
+    marks: &[bool],
     room: &mut Room,
     found: &mut Vec<Misplaced>,
 ) -> Result<(), Memory>
     requires known { p < length map.now.polygons }
     requires tell { TellAt map.now p flanks.now }
     requires clear { AreClear (length map.now.polygons) room.old.near.items room.old.far.items }
-    ensures part { OnOk result (HasPart map.now (IsOfPolygon p) found.old.items found.new.items) }
+    ensures part { OnOk result (HasPart map.now (AndSettled (IsMarked marks.now) (IsOfPolygon p)) found.old.items found.new.items) }
     ensures clear { OnOk result (AreClear (length map.now.polygons) room.new.near.items room.new.far.items) }
 {
     let polygon = map.polygon(p);
     room.held.clear();
     let outside = list_odd(map, p, flanks, &mut room.near, &mut room.far, &mut room.odd)?;
-    push_wrong(map, p, polygon, &room.held, outside, &room.odd, found)
+    push_wrong(
+        map,
+        p,
+        polygon,
+        marks,
+        &room.held,
+        outside,
+        &room.odd,
+        &mut room.others,
+        found,
+    )
 }

@@ -6,9 +6,10 @@ ghost use Rattle.tl_check_planar.specs.Rectangles.{segment_rect};
 ghost use Rattle.tl_check_inside.specs.Places.{IsHeldBy};
 ghost use Rattle.tl_check_inside.specs.Keeping.Probing.{ChainsAreInReach};
 ghost use Rattle.tl_check_inside.specs.Keeping.Tallies.{TellCounts, AreClear};
-ghost use Rattle.tl_list_map.specs.Points.AllMisplaced.{AreAllMisplaced};
+ghost use Rattle.tl_list_map.specs.Points.AllMisplaced.{AreAllMisplaced, NoneHidden};
+ghost use Rattle.tl_list_map.specs.Points.Hidden.{IsMarked};
 ghost use Rattle.tl_list_map.specs.Points.Keeping.Listed.{AreListed};
-ghost use Rattle.tl_list_map.specs.Points.Keeping.Parts.{IsOfPolygon, HasPart};
+ghost use Rattle.tl_list_map.specs.Points.Keeping.Parts.{IsOfPolygon, AndSettled, HasPart};
 
 use crate::points::listed::sort_once;
 use crate::points::odd::list_odd;
@@ -32,22 +33,23 @@ pub fn all_misplaced<X: BoxIndex>(
 ) -> Result<Vec<Misplaced>, Memory>
     requires { X.fits index.now (segments_before map.now.chains (length map.now.chains))
         (segment_rect map.now.chains) }
-    ensures { IfOk result (λ found. AreAllMisplaced map.now found.items) }
+    ensures { IfOk result (λ found. AreAllMisplaced NoneHidden map.now found.items) }
 {
     look_at_points(map);
     let mut room = Room::new(alloc, map.polygons() as usize)?;
     let mut found = Vec::new(alloc);
     for p in 0..map.polygons() {
-        list_at(index, map, p, &mut room, &mut found)?;
+        list_at(index, map, p, &[], &mut room, &mut found)?;
     }
     Ok(found)
 }
 
-/// Appends all that is wrong with the point of polygon `p`.
+/// Appends all that is wrong with the point of polygon `p`, but what hangs on marked polygons.
 pub fn list_at<X: BoxIndex>(
     index: &X,
     map: &Map,
     p: u32,
+    marks: &[bool],
     room: &mut Room,
     found: &mut Vec<Misplaced>,
 ) -> Result<(), Memory>
@@ -56,7 +58,7 @@ pub fn list_at<X: BoxIndex>(
     requires reach { ChainsAreInReach map.now.chains }
     requires known { p < length map.now.polygons }
     requires clear { AreClear (length map.now.polygons) room.old.near.items room.old.far.items }
-    ensures part { OnOk result (HasPart map.now (IsOfPolygon p) found.old.items found.new.items) }
+    ensures part { OnOk result (HasPart map.now (AndSettled (IsMarked marks.now) (IsOfPolygon p)) found.old.items found.new.items) }
     ensures clear { OnOk result (AreClear (length map.now.polygons) room.new.near.items room.new.far.items) }
 {
     let polygon = map.polygon(p);
@@ -80,7 +82,17 @@ pub fn list_at<X: BoxIndex>(
         &mut room.far,
         &mut room.odd,
     )?;
-    push_wrong(map, p, polygon, &room.held, outside, &room.odd, found)
+    push_wrong(
+        map,
+        p,
+        polygon,
+        marks,
+        &room.held,
+        outside,
+        &room.odd,
+        &mut room.others,
+        found,
+    )
 }
 
 /// Lists the chains that hold a point, by rising number, and the flanks of the segments that its ray crosses, in the place

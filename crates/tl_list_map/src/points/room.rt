@@ -18,6 +18,8 @@ pub struct Room {
     pub crossed: Vec<Flanks>,
     /// The other polygons that it lies in.
     pub odd: Vec<u32>,
+    /// Those of them that aren't marked.
+    pub others: Vec<u32>,
     /// How often each polygon is on the near side, and how often on the far side.
     pub near: Vec<u64>,
     pub far: Vec<u64>,
@@ -35,6 +37,7 @@ impl Room {
             held: Vec::new(alloc),
             crossed: Vec::new(alloc),
             odd: Vec::new(alloc),
+            others: Vec::new(alloc),
             near,
             far,
         })

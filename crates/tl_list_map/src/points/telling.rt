@@ -3,33 +3,45 @@
 ghost use Rattle.std.specs.Prelude.{◌≡◌, ◌<◌, ◌↔◌, IsTrue, Some, List, [], ◌∷◌, length, slice_get, All, OnOk, if◌then◌else◌};
 ghost use Rattle.tl_check_inside.specs.Inside.{IsInside};
 ghost use Rattle.tl_check_inside.specs.Places.{IsHeldBy};
+ghost use Rattle.tl_list_map.specs.Points.Hidden.{IsMarked};
 ghost use Rattle.tl_list_map.specs.Points.Keeping.Listed.{AreListed};
-ghost use Rattle.tl_list_map.specs.Points.Keeping.Parts.{IsIn, IsOfPolygon, HasPart, HasRow};
+ghost use Rattle.tl_list_map.specs.Points.Keeping.Parts.{IsIn, IsOfPolygon, AndSettled, HasPart, HasRow};
 
+use crate::points::marks::{is_marked, list_unmarked};
 use tl_check_inside::Misplaced;
 use tl_map_county::{Map, Polygon};
 use tl_tree_index::Memory;
 
 /// Appends all that is wrong with the point of polygon `p`: the chains that hold it, that it is outside, and the other
-/// polygons that it lies in.
+/// polygons that it lies in. Of marked polygons it isn't told that it is outside of them or in them.
 pub fn push_wrong(
     map: &Map,
     p: u32,
     polygon: Polygon,
+    marks: &[bool],
     held: &[u32],
     outside: bool,
     odd: &[u32],
+    others: &mut Vec<u32>,
     found: &mut Vec<Misplaced>,
 ) -> Result<(), Memory>
     requires is { slice_get map.now.polygons p ≡ Some polygon }
     requires held { AreListed (IsHeldBy map.now.chains polygon.point) held.now }
     requires outside { IsTrue outside ↔ (¬ IsInside map.now.chains polygon.point p) }
     requires odd { AreListed (IsIn map.now polygon.point p) odd.now }
-    ensures { OnOk result (HasPart map.now (IsOfPolygon p) found.old.items found.new.items) }
+    ensures { OnOk result (HasPart map.now (AndSettled (IsMarked marks.now) (IsOfPolygon p)) found.old.items found.new.items) }
 {
     push_chains(map, p, polygon, held, found)?;
-    push_outside(map, p, polygon, outside, found)?;
-    push_others(map, p, polygon, odd, found)
+    push_outside(map, p, polygon, is_told(outside, marks, p), found)?;
+    list_unmarked(marks, odd, others)?;
+    push_others(map, p, polygon, others, found)
+}
+
+/// Whether it is told that a point is outside of its polygon.
+fn is_told(outside: bool, marks: &[bool], p: u32) -> bool
+    ensures { IsTrue result ↔ (IsTrue outside × (¬ IsMarked marks.now p)) }
+{
+    outside && !is_marked(marks, p)
 }
 
 /// Appends that the point lies on each of these chains.

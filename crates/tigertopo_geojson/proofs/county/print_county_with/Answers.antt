@@ -1,6 +1,7 @@
-use Rattle.std.proofs.Common.{ap}
-use Rattle.tigertopo_geojson.specs.Features.{landmark_features}
-use Rattle.tigertopo_geojson.specs.Rings.{county_text_with}
+use Rattle.std.proofs.Common.{ap, ap₂, map, option_map, ◌∙◌}
+use Rattle.tigertopo_geojson.specs.Features.{shown, features_below}
+use Rattle.tigertopo_words.specs.declared.layer.Layer.TheVariants.{Polygons}
+use Rattle.tigertopo_geojson.specs.Rings.{boundary_feature, landmarks_text, county_text_with}
 use Rattle.tl_cert_output.proofs.PrinterLemmas.{both, as_text, ends_text}
 use Rattle.tigertopo_geojson.proofs.county.print_county_with.Goals as goal
 
@@ -8,5 +9,6 @@ pub returns : goal.returns
 unfolding county_text_with
 returns g c =
     let m = c.args.map.now in
-    let landmarks = as_text c.print_landmarks.ensures (ap (λ k. landmark_features k m.polygons m.landmarks) c.shapes_of.ensures.count) in
-    ends_text c.finish.result c.new-printer.ensures (both (both (both c.print_front.ensures c.print_boundaries.ensures) landmarks) c.add.ensures) c.finish.ensures.prints c.finish.ensures.stop
+    let landmarks = as_text c.print_last.ensures (ap (λ k. landmarks_text (option_map (λ name. name.now) c.args.file) c.args.layer k m) c.shapes_of.ensures.count) in
+    let boundaries = as_text c.print_boundaries.ensures (ap₂ (λ k n. features_below k (boundary_feature (option_map (λ name. name.now) c.args.file) m (map (λ w. w.items) c.args.walks.now)) n) c.points_of.ensures.count (c.shown.ensures ∙ ap (shown c.args.layer Polygons) c.polygons.ensures)) in
+    ends_text c.finish.result c.new-printer.ensures (both (both (both c.print_front.ensures boundaries) landmarks) c.add.ensures) c.finish.ensures.prints c.finish.ensures.stop

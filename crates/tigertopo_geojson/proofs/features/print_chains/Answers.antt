@@ -1,4 +1,4 @@
-use Rattle.std.proofs.Common.{arith}
+use Rattle.std.proofs.Common.{arith, option_map}
 use Rattle.tigertopo_geojson.specs.Features.{chain_feature}
 use Rattle.tl_cert_output.proofs.PrinterLemmas.{both, as_text}
 use Rattle.tigertopo_geojson.proofs.FeatureLemmas.{one_feature_more}
@@ -7,4 +7,4 @@ use Rattle.tigertopo_geojson.proofs.features.print_chains.Goals as goal
 pub loop-number-preserved : goal.loop-number-preserved
 loop-number-preserved g c =
     as_text (both (both c.loop-number.invariant c.print_lead.ensures) c.print_chain.ensures)
-    (one_feature_more 0 c.loop-number.number _ (chain_feature c.args.map.now) (omega (arith, c.from.ensures)))
+    (one_feature_more 0 c.loop-number.number _ (chain_feature (option_map (λ name. name.now) c.args.file) c.args.map.now) (omega (arith, c.from.ensures)))

@@ -1,4 +1,4 @@
-use Rattle.std.proofs.Common.{◌<◌, ◌∙◌, length, arith}
+use Rattle.std.proofs.Common.{◌<◌, ◌∙◌, length, arith, option_map}
 use Rattle.tl_cert_output.proofs.PrinterLemmas.{both, as_text}
 use Rattle.tigertopo_geojson.proofs.FeatureLemmas.{few_pointed, one_landmark_more, one_counted_more}
 use Rattle.tigertopo_geojson.proofs.landmarks.print_landmarks.Goals as goal
@@ -12,7 +12,7 @@ loop-number-preserved g c =
     record {
       counted = c.print_pointed-told.ensures.counted ∙ one_counted_more c.args.before c.loop-number.told m.landmarks n _ within c.landmark.ensures.landmark counted;
       prints = as_text (both c.loop-number.invariant.prints c.print_pointed-told.ensures.prints)
-          (one_landmark_more c.args.before c.loop-number.told m.polygons m.landmarks n _ within c.landmark.ensures.landmark counted);
+          (one_landmark_more (option_map (λ name. name.now) c.args.file) c.args.before c.loop-number.told m.polygons m.landmarks n _ within c.landmark.ensures.landmark counted);
     }
 
 pub print_pointed-told-requires : goal.print_pointed-told-requires

@@ -7,5 +7,5 @@ pub returns : goal.returns
 unfolding polygon_text
 returns g c =
     let lands = c.print_lands.ensures _ (c.requires.links.each c.args.number c.requires.number) in
-    as_text (both (both (both (both (both (both c.add.ensures c.print_position.ensures) c.add-2.ensures) c.print_key_members.ensures) c.add-3.ensures) lands) c.add-4.ensures)
+    as_text (both (both (both (both (both (both (both (both c.add.ensures c.print_position.ensures) c.add-2.ensures) c.print_key_members.ensures) c.add-3.ensures) lands) c.add-4.ensures) c.print_file.ensures) c.add-5.ensures)
     (rw (c.polygon-polygon.ensures, c.requires.lands) refl)

@@ -1,4 +1,4 @@
-use Rattle.std.proofs.Common.{◌+◌, length, map}
+use Rattle.std.proofs.Common.{map, option_map}
 use Rattle.tl_cert_output.specs.Printing.{Prints}
 use Rattle.tigertopo_geojson.specs.Features.{features_below}
 use Rattle.tigertopo_geojson.specs.Rings.{boundary_feature}
@@ -7,4 +7,4 @@ use Rattle.tigertopo_geojson.proofs.rings.print_boundaries.Given as goal
 abbrev pub invariant-loop-number : goal.invariant-loop-number
 invariant-loop-number g l =
     Prints g.S.Sink.contents g.S.Sink.failure_count (l.initial.out, l.initial.printer) (l.out, l.printer)
-    (features_below (length l.map.chains + length l.map.polygons) (boundary_feature l.map (map (λ w. w.items) l.walks)) l.number)
+    (features_below l.before (boundary_feature (option_map (λ name. name.now) l.file) l.map (map (λ w. w.items) l.walks)) l.number)

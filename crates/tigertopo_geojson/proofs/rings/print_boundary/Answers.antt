@@ -12,5 +12,5 @@ returns g c =
     let shape = c.print_shape.ensures _ (c.requires.outers.each c.args.number c.requires.number) in
     let area = c.requires.areas.each c.args.number c.requires.number in
     let back = to_z-of_z {z = doubled_area c.args.map.now.chains c.args.number} (fits_signed_from_abs w128 _ (c.requires.areas.small c.args.number c.requires.number)) in
-    as_text (both (both (both (both (both (both c.add.ensures shape) c.add-2.ensures) c.print_key_members.ensures) c.add-3.ensures) c.print_half.ensures) c.add-4.ensures)
-    (rw (c.polygon.ensures, area, back) refl)
+    as_text (both (both (both (both (both (both (both (both (both c.add.ensures shape) c.add-2.ensures) c.print_key_members.ensures) c.add-3.ensures) c.print_half.ensures) c.add-4.ensures) c.print_metres.ensures) c.print_file.ensures) c.add-5.ensures)
+    (rw (c.polygon-polygon.ensures, area, back) refl)

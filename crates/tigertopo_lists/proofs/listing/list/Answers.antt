@@ -15,10 +15,10 @@ returns-in_err-found g c =
 pub returns : goal.returns
 returns g c =
     let u = g.F.FileSystem.under c.args.files.now in
-    let v = g.F.FileSystem.under c.over_records.new.files in
+    let v = g.F.FileSystem.under c.find_all.new.files in
     let after = g.F.FileSystem.under c.tell_found.new.files in
     let l = g.F.FileSystem.log c.args.files.now in
-    let m = g.F.FileSystem.log c.over_records.new.files in
+    let m = g.F.FileSystem.log c.find_all.new.files in
     let q = g.F.FileSystem.log c.tell_found.new.files in
     let k = g.F.FileSystem.knows in
     let names = map string_bytes c.args.names.now in

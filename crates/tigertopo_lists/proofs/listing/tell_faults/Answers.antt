@@ -63,17 +63,17 @@ returns g c =
     let m = g.F.FileSystem.log c.speak_of.new.files in
     let q = g.F.FileSystem.log c.make_collection.new.files in
     let done = made_behind u v after l m q g.F.FileSystem.knows asked c.in_ok-spoken.ensures.stays c.in_ok-spoken.ensures.logged _ _ c.in_ok-make_collection.ensures in
-    let same = ap (λ (m : Option TheMap). faults_text names spoken.counts.items m (held spoken.lines) c.featured-shown.result.now c.args.points_left) drawn
-    ∙ ap (λ (fs : List MapFault). faults_text names spoken.counts.items c.args.map (held spoken.lines) fs c.args.points_left) shown in
-    let prepared = subst (λ (m : Option TheMap). IsPrepared names (chains_of m) spoken c.args.wanted.places c.args.wanted.told c.args.faults.items c.args.points_left text) drawn
-    (subst (λ (fs : List MapFault). IsPrepared names (chains_of (option_copied c.as_ref-drawn.result)) spoken c.args.wanted.places c.args.wanted.told fs c.args.points_left text) listed c.in_ok-text.ensures) in
+    let same = ap (λ (m : Option TheMap). faults_text names spoken.counts.items m (held spoken.lines) spoken.places.items c.featured-shown.result.now c.args.touched) drawn
+    ∙ ap (λ (fs : List MapFault). faults_text names spoken.counts.items c.args.map (held spoken.lines) spoken.places.items fs c.args.touched) shown in
+    let prepared = subst (λ (m : Option TheMap). IsPrepared names (chains_of m) spoken c.args.wanted.places c.args.wanted.told c.args.faults.items c.args.touched text) drawn
+    (subst (λ (fs : List MapFault). IsPrepared names (chains_of (option_copied c.as_ref-drawn.result)) spoken c.args.wanted.places c.args.wanted.told fs c.args.touched text) listed c.in_ok-text.ensures) in
     does_answer w [] asked.made _ _ c.in_ok-make_collection.field-0 done _ _ (record {
       spoken = spoken;
       speak = λ again.
-          subst (λ (m : Option TheMap). AreSpoken (layout_with c.args.options) u names (chains_of m) (featured c.args.wanted.told c.args.faults.items) spoken) drawn
-          (subst (λ (fs : List MapFault). AreSpoken (layout_with c.args.options) u names (chains_of (option_copied c.as_ref-drawn.result)) fs spoken) shown
+          subst (λ (m : Option TheMap). AreSpoken (layout_with c.args.options) u names m (featured c.args.wanted.told c.args.faults.items) spoken) drawn
+          (subst (λ (fs : List MapFault). AreSpoken (layout_with c.args.options) u names (option_copied c.as_ref-drawn.result) fs spoken) shown
           (c.in_ok-spoken.ensures.spoken (c.reads_again.ensures ∙ again)));
       kept = subst (λ (t : List ℕ). Made w asked.made t) same c.in_ok-make_collection.ensures.answered;
-      is = rw c.faults_answer.ensures (answer_status c.args.wanted.told c.args.faults c.args.points_left text);
-      lines = rw c.faults_answer.ensures (answer_text names (chains_of c.args.map) spoken c.args.wanted.places c.args.wanted.told c.args.faults c.args.points_left text prepared);
+      is = rw c.faults_answer.ensures (answer_status c.args.wanted.told c.args.faults c.args.touched text);
+      lines = rw c.faults_answer.ensures (answer_text names (chains_of c.args.map) spoken c.args.wanted.places c.args.wanted.told c.args.faults c.args.touched text prepared);
     })

@@ -22,6 +22,6 @@ pub returns-in-Faults : goal.returns-in-Faults
 returns-in-Faults g c = λ known are.
     let asked = wanted_of (map string_bytes c.args.names.now) c.args.wanted in
     let w = world g.F.FileSystem.under g.F.FileSystem.log g.F.FileSystem.knows c.args.files.now c.tell_faults.new.files in
-    does_so _ [] _ _ _ _ _ (fault_answers c.args.options known asked _ c.args.found.map c.in-Faults.faults c.in-Faults.points_left
+    does_so _ [] _ _ _ _ _ (fault_answers c.args.options known asked _ c.args.found.map c.in-Faults.faults c.in-Faults.touched
     (IfSome_then known are (λ text is. record { told = subst (IsListingOf c.args.options text) c.in-Faults.is is.told; drawn = is.drawn })))
     (fault_stops c.args.options known asked w) _ c.tell_faults.ensures

@@ -6,7 +6,7 @@ use Rattle.tigertopo_svg.proofs.picture.are_strokes_few.Given as goal
 
 abbrev pub invariant-loop-number : goal.invariant-loop-number
 invariant-loop-number l = record {
-  counted : fold (λ a (d : Drawing). a + length d.strokes) l.count (drawings l.frame l.skipped l.number (drop l.number l.map.chains)) ≡ stroke_count l.frame l.skipped l.map.chains;
+  counted : fold (λ a (d : Drawing). a + length d.strokes) l.count (drawings l.frame (drop l.number l.map.chains)) ≡ stroke_count l.frame l.map.chains;
   bound : l.count ≤ l.number * 2 ^ 64;
   few : l.count ≤ l.most;
 }

@@ -6,6 +6,6 @@ use Rattle.tigertopo_svg.proofs.picture.chain_count.Given as goal
 
 abbrev pub invariant-loop-number : goal.invariant-loop-number
 invariant-loop-number l = record {
-  counted : fold (λ a (d : Drawing). a + cond (is_shown d) 1 0) l.count (drawings l.picture.frame l.picture.skipped l.number (drop l.number l.map.chains)) ≡ chain_count l.picture l.map;
+  counted : fold (λ a (d : Drawing). a + cond (is_shown d) 1 0) l.count (drawings l.picture.frame (drop l.number l.map.chains)) ≡ chain_count l.picture l.map;
   bound : l.count ≤ l.number;
 }

@@ -1,7 +1,8 @@
 use Rattle.std.proofs.Common.{◌≡◌, ◌+◌, ◌≤◌, drop}
 use Rattle.std.specs.Prelude.{fold, cond}
 use Rattle.tl_map_county.specs.declared.polygons.Polygon.{Polygon}
-use Rattle.tigertopo_svg.specs.Pictures.{is_inside, point_count}
+use Rattle.tigertopo_svg.specs.Pictures.{point_count}
+use Rattle.tigertopo_svg.specs.Frames.{is_inside}
 use Rattle.tigertopo_svg.proofs.picture.point_count.Given as goal
 
 abbrev pub invariant-loop-number : goal.invariant-loop-number

@@ -11,9 +11,9 @@ loop-number-init g c = at_start _ _ _
 
 pub loop-number-preserved : goal.loop-number-preserved
 loop-number-preserved g c =
-    let next = ap (flat_map drawing_text) (drawings_next c.args.picture.frame c.args.picture.skipped c.args.map.now.chains c.loop-number.number _ _ _ _ c.chain.ensures.chain) in
+    let next = ap (flat_map drawing_text) (drawings_next c.args.picture.frame c.args.map.now.chains c.loop-number.number _ _ _ _ c.chain.ensures.chain) in
     piece_more _ next c.loop-number.invariant (as_text c.print_strokes.ensures (ap (flat_map stroke_text) c.walk_along-walk.ensures.strokes))
 
 pub returns : goal.returns
 returns g c =
-    at_end (ap (flat_map drawing_text) (drawings_end c.args.picture.frame c.args.picture.skipped c.args.map.now.chains c.loop-number.number (omega arith))) c.loop-number.invariant
+    at_end (ap (flat_map drawing_text) (drawings_end c.args.picture.frame c.args.map.now.chains c.loop-number.number (omega arith))) c.loop-number.invariant

@@ -9,4 +9,4 @@ use Rattle.tigertopo_svg.proofs.print.print_drawings.Given as goal
 abbrev pub invariant-loop-number : goal.invariant-loop-number
 invariant-loop-number g l =
     PrintsUpTo g.S.Sink.contents g.S.Sink.failure_count (l.initial.out, l.initial.printer) (l.out, l.printer)
-    (flat_map drawing_text (drawn l.picture l.map)) (flat_map drawing_text (drawings l.picture.frame l.picture.skipped l.number (drop l.number l.map.chains)))
+    (flat_map drawing_text (drawn l.picture l.map)) (flat_map drawing_text (drawings l.picture.frame (drop l.number l.map.chains)))

@@ -4,4 +4,4 @@ use Rattle.tigertopo_svg.proofs.text.size_text.Goals as goal
 
 pub returns : goal.returns
 unfolding size_text
-returns c = rw (c.push_str.ensures.bytes, c.push_number-4.ensures.bytes, c.push_number-3.ensures.bytes, c.push_number-2.ensures.bytes, c.push_number.ensures.bytes, c.new-text.ensures, c.pixels-wide.ensures, c.pixels-high.ensures) refl
+returns c = rw (c.push_str.ensures.bytes, c.push_number-2.ensures.bytes, c.push_number.ensures.bytes, c.new-text.ensures, c.reach_east.ensures.value, c.reach_south.ensures.value, c.side-side.ensures.value) refl

@@ -1,28 +1,22 @@
-use Rattle.std.proofs.Common.{subst}
-use Rattle.std.proofs.lemmas.Result.{err_from_is_err_and}
-use Rattle.tl_list.specs.Keeping.OfMap.{AddsAgreement}
-use Rattle.tl_list.proofs.OfMap.{points_left}
+use Rattle.std.proofs.Common.{Contains}
+use Rattle.std.proofs.lemmas.Result.{on_ok_weaker}
+use Rattle.tl_list_map.specs.Points.Hidden.{IsMarked}
+use Rattle.tl_list.specs.Keeping.OfMap.{AddsPoints}
+use Rattle.tl_list.proofs.OfMap.{agreement_of, points_there}
 use Rattle.tl_list.proofs.met.push_rest.Goals as goal
 
-pub returns-then-left : goal.returns-then-left
-returns-then-left c = record {
-  between = c.push_disagreements.new.faults.items;
-  agreement = subst (λ left. AddsAgreement c.args.map.now left c.args.faults.now.items c.push_disagreements.new.faults.items) c.if-left.true c.in_ok-left.ensures;
-  points = points_left c.args.map.now c.push_disagreements.new.faults.items;
-}
-
 pub returns : goal.returns
-returns c = record {
-  between = c.push_disagreements.new.faults.items;
-  agreement = subst (λ left. AddsAgreement c.args.map.now left c.args.faults.now.items c.push_disagreements.new.faults.items) c.if-left.false c.in_ok-left.ensures;
-  points = c.in_ok-push_suspects.ensures;
-}
-
-pub returns-in_err-left : goal.returns-in_err-left
-returns-in_err-left c = let p = err_from_is_err_and c.from_residual.result c.from_residual.ensures.1 in rw p.1 tt
-
-pub returns-in_err-push_suspects : goal.returns-in_err-push_suspects
-returns-in_err-push_suspects c = let p = err_from_is_err_and c.from_residual-in_err-push_suspects.result c.from_residual-in_err-push_suspects.ensures.1 in rw p.1 tt
-
-pub returns-in_err-suspects : goal.returns-in_err-suspects
-returns-in_err-suspects c = let p = err_from_is_err_and c.from_residual-in_err-suspects.result c.from_residual-in_err-suspects.ensures.1 in rw p.1 tt
+returns c =
+    let m = c.args.map.now in
+    let marks = c.args.differing.now.marks.now in
+    let touched = c.args.differing.now.touched.now in
+    on_ok_weaker c.push_suspects.result
+    (λ (adds : AddsPoints (IsMarked marks) c.args.seen.now c.push_all_cells.new.faults.items c.push_suspects.new.faults.items). record {
+      between = c.push_all_cells.new.faults.items;
+      agreement =
+          agreement_of m touched c.args.differing.now.sides.now c.args.faults.now.items c.push_sides.new.faults.items c.push_all_cells.new.faults.items c.requires.sides
+          c.requires.touched c.in_ok-push_sides.ensures c.in_ok-push_all_cells.ensures;
+      points =
+          points_there (IsMarked marks) (Contains touched) m c.args.seen.now c.push_all_cells.new.faults.items c.push_suspects.new.faults.items c.requires.marks
+          c.requires.alike c.has_proper_chains.ensures adds;
+    }) c.push_suspects.ensures

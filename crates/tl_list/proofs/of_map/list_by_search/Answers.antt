@@ -1,12 +1,11 @@
-use Rattle.std.proofs.Common.{◌≡◌, length, arith}
-use Rattle.std.proofs.lemmas.List.{nil_from_length}
-use Rattle.std.proofs.lemmas.Result.{err_from_is_err_and}
+use Rattle.tl_list_map.specs.Points.Hidden.{IsMarked}
+use Rattle.tl_list.proofs.OfMap.{same_marks, itself}
 use Rattle.tl_list.proofs.of_map.list_by_search.Goals as goal
 
-pub list_planar-requires-clause-planar : goal.list_planar-requires-clause-planar
-list_planar-requires-clause-planar c =
-    let none : length c.in_ok-meets.meets.items ≡ 0 = grind (arith, c.is_empty.ensures, c.if-is_empty.true) in
-    (c.planar_where_no_meet_is_listed.ensures _ _ c.in_ok-meets.ensures).1 (nil_from_length c.in_ok-meets.meets.items none)
+pub list_by_part-requires-clause-marks : goal.list_by_part-requires-clause-marks
+list_by_part-requires-clause-marks c =
+    same_marks c.in_ok-marks.marks.items c.deref-5.result.now c.in_ok-touched.touched.items c.deref-4.result.now c.deref-2.result.now c.deref-5.ensures.value c.deref-4.ensures.value
+    c.deref-2.ensures.value c.in_ok-marks.ensures
 
-pub returns-in_err-meets : goal.returns-in_err-meets
-returns-in_err-meets c = let p = err_from_is_err_and c.from_residual.result c.from_residual.ensures.1 in rw p.1 tt
+pub list_by_part-requires-in-None-clause-alike : goal.list_by_part-requires-in-None-clause-alike
+list_by_part-requires-in-None-clause-alike c = itself (IsMarked c.deref-5.result.now) c.args.map.now

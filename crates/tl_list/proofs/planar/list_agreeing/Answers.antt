@@ -1,4 +1,4 @@
-use Rattle.std.proofs.Common.{◌≡◌, [], false, length, refl, arith}
+use Rattle.std.proofs.Common.{◌≡◌, [], length, refl, arith}
 use Rattle.std.proofs.lemmas.List.{nil_from_length}
 use Rattle.std.proofs.lemmas.Result.{err_from_is_err_and}
 use Rattle.tl_build_propose.proofs.Soundness.{sound_by, report_by}
@@ -11,7 +11,7 @@ returns-then-is_empty c =
     let m = c.args.map.now in
     let rings = c.requires.rings in
     let none : length c.push_suspects.new.faults.items ≡ 0 = grind (arith, c.is_empty.ensures, c.if-is_empty.true) in
-    let nothing : HasNone m = has_none m c.push_suspects.new.faults.items false
+    let nothing : HasNone m = has_none m c.push_suspects.new.faults.items 0
     (all_agreeing m c.new-faults.result.items c.push_all_cells.new.faults.items c.push_suspects.new.faults.items c.requires.planar c.new-faults.ensures.items c.requires.rings.agree c.in_ok-push_all_cells.ensures c.in_ok-push_suspects.ensures) (nil_from_length c.push_suspects.new.faults.items none) in (
       sound_by m rings.walks rings.are c.requires.planar
           (rings.agree, (c.cells_agree_where_no_pair_is_listed.ensures m.chains [] nothing.cells).1 refl)

@@ -5,7 +5,7 @@ use Rattle.tl_geom.specs.declared.point.Point.{Point}
 use Rattle.tl_map_county.specs.TheMap.{TheMap}
 use Rattle.tl_check_inside.specs.declared.misplaced.Misplaced.{Misplaced}
 use Rattle.tl_check_inside.specs.Inside.{IsClear}
-use Rattle.tl_list_map.specs.Points.AllMisplaced.{FaultPlace, ComesBefore, IsTrueAt, AreTrueAt}
+use Rattle.tl_list_map.specs.Points.AllMisplaced.{FaultPlace, ComesBefore, IsTrueAt, AreTrueAt, IsSettled}
 
 -- all faults that are true at such places, in their order
 pub record AreFaultsIn (m : TheMap) (In : FaultPlace → Type 0) (found : List Misplaced) : Type 0 where
@@ -30,6 +30,10 @@ IsBefore p at = at.polygon < p
 -- places of these polygons
 abbrev pub IsOfAny : List ℕ → FaultPlace → Type 0
 IsOfAny polygons at = Contains polygons at.polygon
+
+-- such places that are settled
+abbrev pub AndSettled : (Hidden : ℕ → Type 0) → (In : FaultPlace → Type 0) → FaultPlace → Type 0
+AndSettled Hidden In at = In at × IsSettled Hidden at
 
 -- behind the old faults stand all that are true at such places
 pub record HasPart (m : TheMap) (In : FaultPlace → Type 0) (old new : List Misplaced) : Type 0 where

@@ -1,4 +1,4 @@
-use Rattle.std.proofs.Common.{inl, map, string_bytes}
+use Rattle.std.proofs.Common.{false, inl, map, string_bytes}
 use Rattle.tigertopo_files.specs.World.{world}
 use Rattle.tigertopo_outcome.specs.Answers.{IsSaid, said_text}
 use Rattle.tl_cert_output.specs.Streams.{stream}
@@ -14,4 +14,4 @@ returns-then-is_plain g c =
     let s = streams (stream g.W.Sink.contents g.W.Sink.failure_count c.args.out.now c.tell_answer.new.out) (stream g.E.Sink.contents g.E.Sink.failure_count c.args.err.now c.tell_answer.new.err) in
     let names = map string_bytes command.files.items in
     inl (answered (terms (PlainAnswers command.asked command.options names w) (PlainStops command.asked command.options names w) (¬ IsPlain command.asked)) command w s c.tell_answer.result
-    (IsSaid (PlainAnswers command.asked command.options names w)) said_text c.answer-answer.result c.answer-answer.ensures (λ a so. so.0) c.tell_answer.ensures.told c.tell_answer.ensures.stop c.requires)
+    (IsSaid (PlainAnswers command.asked command.options names w)) said_text c.answer-answer.result c.answer-answer.ensures (λ a so. so.0) false (λ e. absurd (cc e)) c.tell_answer.ensures.told c.tell_answer.ensures.stop c.requires)

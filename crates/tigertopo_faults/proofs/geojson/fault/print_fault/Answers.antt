@@ -11,4 +11,4 @@ returns g c =
     as_text
     (both (both (both (both (both (both (both (both c.add.ensures c.print_geometry.ensures) c.add-2.ensures) c.print_words.ensures) c.add-3.ensures) c.print_exact.ensures) c.print_names.ensures) c.print_spoken.ensures)
     c.add-4.ensures)
-    (rw (told, c.fault_place-at.ensures) refl)
+    (rw told refl)

@@ -10,4 +10,4 @@ use Rattle.tigertopo_faults.proofs.geojson.fault.print_features.Given as goal
 abbrev pub invariant-loop-number : goal.invariant-loop-number
 invariant-loop-number g l =
     Prints g.S.Sink.contents g.S.Sink.failure_count (l.initial.out, l.initial.printer) (l.out, l.printer)
-    (features_below 0 (fault_feature (map string_bytes l.names) l.counts (chains_of (option_copied l.drawn)) (held l.lines) l.faults) l.number)
+    (features_below 0 (fault_feature (map string_bytes l.names) l.counts (chains_of (option_copied l.drawn)) (held l.lines) l.places l.faults) l.number)

@@ -6,4 +6,4 @@ use Rattle.tigertopo_faults.proofs.geojson.record.print_record.Goals as goal
 pub returns : goal.returns
 unfolding record_text
 returns g c =
-    as_text (both (both (both (both c.add.ensures c.print_line.ensures) c.add-2.ensures) c.add-3.ensures) c.add-4.ensures) (rw c.type_of.ensures refl)
+    as_text (both (both (both (both (both (both c.add.ensures c.print_line.ensures) c.add-2.ensures) c.add-3.ensures) c.add-4.ensures) c.print_ends.ensures) c.add-5.ensures) (rw c.type_of.ensures refl)

@@ -11,7 +11,7 @@ use Rattle.tigertopo_command.specs.Commands.{PlainAnswers, PlainStops, is_plain,
 use Rattle.tigertopo_command.specs.Running.{streams, terms}
 use Rattle.tigertopo_command.proofs.CommandLemmas.{answered}
 use Rattle.tigertopo_program.specs.Draw.Drawing.{DrawAnswers, Wanted}
-use Rattle.tigertopo_program.specs.Export.Exports.{ExportAnswers}
+use Rattle.tigertopo_program.specs.Export.Exports.{ExportAnswers, asked_of}
 use Rattle.tigertopo_lists.specs.Listed.{Asked, ListAnswers, StopsList, listed_text}
 use Rattle.tigertopo_program.specs.Answers.{AllAnswers, AllStops}
 use Rattle.tigertopo_program.proofs.WholeLemmas.{plain_answers, plain_stops, list_answers, list_stops}
@@ -29,7 +29,7 @@ returns-then-is_plain g c =
     (IsSaid (PlainAnswers command.asked options names w)) said_text c.answer-answer.result
     (does_so w (names_read command) (made_of command.asked) (IsSaid (PlainAnswers command.asked options names w)) (IsSaid (PlainAnswers command.asked options names w)) (PlainStops command.asked options names w)
     (AllStops command.asked options names w) (λ a so. so) (λ stop. plain_stops command.asked options names w stop plain) c.answer-answer.result c.answer-answer.ensures)
-    (λ a so. plain_answers command.asked options names w a.status (said_text a.text) plain so.0) c.tell_answer.ensures.told c.tell_answer.ensures.stop c.requires)
+    (λ a so. plain_answers command.asked options names w a.status (said_text a.text) plain so.0) false (λ e. absurd (cc e)) c.tell_answer.ensures.told c.tell_answer.ensures.stop c.requires)
 
 pub returns-in-Audit : goal.returns-in-Audit
 returns-in-Audit g c =
@@ -51,7 +51,7 @@ returns-in-Audit g c =
     (does_so w names (option_map string_bytes made) (λ answer. ListAnswers w options known asked answer.status (listed_text answer.text)) (λ answer. ListAnswers w options known asked answer.status (listed_text answer.text))
     (StopsList w options known asked) (AllStops (Audit told places made) options names w) (λ t so. so) (λ stop. list_stops told places made options names w stop more) c.list-answer.result (rw c.as_slice-names.ensures.value at c.list-answer.ensures)))
     (λ a so. subst (λ q. AllAnswers q options names w a.status (listed_text a.text)) (sym c.in-Audit.is) (list_answers told places made options names w a.status (listed_text a.text) more so))
-    c.tell_answer-in-Audit.ensures.told c.tell_answer-in-Audit.ensures.stop c.requires)
+    c.is_aside-aside.result c.is_aside-aside.ensures c.tell_answer-in-Audit.ensures.told c.tell_answer-in-Audit.ensures.stop c.requires)
 
 pub returns-in-Export : goal.returns-in-Export
 returns-in-Export g c =
@@ -61,13 +61,13 @@ returns-in-Export g c =
     let w = world g.F.FileSystem.under g.F.FileSystem.log g.F.FileSystem.knows c.args.files.now c.export-answer.new.files in
     let s = streams (stream g.W.Sink.contents g.W.Sink.failure_count c.args.out.now c.tell_answer-in-Export.new.out) (stream g.E.Sink.contents g.E.Sink.failure_count c.args.err.now c.tell_answer-in-Export.new.err) in
     let known = text_under w.before names in
-    let answers = ExportAnswers w (layout_with options) known (string_bytes c.in-Export.made) in
+    let answers = ExportAnswers w (layout_with options) known (asked_of names (string_bytes c.in-Export.made) c.in-Export.layer) in
     inl (answered (terms (AllAnswers command.asked options names w) (AllStops command.asked options names w) ⊥) command w s c.tell_answer-in-Export.result
     (IsSaid answers) said_text c.export-answer.result
     (subst (λ a. Does w (names_with a names) (made_of a) (IsSaid answers) (AllStops a options names w) c.export-answer.result) (sym c.in-Export.is)
     (rw c.as_slice-names.ensures.value at c.export-answer.ensures))
     (λ a so. subst (λ q. AllAnswers q options names w a.status (said_text a.text)) (sym c.in-Export.is) so.0)
-    c.tell_answer-in-Export.ensures.told c.tell_answer-in-Export.ensures.stop c.requires)
+    c.is_aside-aside.result c.is_aside-aside.ensures c.tell_answer-in-Export.ensures.told c.tell_answer-in-Export.ensures.stop c.requires)
 
 pub returns-in-Draw : goal.returns-in-Draw
 returns-in-Draw g c =
@@ -84,4 +84,4 @@ returns-in-Draw g c =
     (subst (λ a. Does w (names_with a names) (made_of a) (IsSaid answers) (AllStops a options names w) c.draw-answer.result) (sym c.in-Draw.is)
     (rw c.as_slice-names.ensures.value at c.draw-answer.ensures))
     (λ a so. subst (λ q. AllAnswers q options names w a.status (said_text a.text)) (sym c.in-Draw.is) so.0)
-    c.tell_answer-in-Draw.ensures.told c.tell_answer-in-Draw.ensures.stop c.requires)
+    c.is_aside-aside.result c.is_aside-aside.ensures c.tell_answer-in-Draw.ensures.told c.tell_answer-in-Draw.ensures.stop c.requires)

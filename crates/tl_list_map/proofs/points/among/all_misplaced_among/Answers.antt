@@ -1,5 +1,6 @@
 use Rattle.std.proofs.Common.{length, sym, subst}
 use Rattle.std.specs.List.Sorted.{IsStrictlyIncreasing}
+use Rattle.tl_list_map.specs.Points.Hidden.{IsMarked}
 use Rattle.tl_list_map.proofs.PointsLemmas.Known.{all_sorted, all_answered}
 use Rattle.tl_list_map.proofs.points.among.all_misplaced_among.Goals as goal
 
@@ -13,5 +14,5 @@ list_each-requires-clause-rising g c = subst IsStrictlyIncreasing (sym c.deref.e
 
 pub returns : goal.returns
 returns g c =
-    all_answered c.args.map.now c.args.suspects.now.items c.sort_once.new.numbers.items c.deref.result.now c.list_each.result c.deref.ensures.value
+    all_answered (IsMarked c.args.marks.now) c.args.map.now c.args.suspects.now.items c.sort_once.new.numbers.items c.deref.result.now c.list_each.result c.deref.ensures.value
     c.requires.suspects (λ x. (c.sort_once.ensures.same x).1) (λ x. (c.sort_once.ensures.same x).0) c.list_each.ensures

@@ -4,15 +4,16 @@ use Rattle.std.proofs.lemmas.List.{take_all}
 use Rattle.tl_check_inside.specs.declared.flanks.Flanks.{Flanks}
 use Rattle.tl_check_inside.specs.Keeping.Strips.{IsSiteOf, numbers}
 use Rattle.tl_check_inside.specs.Keeping.Tallies.{AreClear}
+use Rattle.tl_list_map.specs.Points.Hidden.{IsMarked}
 use Rattle.tl_list_map.specs.Points.Keeping.Known.{TellAt}
-use Rattle.tl_list_map.specs.Points.Keeping.Parts.{AreFaultsIn, IsOfAny}
+use Rattle.tl_list_map.specs.Points.Keeping.Parts.{AreFaultsIn, IsOfAny, AndSettled}
 use Rattle.tl_list_map.proofs.PointsLemmas.Suspected.{none_among, one_more_among}
 use Rattle.tl_list_map.proofs.PointsLemmas.Known.{some_more, tell_at}
 use Rattle.tl_list_map.proofs.points.among.list_each.Goals as goal
 
 pub loop-place-init : goal.loop-place-init
 loop-place-init g c = record {
-  found = rw c.new-found.ensures.items (none_among c.args.map.now);
+  found = rw c.new-found.ensures.items (none_among (IsMarked c.args.marks.now) c.args.map.now);
   clear = subst (λ n. AreClear n c.in_ok-room.room.near.items c.in_ok-room.room.far.items) c.polygons.ensures c.in_ok-room.ensures;
 }
 
@@ -33,12 +34,12 @@ list_one-requires-clause-clear g c = c.loop-place.invariant.clear
 pub loop-place-preserved : goal.loop-place-preserved
 loop-place-preserved g c = record {
   found =
-      one_more_among c.args.map.now c.args.polygons.now c.loop-place.place c.loop-place.found.items c.list_one.new.found.items c.loop-place-test.true
+      one_more_among (IsMarked c.args.marks.now) c.args.map.now c.args.polygons.now c.loop-place.place c.loop-place.found.items c.list_one.new.found.items c.loop-place-test.true
       c.requires.rising c.loop-place.invariant.found c.in_ok-list_one.ensures.part;
   clear = c.in_ok-list_one.ensures.clear;
 }
 
 pub returns : goal.returns
 returns g c =
-    subst (λ l. AreFaultsIn c.args.map.now (IsOfAny l) c.loop-place.found.items) (take_all c.loop-place.place c.args.polygons.now c.loop-place-test.false)
+    subst (λ l. AreFaultsIn c.args.map.now (AndSettled (IsMarked c.args.marks.now) (IsOfAny l)) c.loop-place.found.items) (take_all c.loop-place.place c.args.polygons.now c.loop-place-test.false)
     c.loop-place.invariant.found

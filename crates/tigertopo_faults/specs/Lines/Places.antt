@@ -1,0 +1,48 @@
+-- Where faults lie.
+use Rattle.std.specs.Prelude.{ℕ, List, [], ◌∷◌, Option, None, Some, option_map, slice_get, if◌then◌else◌}
+use Rattle.std.specs.Option.{option_and_then}
+use Rattle.tl_geom.specs.declared.point.Point.{Point}
+use Rattle.tl_geom.specs.declared.rational.Rational.{Rational}
+use Rattle.tl_geom.specs.Plane.{whole}
+use Rattle.tl_record_key.specs.declared.key.PolyKey.{PolyKey}
+use Rattle.tl_map_county.specs.declared.polygons.Polygon.{Polygon}
+use Rattle.tl_map_county.specs.TheMap.{TheMap}
+use Rattle.tl_map_county.specs.Darts.{dart_start}
+use Rattle.tl_map_rules.specs.MapOf.{same_key}
+use Rattle.tl_check_inside.specs.declared.misplaced.Misplaced.{Misplaced}
+use Rattle.tl_check_inside.specs.declared.misplaced.Misplaced.TheVariants.{OnChain, Outside, InOther}
+use Rattle.tl_check_faces.specs.declared.fault.FaceFault.TheVariants.{Facing, Outward}
+use Rattle.tl_check_verdict.specs.declared.fault.MapFault.{MapFault}
+use Rattle.tl_check_verdict.specs.declared.fault.MapFault.TheVariants.{Records, Meet, Side, PolygonPoint, Cell, Face}
+use Rattle.tigertopo_faults.specs.Records.SpokenOf.{chains_of}
+
+-- the polygons of a map, where there is one
+abbrev pub polygons_of : Option TheMap → List Polygon
+polygons_of None = []
+polygons_of (Some m) = m.polygons
+
+-- the point of the first polygon that has the key
+abbrev pub point_of_key : List Polygon → PolyKey → Option Point
+point_of_key [] key = None
+point_of_key (polygon ∷ rest) key = if same_key polygon.key key then Some polygon.point else point_of_key rest key
+
+-- the polygon whose point lies wrong
+abbrev pub polygon_of : Misplaced → PolyKey
+polygon_of (OnChain polygon tlid) = polygon
+polygon_of (Outside polygon) = polygon
+polygon_of (InOther polygon other) = polygon
+
+-- where a fault lies on the map that the records draw: where two segments meet, at a node, at a polygon's point, where a dart starts, on
+-- the first of two segments that face one another; a fault of the records alone has no place
+abbrev pub fault_place : Option TheMap → MapFault → Option Rational
+fault_place drawn (Records fault) = None
+fault_place drawn (Meet meet) = Some meet.at
+fault_place drawn (Side node first next) = Some (whole node)
+fault_place drawn (PolygonPoint misplaced) = option_map whole (point_of_key (polygons_of drawn) (polygon_of misplaced))
+fault_place drawn (Cell odds) = option_map whole (dart_start (chains_of drawn) odds.first)
+fault_place drawn (Face (Facing first last)) = Some first.at
+fault_place drawn (Face (Outward face way)) = Some face.at
+
+-- the place with this number, where there is one
+abbrev pub place_at : List (Option Rational) → ℕ → Option Rational
+place_at places n = option_and_then (λ (at : Option Rational). at) (slice_get places n)
