@@ -2,7 +2,8 @@
 --
 -- A degree is taken as long as it is at the latitude φ of the polygon's point: by the usual series for the ellipsoid of NAD83,
 -- 111132.954 - 559.822 cos 2φ metres to the north, and 111412.84 cos φ - 93.5 cos 3φ metres to the east. With c = cos φ these are
--- 111692.78 - 1119.64 c² and c (111693.34 - 374.00 c²). At that latitude a square degree is so right to a hundred-thousandth.
+-- 111692.78 - 1119.64 c² and c (111693.34 - 374.00 c²). At that latitude a square degree is so right to two hundred-thousandths
+-- up to 72 degrees, and to two thousandths up to 89.
 use Rattle.std.specs.Prelude.{ℕ, ◌+◌, ◌-◌, ◌*◌, ◌/◌, min, ℤ, pos, unsigned_abs, int_lt, List, ◌++◌, decimal}
 use Rattle.tigertopo_geojson.specs.Positions.{sign_text}
 

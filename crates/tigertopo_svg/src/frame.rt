@@ -1,8 +1,10 @@
 //! Which part of the plane a picture shows, and where points lie in it.
 
 ghost use Rattle.std.specs.Prelude.{◌≡◌, ◌*◌, ◌<◌, ◌≤◌, ◌^◌, pos, ◌+ℤ◌, ◌-ℤ◌, ◌*ℤ◌, ◌&&◌, not, unsigned_abs};
-ghost use Rattle.tigertopo_svg.specs.Frames.{cosine, breadth, height, side, way, position, spot_at, spot_of, east, south, reach_east, reach_south, first_corner, last_corner};
-ghost use Rattle.tigertopo_svg.specs.Frames.{is_across, are_across, is_held, is_inside, is_beside, is_seen, is_tiny, is_near, is_small, frame_about, fitted, frame_at};
+ghost use Rattle.tigertopo_svg.specs.Frames.{cosine, breadth, height, side, way, position, spot_at};
+ghost use Rattle.tigertopo_svg.specs.Frames.{spot_of, east, south, reach_east, reach_south, first_corner, last_corner};
+ghost use Rattle.tigertopo_svg.specs.Frames.{is_across, are_across, is_held, is_inside, is_beside, is_seen};
+ghost use Rattle.tigertopo_svg.specs.Frames.{is_tiny, is_near, is_small, frame_about, fitted, frame_at};
 
 use crate::bounds::bounds_of;
 use crate::lean::is_beside;

@@ -3,7 +3,8 @@
 ghost use Rattle.std.specs.Prelude.{◌≡◌, ◌<◌, ◌≤◌, ◌^◌, ◌*◌, pos, ◌+ℤ◌, ◌-ℤ◌, ◌<ℤ◌, option_map, unsigned_abs};
 ghost use Rattle.tl_geom.specs.Plane.{whole};
 ghost use Rattle.tl_map_county.specs.Darts.{dart_start};
-ghost use Rattle.tigertopo_svg.specs.Pictures.{coordinate, floor_of, polygon_of, place_of, part_of, beyond, beyond_up, mark_at, mark_of, fault_mark, is_fault_inside, ArePointsOf};
+ghost use Rattle.tigertopo_svg.specs.Pictures.{coordinate, floor_of, polygon_of, place_of, part_of, beyond};
+ghost use Rattle.tigertopo_svg.specs.Pictures.{beyond_up, mark_at, mark_of, fault_mark, is_fault_inside, ArePointsOf};
 
 use crate::frame::{Frame, Position};
 use crate::keyed::KeyedPoints;

@@ -2,7 +2,8 @@
 
 ghost use Rattle.std.specs.Prelude.{◌≡◌, ◌+◌, ◌≤◌, ◌++◌, pos, ◌+ℤ◌, ◌-ℤ◌, codes, length};
 ghost use Rattle.arrayvec.specs.ArrayString.{array_string_len};
-ghost use Rattle.tigertopo_svg.specs.Texts.{move_text, start_text, stroke_text, dot_text, size_text, circle_head, closer, closer_text, is_eastern, west_label, east_label, label_head};
+ghost use Rattle.tigertopo_svg.specs.Texts.{move_text, start_text, stroke_text, dot_text, size_text, circle_head};
+ghost use Rattle.tigertopo_svg.specs.Texts.{closer, closer_text, is_eastern, west_label, east_label, label_head};
 
 use crate::frame::{Frame, Spot};
 use crate::walk::Stroke;

@@ -28,10 +28,10 @@ use tl_check_sweep::PlanarPart;
 use tl_map_county::Map;
 use tl_tree_index::{BoxIndex, Memory};
 
-/// All faults of the points of a map's polygons, as [`crate::points::all_misplaced`] lists them, but that a point is outside of a marked polygon or
-/// in one, where the points of all polygons but these are known to lie where they have to. These are given in any order, and are left sorted. The counts at most of them become known
-/// in one sweep over the map or, where its chains meet, over a part of it that is planar; it takes a search for each of the others alone.
-/// An error says that memory was refused.
+/// All faults of the points of a map's polygons, as [`crate::points::all_misplaced`] lists them, but that a point is outside of a
+/// marked polygon or in one, where the points of all polygons but these are known to lie where they have to. These are given in any
+/// order, and are left sorted. The counts at most of them become known in one sweep over the map or, where its chains meet, over a
+/// part of it that is planar; it takes a search for each of the others alone. An error says that memory was refused.
 pub fn all_misplaced_among<X: BoxIndex>(
     alloc: Global,
     index: &X,
