@@ -1,0 +1,5 @@
+-- What the laws cite.
+pub mod Told
+pub mod Homes
+pub mod Joined
+pub mod Sound

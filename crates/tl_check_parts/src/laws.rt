@@ -1,0 +1,1 @@
+//! Laws of the definitions, each the contract of a function that does nothing.
