@@ -1,2 +1,4 @@
 pub mod Told
 pub mod Counts
+pub mod Near
+pub mod Beside
