@@ -22,7 +22,8 @@ use Rattle.tl_check_faces.proofs.Alone.{alone}
 use Rattle.tl_check_faces.proofs.Bounds.{IsFar, far, AreBounded}
 use Rattle.tl_check_faces.proofs.Ends as chain_ends
 use Rattle.tl_check_faces.proofs.Others.{widest_of, nearness}
-use Rattle.tl_check_faces.proofs.ToFaces.{ahead, is_near, left_of}
+use Rattle.tl_check_faces.proofs.ToFaces.{ahead}
+use Rattle.tl_check_parts.proofs.Ahead.{is_near, left_of}
 use Rattle.tl_check_parts.proofs.Near.{on_near}
 
 times_one : (z : ℤ) → z *ℤ pos 1 ≡ z
@@ -109,10 +110,10 @@ straight_on ax ay bx by rx ry rd m =
     same ((c ⊖ a) ⊗ ((M ⊗ num ry ⊕ one ⊗ (b ⊕ e)) ⊖ (M ⊗ R ⊕ one ⊗ two) ⊗ b) ⊖ (e ⊖ b) ⊗ ((M ⊗ num rx ⊕ one ⊗ (a ⊕ c)) ⊖ (M ⊗ R ⊕ one ⊗ two) ⊗ a))
     (M ⊗ ((c ⊖ a) ⊗ (num ry ⊖ R ⊗ b) ⊖ (e ⊖ b) ⊗ (num rx ⊖ R ⊗ a))) (omega arith)
 
-some_two : pos 0 ≤ℤ pos 2
+abbrev pub some_two : pos 0 ≤ℤ pos 2
 some_two = omega (arith, ints)
 
-one : pos 0 <ℤ pos 1
+abbrev pub one : pos 0 <ℤ pos 1
 one = omega (arith, ints)
 
 module _ (u : Segment) (r : Rational) (on : IsOn u r) (m : ℤ) (some_m : pos 0 <ℤ m) where
@@ -160,7 +161,7 @@ module _ (p : Rational) (x y d : ℤ) (at_least : pos 0 ≤ℤ d) (e : ℤ) (som
   some_parts = let more = product_at_least e (pos b) (omega (arith, ints, some_e)) (omega (arith, ints)) in omega (arith, ints, more)
 
   pub ahead_near : IsNearer e p (ahead p x y d at_least enough (pos 1) some_parts one)
-  unfolding enough, b
+  unfolding enough b
   ahead_near =
       is_near p x y d at_least e enough some_e some_parts one b (omega (arith, ints))
       (let h = east.below in omega (arith, ints, h)) (let h = east.above in omega (arith, ints, h))

@@ -1,4 +1,6 @@
 pub mod Told
 pub mod Counts
 pub mod Near
+pub mod Ahead
 pub mod Beside
+pub mod Lies
