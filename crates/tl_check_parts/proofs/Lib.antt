@@ -4,3 +4,4 @@ pub mod Near
 pub mod Ahead
 pub mod Beside
 pub mod Lies
+pub mod Deciding
