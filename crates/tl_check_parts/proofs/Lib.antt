@@ -5,3 +5,4 @@ pub mod Ahead
 pub mod Beside
 pub mod Lies
 pub mod Deciding
+pub mod Names
