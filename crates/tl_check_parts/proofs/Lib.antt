@@ -6,3 +6,4 @@ pub mod Beside
 pub mod Lies
 pub mod Deciding
 pub mod Names
+pub mod Fitting
