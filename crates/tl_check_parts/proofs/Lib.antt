@@ -7,3 +7,4 @@ pub mod Lies
 pub mod Deciding
 pub mod Names
 pub mod Fitting
+pub mod Planar

@@ -138,6 +138,19 @@ module _ (homes : Homes) where
       by Outside = refl
       by (Polygon p) = refl
 
+  not_blank : (k : ℕ) (s : Side) → is_of homes k s ≡ true → is_blank s ≡ false
+  not_blank k Outside e = absurd (false≢true e)
+  not_blank k (Polygon p) e = refl
+
+  -- a chain inside another part isn't told
+  pub untold_inner : (i j : ℕ) (c : MapChain) → i ≢ j → is_of homes i c.left ≡ true → is_of homes i c.right ≡ true → tells homes j c ≡ false
+  untold_inner i j c ne left right = by (is_of homes j c.left) (is_of homes j c.right) refl refl
+    where
+      by : (s t : Bool) → is_of homes j c.left ≡ s → is_of homes j c.right ≡ t → tells homes j c ≡ false
+      by true t e f = absurd (ne (one_of i j c.left left e))
+      by false true e f = absurd (ne (one_of i j c.right right f))
+      by false false e f = rw (e, f, not_blank i c.left left) refl
+
   -- ---- each chain is told by a part
 
   pub record IsToldBy (n : ℕ) (c : MapChain) : Type 0 where
