@@ -8,3 +8,4 @@ pub mod Deciding
 pub mod Names
 pub mod Fitting
 pub mod Planar
+pub mod Faces
