@@ -77,7 +77,7 @@ module _ (homes : Homes) (two : (p q : ℕ) → homes.part p ≡ homes.part q �
   own_polygon : (k p : ℕ) → homes.part p ≡ k → (λ s. is_polygon (homes.number p) (own homes k s)) ≡ is_polygon p
   own_polygon k p e = subst (λ j. (λ s. is_polygon (homes.number p) (own homes j s)) ≡ is_polygon p) e (λ i s. polygon_own homes two p s i)
 
-  polygon_counts : (k p : ℕ) → homes.part p ≡ k → (lt : k < n) (q : Rational) (m : ℤ) →
+  pub polygon_counts : (k p : ℕ) → homes.part p ≡ k → (lt : k < n) (q : Rational) (m : ℤ) →
       IsCountAt (parts.part k lt) q (is_polygon (homes.number p)) m ↔ IsCountAt chains q (is_polygon p) m
   polygon_counts k p e lt q m =
       subst (λ S. IsCountAt (parts.part k lt) q (is_polygon (homes.number p)) m ↔ IsCountAt chains q S m) (own_polygon k p e)
@@ -87,7 +87,7 @@ module _ (homes : Homes) (two : (p q : ℕ) → homes.part p ≡ homes.part q �
   unknown_side p never Outside known = refl
   unknown_side p never (Polygon q) known = false_by (q == p) (λ e. never (subst (λ z. homes.part z < n) (eqb-true q p e) known))
 
-  unknown : (p : ℕ) → ¬ (homes.part p < n) → (q : Rational) → IsCountAt chains q (is_polygon p) (pos 0)
+  pub unknown : (p : ℕ) → ¬ (homes.part p < n) → (q : Rational) → IsCountAt chains q (is_polygon p) (pos 0)
   unknown p never q =
       no_count chains parts.proper q (is_polygon p)
       (λ c chain is.

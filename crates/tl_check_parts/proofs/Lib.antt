@@ -9,3 +9,4 @@ pub mod Names
 pub mod Fitting
 pub mod Planar
 pub mod Faces
+pub mod TrueSides
