@@ -10,3 +10,4 @@ pub mod Fitting
 pub mod Planar
 pub mod Faces
 pub mod TrueSides
+pub mod Spokes
