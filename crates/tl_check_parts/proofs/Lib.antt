@@ -11,3 +11,4 @@ pub mod Planar
 pub mod Faces
 pub mod TrueSides
 pub mod Spokes
+pub mod Spots
