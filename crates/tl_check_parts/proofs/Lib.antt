@@ -12,3 +12,4 @@ pub mod Faces
 pub mod TrueSides
 pub mod Spokes
 pub mod Spots
+pub mod Darting
