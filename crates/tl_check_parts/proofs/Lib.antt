@@ -13,3 +13,4 @@ pub mod TrueSides
 pub mod Spokes
 pub mod Spots
 pub mod Darting
+pub mod Sectors
