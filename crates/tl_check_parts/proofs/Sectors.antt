@@ -152,3 +152,224 @@ mixed_close_below e m n x z k l some some' less less' =
 
 both_above : (m n u w : ℤ) → pos 0 <ℤ m → pos 0 <ℤ n → pos 0 <ℤ u → pos 0 <ℤ w → pos 0 <ℤ (m *ℤ u +ℤ n *ℤ w)
 both_above m n u w a b c d = let one = product_above m u a c in let other = product_above n w b d in omega (arith, ints, one, other)
+
+-- ---- about a node
+
+module _ (chains : List MapChain) (proper : AreProper chains) (planar : IsPlanar chains) (true_there : AreSidesTrue chains) (stay : DoPolygonsStay chains) where
+  -- what lies at the one end of a line that meets no chain lies at the other
+  carried : (p q : Rational) → IsClearLine chains p q → (side : Side) → LiesAt chains p side → LiesAt chains q side
+  carried p q line Outside lies = λ i. stay p q line i (pos 0) (lies i)
+  carried p q line (Polygon i) lies = (stay p q line i (pos 1) lies.0, λ other ne. stay p q line other (pos 0) (lies.1 other ne))
+
+  bound : (n : ℕ) × AreBounded n chains
+  bound = some_bound chains
+
+  module _ (a : ℕ) (v : Point) (starts : dart_start chains a ≡ Some v) where
+    e : ℤ
+    e = nearness (whole v) bound.0
+
+    some_e : pos 0 <ℤ e
+    unfolding e
+    some_e = some_nearness (whole v) bound.0
+
+    -- a set of directions toward which no dart of the node heads
+    module _ (In : (x y : ℤ) → Type 0) (never : (x y : ℤ) → In x y → ¬ IsToward chains v x y) where
+      off_spot : (x y m : ℤ) (some : pos 0 <ℤ m) → In x y → IsClose e x y m → IsOff chains (spot v x y m some)
+      unfolding e
+      off_spot x y m some inside close c chain is on = never x y inside (toward chains proper planar a v starts bound.0 bound.1 x y m some close c chain is on)
+
+      module _ (x y m z w l : ℤ) (some : pos 0 <ℤ m) (some' : pos 0 <ℤ l) (inside : In x y) (inside' : In z w) (close : IsClose e x y m) (close' : IsClose e z w l)
+          (mixed : (i j : ℤ) → pos 0 <ℤ i → pos 0 <ℤ j → In (i *ℤ x +ℤ j *ℤ z) (i *ℤ y +ℤ j *ℤ w)) where
+        clear_line : IsClearLine chains (spot v x y m some) (spot v z w l some')
+        clear_line = record {
+          first = off_spot x y m some inside close;
+          last = off_spot z w l some' inside' close';
+          between = off_between;
+        }
+          where
+            off_between : (r : Rational) → IsStrictlyBetween (spot v x y m some) (spot v z w l some') r → IsOff chains r
+            off_between r b c chain is (k, held) =
+                off_spot (b.m *ℤ x +ℤ b.n *ℤ z) (b.m *ℤ y +ℤ b.n *ℤ w) (b.m *ℤ m +ℤ b.n *ℤ l) above (mixed b.m b.n b.some_p b.some_q)
+                (record {
+                  west = mixed_close_below e b.m b.n x z m l b.some_p b.some_q close.west close'.west;
+                  east = mixed_close e b.m b.n x z m l b.some_p b.some_q close.east close'.east;
+                  south = mixed_close_below e b.m b.n y w m l b.some_p b.some_q close.south close'.south;
+                  north = mixed_close e b.m b.n y w m l b.some_p b.some_q close.north close'.north;
+                })
+                c chain is
+                (k, record {
+                  segment = held.segment;
+                  from = held.from;
+                  to = held.to;
+                  on = on_same held.segment r (spot v (b.m *ℤ x +ℤ b.n *ℤ z) (b.m *ℤ y +ℤ b.n *ℤ w) (b.m *ℤ m +ℤ b.n *ℤ l) above)
+                      (record {
+                        x = b.x ∙ ap (λ t. t *ℤ r.d) (sym (mixed_x b.m b.n v.x x z m l));
+                        y = b.y ∙ ap (λ t. t *ℤ r.d) (sym (mixed_x b.m b.n v.y y w m l));
+                      }) held.on;
+                })
+              where
+                above : pos 0 <ℤ (b.m *ℤ m +ℤ b.n *ℤ l)
+                above = both_above b.m b.n m l b.some_p b.some_q some some'
+
+        carried_on : (side : Side) → LiesAt chains (spot v x y m some) side → LiesAt chains (spot v z w l some') side
+        carried_on = carried (spot v x y m some) (spot v z w l some') clear_line
+
+  -- ---- a dart and the next
+
+  module _ (a b : ℕ) (next : IsNext chains a b) where
+    s : IsSpoke chains a
+    s = spoke_of chains proper a (dart_within chains a next.node next.a_starts)
+
+    t : IsSpoke chains b
+    t = spoke_of chains proper b (dart_within chains b next.node next.b_starts)
+
+    v : Point
+    v = s.v
+
+    same_node : t.v ≡ v
+    unfolding v
+    same_node =
+        one_found t.v next.node (dart_start chains b) t.starts next.b_starts
+        ∙ sym (one_found s.v next.node (dart_start chains a) s.starts next.a_starts)
+
+    at_node : next.node ≡ v
+    unfolding v
+    at_node = sym (one_found s.v next.node (dart_start chains a) s.starts next.a_starts)
+
+    ax : ℤ
+    ax = s.second.x -ℤ s.v.x
+
+    ay : ℤ
+    ay = s.second.y -ℤ s.v.y
+
+    bx : ℤ
+    bx = t.second.x -ℤ t.v.x
+
+    by : ℤ
+    by = t.second.y -ℤ t.v.y
+
+    from_x : next.from.x ≡ ax
+    unfolding ax
+    from_x = next.a_heads.x ∙
+        (λ i. (one_found next.a_heads.second s.second (dart_second chains a) next.a_heads.goes s.goes i).x
+        -ℤ (one_found next.a_heads.first s.v (dart_start chains a) next.a_heads.starts s.starts i).x)
+
+    from_y : next.from.y ≡ ay
+    unfolding ay
+    from_y = next.a_heads.y ∙
+        (λ i. (one_found next.a_heads.second s.second (dart_second chains a) next.a_heads.goes s.goes i).y
+        -ℤ (one_found next.a_heads.first s.v (dart_start chains a) next.a_heads.starts s.starts i).y)
+
+    to_x : next.to.x ≡ bx
+    unfolding bx
+    to_x = next.b_heads.x ∙
+        (λ i. (one_found next.b_heads.second t.second (dart_second chains b) next.b_heads.goes t.goes i).x
+        -ℤ (one_found next.b_heads.first t.v (dart_start chains b) next.b_heads.starts t.starts i).x)
+
+    to_y : next.to.y ≡ by
+    unfolding by
+    to_y = next.b_heads.y ∙
+        (λ i. (one_found next.b_heads.second t.second (dart_second chains b) next.b_heads.goes t.goes i).y
+        -ℤ (one_found next.b_heads.first t.v (dart_start chains b) next.b_heads.starts t.starts i).y)
+
+    -- the turn, and how long both are
+    turn : ℤ
+    turn = cross ax ay bx by
+
+    dot : ℤ
+    dot = ax *ℤ bx +ℤ ay *ℤ by
+
+    turn_is : cross_of next.from next.to ≡ turn
+    unfolding turn
+    turn_is = λ i. cross (from_x i) (from_y i) (to_x i) (to_y i)
+
+    dot_is : dot_of next.from next.to ≡ dot
+    unfolding dot
+    dot_is = λ i. from_x i *ℤ to_x i +ℤ from_y i *ℤ to_y i
+
+    long_a : pos 0 <ℤ (ax *ℤ ax +ℤ ay *ℤ ay)
+    long_a = subst (λ z. pos 0 <ℤ z) (λ i. from_x i *ℤ from_x i +ℤ from_y i *ℤ from_y i) (norm_above next.from)
+
+    long_b : pos 0 <ℤ (bx *ℤ bx +ℤ by *ℤ by)
+    long_b = subst (λ z. pos 0 <ℤ z) (λ i. to_x i *ℤ to_x i +ℤ to_y i *ℤ to_y i) (norm_above next.to)
+
+    -- a dart that heads toward (x, y), and not within the turn
+    record IsMissing (x y : ℤ) : Type 0 where
+      heading : Direction
+      k : ℤ
+      l : ℤ
+      some_k : pos 0 <ℤ k
+      some_l : pos 0 <ℤ l
+      along_x : l *ℤ heading.x ≡ k *ℤ x
+      along_y : l *ℤ heading.y ≡ k *ℤ y
+      not_within : ¬ IsWithin next.from next.to heading
+
+    missing : (x y : ℤ) → (x ≡ pos 0 → y ≡ pos 0 → ⊥) → IsToward chains v x y → IsMissing x y
+    missing x y some w = record {
+      heading = w.heading;
+      k = k;
+      l = l;
+      some_k = some_k;
+      some_l = by_lt_z (pos 0) l (λ h. h) (λ none. absurd (nothing (let h = w.forward_dot in omega (arith, ints, h, none))));
+      along_x = ex;
+      along_y = ey;
+      not_within = next.none_between w.dart w.heading (w.starts ∙ ap Some (sym at_node)) w.heads;
+    }
+      where
+        k : ℤ
+        k = w.heading.x *ℤ w.heading.x +ℤ w.heading.y *ℤ w.heading.y
+
+        some_k : pos 0 <ℤ k
+        some_k = norm_above w.heading
+
+        l : ℤ
+        l = w.heading.x *ℤ x +ℤ w.heading.y *ℤ y
+
+        ex : l *ℤ w.heading.x ≡ k *ℤ x
+        ex = scaled_x w.heading.x w.heading.y x y w.parallel
+
+        ey : l *ℤ w.heading.y ≡ k *ℤ y
+        ey = scaled_y w.heading.x w.heading.y x y w.parallel
+
+        nothing : l ≡ pos 0 → ⊥
+        nothing zero = some
+            (zero_product k x (λ f. omega (arith, ints, f, some_k)) (sym ex ∙ ap (λ z. z *ℤ w.heading.x) zero ∙ zero_times w.heading.x))
+            (zero_product k y (λ f. omega (arith, ints, f, some_k)) (sym ey ∙ ap (λ z. z *ℤ w.heading.y) zero ∙ zero_times w.heading.y))
+          where
+            zero_times : (z : ℤ) → pos 0 *ℤ z ≡ pos 0
+            zero_times z = same (num (pos 0) ⊗ num z) (num (pos 0)) (omega arith)
+
+    module _ (x y : ℤ) (h : IsMissing x y) where
+      cross_there : cross_of next.from h.heading ≡ cross ax ay h.heading.x h.heading.y
+      cross_there = λ i. cross (from_x i) (from_y i) h.heading.x h.heading.y
+
+      cross_on : cross_of h.heading next.to ≡ cross h.heading.x h.heading.y bx by
+      cross_on = λ i. cross h.heading.x h.heading.y (to_x i) (to_y i)
+
+      left_of_first : pos 0 <ℤ cross ax ay x y → pos 0 <ℤ cross_of next.from h.heading
+      left_of_first above =
+          let e = cross_there in
+          let k = above_by h.k (cross ax ay x y) h.l (cross ax ay h.heading.x h.heading.y) h.some_k h.some_l
+          (cross_from h.heading.x h.heading.y x y h.k h.l h.along_x h.along_y ax ay) above in
+          omega (arith, ints, e, k)
+
+      right_of_first : cross ax ay x y <ℤ pos 0 → cross_of next.from h.heading <ℤ pos 0
+      right_of_first below =
+          let e = cross_there in
+          let k = below_by h.k (cross ax ay x y) h.l (cross ax ay h.heading.x h.heading.y) h.some_k h.some_l
+          (cross_from h.heading.x h.heading.y x y h.k h.l h.along_x h.along_y ax ay) below in
+          omega (arith, ints, e, k)
+
+      right_of_next : pos 0 <ℤ cross x y bx by → pos 0 <ℤ cross_of h.heading next.to
+      right_of_next above =
+          let e = cross_on in
+          let k = above_by h.k (cross x y bx by) h.l (cross h.heading.x h.heading.y bx by) h.some_k h.some_l
+          (cross_to h.heading.x h.heading.y x y h.k h.l h.along_x h.along_y bx by) above in
+          omega (arith, ints, e, k)
+
+      behind_first : (ax *ℤ x +ℤ ay *ℤ y) <ℤ pos 0 → dot_of next.from h.heading <ℤ pos 0
+      behind_first below =
+          let e : dot_of next.from h.heading ≡ ax *ℤ h.heading.x +ℤ ay *ℤ h.heading.y = λ i. from_x i *ℤ h.heading.x +ℤ from_y i *ℤ h.heading.y in
+          let k = below_by h.k (ax *ℤ x +ℤ ay *ℤ y) h.l (ax *ℤ h.heading.x +ℤ ay *ℤ h.heading.y) h.some_k h.some_l
+          (dot_from h.heading.x h.heading.y x y h.k h.l h.along_x h.along_y ax ay) below in
+          omega (arith, ints, e, k)
