@@ -14,3 +14,4 @@ pub mod Spokes
 pub mod Spots
 pub mod Darting
 pub mod Sectors
+pub mod Cycles
