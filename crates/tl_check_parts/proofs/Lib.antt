@@ -15,3 +15,4 @@ pub mod Spots
 pub mod Darting
 pub mod Sectors
 pub mod Cycles
+pub mod Closed
