@@ -16,3 +16,5 @@ pub mod Darting
 pub mod Sectors
 pub mod Cycles
 pub mod Closed
+pub mod Parting
+pub mod Good
