@@ -18,3 +18,5 @@ pub mod Cycles
 pub mod Closed
 pub mod Parting
 pub mod Good
+pub mod Placing
+pub mod Enough

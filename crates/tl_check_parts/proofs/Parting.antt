@@ -38,7 +38,7 @@ module _ (names : Side → Side) (told : MapChain → Bool) (outside : names Out
   named_counts q side has S none =
       (counts names told passed chains others are good.proper q S (number_of (S (names side)))).1 (has (λ s. S (names s)) (ap S outside ∙ none))
 
-  named_lies : (q : Rational) (side : Side) → HasCounts chains q side → LiesAt others q (names side)
+  pub named_lies : (q : Rational) (side : Side) → HasCounts chains q side → LiesAt others q (names side)
   named_lies q side has = lies_by others q (names side) (named_counts q side has)
 
   -- a place on no chain that is told is of no boundary
