@@ -20,12 +20,12 @@ use Rattle.tl_check_faces.proofs.Staying.{stays}
 use Rattle.tl_check_faces.proofs.Sums.{number_of}
 use Rattle.tl_check_faces.proofs.Whole.{one_count}
 use Rattle.tl_check_parts.specs.Told.{IsNamed, AreTold}
-use Rattle.tl_check_parts.specs.Homes.{Homes, is_of, own, tells, name, is_border, IsOfParts, IsTold}
+use Rattle.tl_check_parts.specs.Homes.{Homes, is_named, is_of, own, tells, name, is_border, IsOfParts, IsTold}
 use Rattle.tl_check_parts.proofs.Told.{IsToldAs, told_as, off}
 use Rattle.tl_check_parts.proofs.Counts.{counts, no_count}
 use Rattle.tl_check_parts.proofs.Beside.{less_near}
 use Rattle.tl_check_parts.proofs.Lies.{AreGood, HasCounts, counted, counts_of}
-use Rattle.tl_check_parts.proofs.Names.{is_named, tells_left, tells_right, passed, own_there, is_of_own, border_left, border_right, below_by, polygon_own}
+use Rattle.tl_check_parts.proofs.Names.{tells_left, tells_right, passed, own_there, is_of_own, border_left, border_right, below_by, polygon_own}
 use Rattle.tl_check_parts.proofs.Fitting.{AreParts, number_one, part_counts, border_counts}
 
 same_numbers : (a b : Bool) → number_of a ≡ number_of b → a ≡ b

@@ -15,11 +15,11 @@ use Rattle.tl_check_faces.specs.Clear.{IsOffBoundary}
 use Rattle.tl_check_faces.proofs.Sums.{number_of}
 use Rattle.tl_check_faces.proofs.Whole.{one_count}
 use Rattle.tl_check_parts.specs.Told.{IsNamed, AreTold}
-use Rattle.tl_check_parts.specs.Homes.{Homes, is_of, own, tells, name, is_border, IsTold}
+use Rattle.tl_check_parts.specs.Homes.{Homes, is_named, is_of, own, tells, name, is_border, IsTold}
 use Rattle.tl_check_parts.proofs.Told.{place, StandsAt, there, IsToldAs, told_as, off_boundary}
-use Rattle.tl_check_parts.proofs.Counts.{counts}
+use Rattle.tl_check_parts.proofs.AsOne.{of_part, of_border}
 use Rattle.tl_check_parts.proofs.Lies.{AreGood, HasCounts, counted, on_chain}
-use Rattle.tl_check_parts.proofs.Names.{is_named, named_own, polygon_name, tells_left, passed, border_of, not_both, one_of, IsInner, inner, inner_names, below_by}
+use Rattle.tl_check_parts.proofs.Names.{named_own, polygon_name, tells_left, passed, border_of, not_both, one_of, IsInner, inner, inner_names, below_by}
 
 -- ---- numbers of tests
 
@@ -65,9 +65,7 @@ module _ (homes : Homes) (n : ℕ) (chains border : List MapChain) (parts : AreP
 
     module _ (lt : k < n) where
       pub part_counts : (q : Rational) (m : ℤ) → IsCountAt (parts.part k lt) q is_named m ↔ IsCountAt chains q (is_of homes k) m
-      part_counts q m =
-          subst (λ S. IsCountAt (parts.part k lt) q is_named m ↔ IsCountAt chains q S m) as_named
-          (counts (own homes k) (tells homes k) (λ c e. passed homes k c e) chains (parts.part k lt) (parts.told k lt) parts.proper q is_named m)
+      part_counts q m = of_part homes k chains parts.proper q m (parts.part k lt) (parts.told k lt)
 
       pub part_boundary : (r : Rational) → IsOffBoundary chains (is_of homes k) r → IsOffBoundary (parts.part k lt) is_named r
       part_boundary r off =
@@ -75,9 +73,7 @@ module _ (homes : Homes) (n : ℕ) (chains border : List MapChain) (parts : AreP
           (subst (λ S. IsOffBoundary chains S r) (sym as_named) off)
 
     pub border_counts : (q : Rational) (m : ℤ) → IsCountAt border q (is_polygon k) m ↔ IsCountAt chains q (is_of homes k) m
-    border_counts q m =
-        subst (λ S. IsCountAt border q (is_polygon k) m ↔ IsCountAt chains q S m) as_polygon
-        (counts (name homes) (is_border homes) (λ c e. inner_names homes c e) chains border parts.border_told parts.proper q (is_polygon k) m)
+    border_counts q m = of_border homes k chains parts.proper q m border parts.border_told
 
     pub border_boundary : (r : Rational) → IsOffBoundary chains (is_of homes k) r → IsOffBoundary border (is_polygon k) r
     border_boundary r off =

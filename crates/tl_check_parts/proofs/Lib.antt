@@ -6,6 +6,7 @@ pub mod Beside
 pub mod Lies
 pub mod Deciding
 pub mod Names
+pub mod AsOne
 pub mod Fitting
 pub mod Planar
 pub mod Faces

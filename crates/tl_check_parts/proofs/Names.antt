@@ -6,12 +6,7 @@ use Rattle.tl_map_county.specs.declared.sides.Side.{Side}
 use Rattle.tl_map_county.specs.declared.sides.Side.TheVariants.{Outside, Polygon}
 use Rattle.tl_map_county.specs.TheMap.{MapChain}
 use Rattle.tl_check_inside.specs.Inside.{is_polygon}
-use Rattle.tl_check_parts.specs.Homes.{Homes, is_of, is_blank, own, tells, name, are_of_one, is_border, IsOfParts, IsTold}
-
--- a polygon is named
-abbrev pub is_named : Side → Bool
-is_named Outside = false
-is_named (Polygon p) = true
+use Rattle.tl_check_parts.specs.Homes.{Homes, is_of, is_blank, is_named, own, tells, name, are_of_one, is_border, IsOfParts, IsTold}
 
 module _ (homes : Homes) where
   pub named_own : (k : ℕ) (s : Side) → is_named (own homes k s) ≡ is_of homes k s

@@ -21,13 +21,13 @@ use Rattle.tl_check_faces.proofs.OnePolygon.{lies_by}
 use Rattle.tl_check_faces.proofs.Others.{nearness}
 use Rattle.tl_check_faces.proofs.Staying.{stays}
 use Rattle.tl_check_faces.proofs.Sums.{number_of}
+use Rattle.tl_check_parts.specs.Lines.{IsClearLine, DoPolygonsStay}
 use Rattle.tl_check_parts.specs.Told.{IsNamed, AreTold}
 use Rattle.tl_check_parts.proofs.Told.{place, StandsAt, there, IsToldAs, told_as, proper, planar, off_boundary_back}
 use Rattle.tl_check_parts.proofs.Counts.{counts}
 use Rattle.tl_check_parts.proofs.Beside.{less_near, some_nearness, off_near}
 use Rattle.tl_check_parts.proofs.Deciding.{IsMet, on_some_or}
 use Rattle.tl_check_parts.proofs.Lies.{AreGood, HasCounts, counted, counts_of, on_chain}
-use Rattle.tl_check_parts.proofs.TrueSides.{IsClearLine, DoPolygonsStay}
 use Rattle.tl_check_parts.proofs.Sectors.{sides_agree}
 
 module _ (names : Side → Side) (told : MapChain → Bool) (outside : names Outside ≡ Outside)

@@ -19,10 +19,10 @@ use Rattle.tl_check_faces.specs.Truth.{LiesAt}
 use Rattle.tl_check_faces.proofs.Sums.{number_of}
 use Rattle.tl_check_faces.proofs.Whole.{counts, one_count}
 use Rattle.tl_check_parts.specs.Told.{AreTold}
-use Rattle.tl_check_parts.specs.Homes.{Homes, is_of, own, tells}
+use Rattle.tl_check_parts.specs.Homes.{Homes, is_named, is_of, own, tells}
 use Rattle.tl_check_parts.proofs.Told.{IsToldAs, told_as, off, off_boundary_back}
 use Rattle.tl_check_parts.proofs.Lies.{AreGood, HasCounts, counts_of}
-use Rattle.tl_check_parts.proofs.Names.{is_named, named_own, passed}
+use Rattle.tl_check_parts.proofs.Names.{named_own, passed}
 use Rattle.tl_check_parts.proofs.Fitting.{AreParts, part_counts, alone}
 use Rattle.tl_check_parts.proofs.Faces.{by_part}
 

@@ -25,11 +25,11 @@ use Rattle.tl_check_faces.proofs.Bounds.{IsFar, far, AreBounded, some_bound}
 use Rattle.tl_check_faces.proofs.Numbers.{above_by, below_by, zero_by}
 use Rattle.tl_check_faces.proofs.Others.{nearness}
 use Rattle.tl_check_faces.proofs.Unique.{unique}
+use Rattle.tl_check_parts.specs.Lines.{IsClearLine, DoPolygonsStay}
 use Rattle.tl_check_parts.proofs.Beside.{some_nearness}
 use Rattle.tl_check_parts.proofs.Spokes.{IsSpoke, spoke_of}
 use Rattle.tl_check_parts.proofs.Spots.{spot, IsClose, IsToward, toward}
 use Rattle.tl_check_parts.proofs.Darting.{IsBeside, beside}
-use Rattle.tl_check_parts.proofs.TrueSides.{IsClearLine, DoPolygonsStay}
 
 -- ---- numbers
 

@@ -15,6 +15,7 @@ use Rattle.tl_check_faces.specs.Truth.{LiesAt, IsNearer, IsTrueAbout, AreSidesTr
 use Rattle.tl_check_faces.proofs.CrossingsLemmas.Apart.{apart}
 use Rattle.tl_check_faces.proofs.Staying.{stays}
 use Rattle.tl_check_faces.proofs.Whole.{one_count}
+use Rattle.tl_check_parts.specs.Lines.{IsClearLine, DoPolygonsStay}
 use Rattle.tl_check_parts.specs.Told.{IsNamed, AreTold}
 use Rattle.tl_check_parts.specs.Homes.{Homes, is_of, own, tells, name, is_border, IsOfParts, IsTold}
 use Rattle.tl_check_parts.proofs.Told.{IsToldAs, told_as, off}
@@ -23,16 +24,6 @@ use Rattle.tl_check_parts.proofs.Lies.{AreGood}
 use Rattle.tl_check_parts.proofs.Names.{tells_left, tells_right, own_there, is_of_own, border_left, border_right}
 use Rattle.tl_check_parts.proofs.Fitting.{AreParts}
 use Rattle.tl_check_parts.proofs.Faces.{polygon_counts, unknown, by_part, by_border, one_there}
-
--- nothing lies on the straight line from p to q, both included
-pub record IsClearLine (chains : List MapChain) (p q : Rational) : Type 0 where
-  pub first : IsOff chains p
-  pub last : IsOff chains q
-  pub between : (r : Rational) → IsStrictlyBetween p q r → IsOff chains r
-
--- the count of each polygon stays along such a line
-abbrev pub DoPolygonsStay : List MapChain → Type 0
-DoPolygonsStay chains = (p q : Rational) → IsClearLine chains p q → (i : ℕ) (m : ℤ) → IsCountAt chains p (is_polygon i) m → IsCountAt chains q (is_polygon i) m
 
 module _ (homes : Homes) (two : (p q : ℕ) → homes.part p ≡ homes.part q → homes.number p ≡ homes.number q → p ≡ q)
     (n : ℕ) (chains border : List MapChain) (parts : AreParts homes n chains border) where

@@ -20,6 +20,10 @@ abbrev pub is_blank : Side → Bool
 is_blank Outside = true
 is_blank (Polygon p) = false
 
+-- it is one
+abbrev pub is_named : Side → Bool
+is_named s = not (is_blank s)
+
 -- what part k itself names there: its own polygon by the number that it has in the part, and nothing where another's is
 abbrev pub own : Homes → ℕ → Side → Side
 own homes k Outside = Outside

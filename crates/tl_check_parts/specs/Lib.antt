@@ -2,4 +2,5 @@
 pub mod Told
 pub mod Homes
 pub mod Joined
+pub mod Lines
 pub mod Sound

@@ -1,5 +1,5 @@
 -- What is asked of a map: that it is sound, and that its faces are true.
-use Rattle.std.specs.Prelude.{ℕ, ◌<◌, length}
+use Rattle.std.specs.Prelude.{◌≡◌, ℕ, ◌<◌, Some, List, length, slice_get}
 use Rattle.tl_map_county.specs.declared.sides.Side.TheVariants.{Outside, Polygon}
 use Rattle.tl_map_county.specs.TheMap.{TheMap}
 use Rattle.tl_check_planar.specs.Planar.{IsPlanar}
@@ -16,3 +16,7 @@ pub record IsSoundWithFaces (m : TheMap) : Type 0 where
   pub outside : IsClosed m.chains Outside
   pub points : ArePlaced m
   pub faces : AreFacesTrue m.chains
+
+-- so is each of the maps
+abbrev pub AreSoundWithFaces : List TheMap → Type 0
+AreSoundWithFaces maps = (k : ℕ) (m : TheMap) → slice_get maps k ≡ Some m → IsSoundWithFaces m
