@@ -5,10 +5,9 @@ use Rattle.tl_geom.specs.declared.rational.Rational.{Rational}
 use Rattle.tl_geom.specs.declared.segment.Segment.{Segment}
 use Rattle.tl_geom.specs.Plane.{cross}
 use Rattle.tl_geom.proofs.Polynomials.{num, ◌⊕◌, ◌⊖◌, ◌⊗◌, same}
-use Rattle.tl_geom.proofs.Signs.{mono, product_at_least, above_of_product, times_zero}
+use Rattle.tl_geom.proofs.Signs.{mono, above_of_product, times_zero}
 use Rattle.tl_check_faces.specs.Facing.{IsStrictlyOn, step_x, step_y}
 use Rattle.tl_check_faces.specs.Truth.{IsNearer, side_of}
-use Rattle.tl_check_faces.proofs.Bounds.{IsFar, far}
 use Rattle.tl_check_faces.proofs.ToFaces.{ahead, step_east, step_north}
 
 step_of : (x d X D m n : ℤ) → (m *ℤ x +ℤ n *ℤ X) *ℤ d -ℤ x *ℤ (m *ℤ d +ℤ n *ℤ D) ≡ n *ℤ (X *ℤ d -ℤ x *ℤ D)

@@ -1,5 +1,5 @@
 -- A part counts as its name.
-use Rattle.std.proofs.Common.{◌≡◌, ◌↔◌, ℕ, ℤ, List, subst}
+use Rattle.std.proofs.Common.{◌↔◌, ℕ, ℤ, List, subst}
 use Rattle.tl_geom.specs.declared.rational.Rational.{Rational}
 use Rattle.tl_map_county.specs.TheMap.{MapChain}
 use Rattle.tl_check_inside.specs.Inside.{is_polygon}

@@ -5,9 +5,8 @@ use Rattle.std.proofs.lemmas.Bool.{cases_lt, eqb-true}
 use Rattle.tl_map_county.specs.declared.sides.Side.{Side}
 use Rattle.tl_map_county.specs.TheMap.{MapChain}
 use Rattle.tl_map_county.specs.Darts.{is_along, reverse_dart}
-use Rattle.tl_check_sides.specs.Lists.{before, HoldOnce, list_at, EachList}
+use Rattle.tl_check_sides.specs.Lists.{HoldOnce, list_at, EachList}
 use Rattle.tl_check_sides.specs.Sides.{dart_count, IsNext, SidesAgree, Follows, IsRing, IsClosed}
-use Rattle.tl_check_sides.specs.Walks.{AreWalks}
 use Rattle.tl_check_sides.proofs.Boundaries.{back_again, boundary_of}
 use Rattle.tl_check_sides.proofs.FollowFacts.{reverse_starts}
 use Rattle.tl_check_sides.proofs.Headings.{dart_within}
@@ -38,11 +37,13 @@ module _ (chains : List MapChain) (proper : AreProper chains) (apart : HeadApart
     where
       go : d < dart_count chains ⊎ Rattle.std.proofs.Common.◌≤◌ (dart_count chains) d → (e : ℕ) × (d < dart_count chains → IsBefore d e)
       go (inl lt) =
-          let b : (b : ℕ) × IsNext chains d b = next_of chains proper d lt in
-          (reverse_dart b.0, λ lt'. record {
-            next = subst (IsNext chains d) (sym (back_again b.0)) b.1;
-            within = reverse_below (length chains) b.0 (dart_within chains b.0 b.1.node b.1.b_starts);
-          })
+          let b : (b : ℕ) × IsNext chains d b = next_of chains proper d lt in (
+            reverse_dart b.0,
+            λ lt'. record {
+              next = subst (IsNext chains d) (sym (back_again b.0)) b.1;
+              within = reverse_below (length chains) b.0 (dart_within chains b.0 b.1.node b.1.b_starts);
+            },
+          )
       go (inr le) = (0, λ lt. absurd (omega (arith, lt, le)))
 
   T : ℕ → ℕ

@@ -1,11 +1,11 @@
 -- Numbers below n, each with one before it that no other has before it, stand in cycles.
-use Rattle.std.proofs.Common.{◌≡◌, ◌≢◌, ◌⊎◌, inl, inr, ⊎_elim, ℕ, zero, suc, ◌+◌, ◌-◌, ◌<◌, ◌≤◌, Bool, true, false, List, [], ◌∷◌, ◌++◌, length, map, refl, sym, ap, subst, ◌∙◌, arith}
+use Rattle.std.proofs.Common.{◌≡◌, ◌⊎◌, inl, inr, ℕ, zero, suc, ◌+◌, ◌-◌, ◌<◌, ◌≤◌, Bool, true, false, List, [], ◌∷◌, length, refl, sym, ap, subst, ◌∙◌, arith}
 use Rattle.std.specs.Prelude.{⊤, ◌==◌, if◌then◌else◌, slice_index}
 use Rattle.std.specs.List.{concat}
-use Rattle.std.proofs.lemmas.Bool.{false≢true, eqb-true, eq-eqb}
+use Rattle.std.proofs.lemmas.Bool.{eqb-true, eq-eqb}
 use Rattle.tl_tree_index.specs.Hits.{times}
 use Rattle.tl_tree_index.proofs.Times.{same_or, times-same, times-other, times-append}
-use Rattle.tl_check_sides.specs.Lists.{before, times_in, HoldOnce, list_at, EachList}
+use Rattle.tl_check_sides.specs.Lists.{before, times_in, HoldOnce, EachList}
 
 false_by : (b : Bool) → ¬ (b ≡ true) → b ≡ false
 false_by true h = absurd (h refl)

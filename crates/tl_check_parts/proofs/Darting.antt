@@ -1,9 +1,8 @@
 -- Places beside the first segment of a dart, near its node, and what lies there.
-use Rattle.std.proofs.Common.{◌≡◌, ◌≢◌, ◌⊎◌, inl, inr, ⊎_elim, ℕ, ◌+◌, ℤ, pos, ◌+ℤ◌, ◌-ℤ◌, ◌*ℤ◌, ◌<ℤ◌, ◌≤ℤ◌, Some, List, refl, sym, ap, ap₂, subst, ◌∙◌, arith}
+use Rattle.std.proofs.Common.{◌≡◌, ⊎_elim, ℕ, ◌+◌, ℤ, pos, ◌+ℤ◌, ◌-ℤ◌, ◌*ℤ◌, ◌<ℤ◌, ◌≤ℤ◌, Some, List, refl, ap, subst, ◌∙◌, arith}
 use Rattle.std.proofs.lemmas.Int.{ints}
 use Rattle.tl_geom.specs.declared.point.Point.{Point}
 use Rattle.tl_geom.specs.declared.rational.Rational.{Rational}
-use Rattle.tl_geom.specs.declared.segment.Segment.{Segment}
 use Rattle.tl_geom.specs.Plane.{IsOn, cross, whole}
 use Rattle.tl_geom.proofs.Polynomials.{num, ◌⊕◌, ◌⊖◌, ◌⊗◌, same, same_by}
 use Rattle.tl_geom.proofs.Places.{a_on, b_on}
@@ -13,7 +12,7 @@ use Rattle.tl_map_county.specs.TheMap.{MapChain}
 use Rattle.tl_map_county.specs.Darts.{dart_left}
 use Rattle.tl_check_sides.specs.Sides.{dart_right}
 use Rattle.tl_check_faces.specs.Crossings.Headings.{AreProper}
-use Rattle.tl_check_faces.specs.Facing.{IsOff, IsStrictlyOn, step_x, step_y}
+use Rattle.tl_check_faces.specs.Facing.{IsOff, step_x, step_y}
 use Rattle.tl_check_faces.specs.Truth.{LiesAt, IsNearer, IsTrueAbout, AreSidesTrue, side_of}
 use Rattle.tl_check_faces.proofs.Bounds.{IsFar, far}
 use Rattle.tl_check_parts.proofs.Beside.{inner, strictly}

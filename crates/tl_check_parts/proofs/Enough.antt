@@ -1,12 +1,10 @@
 -- A joined map is sound with true faces exactly where its parts are, and its border.
-use Rattle.std.proofs.Common.{◌≡◌, ◌↔◌, ℕ, ◌<◌, Some, None, List, [], length, get_or, slice_get, refl, sym, ap, subst, ◌∙◌}
+use Rattle.std.proofs.Common.{◌≡◌, ◌↔◌, ℕ, ◌<◌, Some, List, [], length, get_or, slice_get, refl, sym, ap, subst, ◌∙◌}
 use Rattle.std.proofs.lemmas.Option.{slice_get-get_or, slice_get_within}
-use Rattle.tl_geom.specs.declared.rational.Rational.{Rational}
 use Rattle.tl_geom.specs.Plane.{whole}
 use Rattle.tl_map_county.specs.declared.polygons.Polygon as polygons
-use Rattle.tl_map_county.specs.declared.sides.Side.{Side}
 use Rattle.tl_map_county.specs.declared.sides.Side.TheVariants.{Outside, Polygon}
-use Rattle.tl_map_county.specs.TheMap.{TheMap, MapChain}
+use Rattle.tl_map_county.specs.TheMap.{TheMap}
 use Rattle.tl_check_planar.specs.Keeping.Apart.{one_found}
 use Rattle.tl_check_inside.specs.Placed.{ArePlaced, IsPlacedIn}
 use Rattle.tl_check_faces.specs.Crossings.Headings.{AreProper}

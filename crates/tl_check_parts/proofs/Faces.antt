@@ -1,32 +1,26 @@
 -- Where parts are sound with true faces, and the border between them is, the faces of the joined chains are true.
-use Rattle.std.proofs.Common.{◌≡◌, ◌≢◌, ◌⊎◌, ◌↔◌, inl, inr, ⊎_elim, ℕ, zero, suc, ◌+◌, ◌<◌, ◌≤◌, ℤ, pos, ◌+ℤ◌, ◌*ℤ◌, ◌<ℤ◌, Bool, true, false, Some, List, [], ◌∷◌, slice_get, eqb, refl, sym, ap, subst, ◌∙◌, arith}
+use Rattle.std.proofs.Common.{◌≡◌, ◌≢◌, ◌⊎◌, ◌↔◌, inl, inr, ℕ, zero, suc, ◌<◌, ℤ, pos, Bool, true, false, Some, List, [], ◌∷◌, slice_get, refl, sym, ap, subst, ◌∙◌, arith}
 use Rattle.std.specs.Prelude.{◌==◌}
 use Rattle.std.proofs.lemmas.Bool.{false≢true, eqb-true, eq-eqb, cases_lt}
 use Rattle.std.proofs.lemmas.Int.{ints}
 use Rattle.tl_geom.specs.declared.rational.Rational.{Rational}
-use Rattle.tl_geom.specs.declared.segment.Segment.{Segment}
 use Rattle.tl_map_county.specs.declared.sides.Side.{Side}
 use Rattle.tl_map_county.specs.declared.sides.Side.TheVariants.{Outside, Polygon}
 use Rattle.tl_map_county.specs.TheMap.{MapChain}
 use Rattle.tl_tree_index.proofs.Times.{same_or}
-use Rattle.tl_check_planar.specs.Planar.{IsOnChain}
 use Rattle.tl_check_planar.specs.Keeping.Apart.{one_found}
 use Rattle.tl_check_inside.specs.Inside.{is_polygon}
 use Rattle.tl_check_faces.specs.Rays.{IsCountAt}
-use Rattle.tl_check_faces.specs.Facing.{IsOfChain, IsOff, IsStrictlyOn, IsStrictlyBetween}
-use Rattle.tl_check_faces.specs.Truth.{LiesAt, HasOnePolygon, IsNearer, IsTrueAbout, AreSidesTrue, AreFacesTrue, side_of}
-use Rattle.tl_check_faces.proofs.CrossingsLemmas.Apart.{apart}
-use Rattle.tl_check_faces.proofs.Staying.{stays}
+use Rattle.tl_check_faces.specs.Facing.{IsOff}
+use Rattle.tl_check_faces.specs.Truth.{LiesAt}
 use Rattle.tl_check_faces.proofs.Sums.{number_of}
 use Rattle.tl_check_faces.proofs.Whole.{one_count}
-use Rattle.tl_check_parts.specs.Told.{IsNamed, AreTold}
 use Rattle.tl_check_parts.specs.Homes.{Homes, is_named, is_of, own, tells, name, is_border, IsOfParts, IsTold}
-use Rattle.tl_check_parts.proofs.Told.{IsToldAs, told_as, off}
+use Rattle.tl_check_parts.proofs.Told.{off}
 use Rattle.tl_check_parts.proofs.Counts.{counts, no_count}
-use Rattle.tl_check_parts.proofs.Beside.{less_near}
-use Rattle.tl_check_parts.proofs.Lies.{AreGood, HasCounts, counted, counts_of}
-use Rattle.tl_check_parts.proofs.Names.{tells_left, tells_right, passed, own_there, is_of_own, border_left, border_right, below_by, polygon_own}
-use Rattle.tl_check_parts.proofs.Fitting.{AreParts, number_one, part_counts, border_counts}
+use Rattle.tl_check_parts.proofs.Lies.{HasCounts, counted, counts_of}
+use Rattle.tl_check_parts.proofs.Names.{passed, below_by, polygon_own}
+use Rattle.tl_check_parts.proofs.Fitting.{AreParts, part_counts, border_counts}
 
 same_numbers : (a b : Bool) → number_of a ≡ number_of b → a ≡ b
 same_numbers true true e = refl

@@ -1,5 +1,5 @@
 -- Parts that are sound with a border that is: at a place where a part is alone no chain of another part runs, and no chain of the border.
-use Rattle.std.proofs.Common.{◌≡◌, ◌≢◌, ◌⊎◌, ◌↔◌, inl, inr, ⊎_elim, ℕ, ◌<◌, ℤ, pos, Bool, true, false, Some, List, slice_get, eqb, refl, sym, ap, subst, ◌∙◌, arith}
+use Rattle.std.proofs.Common.{◌≡◌, ◌≢◌, ◌↔◌, ℕ, ◌<◌, ℤ, pos, Bool, true, false, Some, List, slice_get, refl, sym, ap, subst, ◌∙◌, arith}
 use Rattle.std.proofs.lemmas.Bool.{false≢true, eqb-true}
 use Rattle.std.proofs.lemmas.Int.{ints}
 use Rattle.tl_geom.specs.declared.rational.Rational.{Rational}
@@ -14,12 +14,12 @@ use Rattle.tl_check_faces.specs.Facing.{IsOff}
 use Rattle.tl_check_faces.specs.Clear.{IsOffBoundary}
 use Rattle.tl_check_faces.proofs.Sums.{number_of}
 use Rattle.tl_check_faces.proofs.Whole.{one_count}
-use Rattle.tl_check_parts.specs.Told.{IsNamed, AreTold}
+use Rattle.tl_check_parts.specs.Told.{AreTold}
 use Rattle.tl_check_parts.specs.Homes.{Homes, is_named, is_of, own, tells, name, is_border, IsTold}
 use Rattle.tl_check_parts.proofs.Told.{place, StandsAt, there, IsToldAs, told_as, off_boundary}
 use Rattle.tl_check_parts.proofs.AsOne.{of_part, of_border}
 use Rattle.tl_check_parts.proofs.Lies.{AreGood, HasCounts, counted, on_chain}
-use Rattle.tl_check_parts.proofs.Names.{named_own, polygon_name, tells_left, passed, border_of, not_both, one_of, IsInner, inner, inner_names, below_by}
+use Rattle.tl_check_parts.proofs.Names.{named_own, polygon_name, tells_left, border_of, not_both, IsInner, inner, below_by}
 
 -- ---- numbers of tests
 

@@ -1,5 +1,5 @@
 -- Joined chains are sound with true faces exactly where the parts are, and the border between them.
-use Rattle.std.proofs.Common.{◌≡◌, ℕ, ◌<◌, List, refl}
+use Rattle.std.proofs.Common.{◌≡◌, ℕ, List, refl}
 use Rattle.tl_map_county.specs.TheMap.{MapChain}
 use Rattle.tl_check_parts.specs.Told.{AreTold}
 use Rattle.tl_check_parts.specs.Homes.{Homes, own, tells, name, is_border}

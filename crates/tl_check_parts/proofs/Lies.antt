@@ -1,19 +1,18 @@
 -- What lies at a place of a sound map whose faces are true, told by the counts of any sides; also at a place on a chain, where it isn't of
 -- the boundary of those sides.
-use Rattle.std.proofs.Common.{◌≡◌, ◌↔◌, ℕ, ◌+◌, ℤ, pos, ◌+ℤ◌, ◌<ℤ◌, Bool, false, Some, List, slice_get, ◌∙◌, sym, ap, subst, arith}
+use Rattle.std.proofs.Common.{◌≡◌, ◌↔◌, ℕ, ◌+◌, ℤ, pos, ◌+ℤ◌, ◌<ℤ◌, Bool, false, Some, List, slice_get, subst, arith}
 use Rattle.std.proofs.lemmas.Int.{ints}
 use Rattle.tl_geom.specs.declared.rational.Rational.{Rational}
-use Rattle.tl_geom.specs.declared.segment.Segment.{Segment}
 use Rattle.tl_map_county.specs.declared.sides.Side.{Side}
 use Rattle.tl_map_county.specs.declared.sides.Side.TheVariants.{Outside}
 use Rattle.tl_map_county.specs.TheMap.{MapChain}
 use Rattle.tl_map_county.specs.Segments.{segments_before}
-use Rattle.tl_check_planar.specs.Planar.{IsPlanar, IsOnChain, IsOnSegment}
+use Rattle.tl_check_planar.specs.Planar.{IsPlanar, IsOnSegment}
 use Rattle.tl_check_sides.specs.Sides.{SidesAgree}
 use Rattle.tl_check_faces.specs.Crossings.Headings.{AreProper}
 use Rattle.tl_check_faces.specs.Rays.{IsCountAt}
-use Rattle.tl_check_faces.specs.Facing.{IsOfChain, IsOff, IsStrictlyOn, IsStrictlyBetween, FacesAgree}
-use Rattle.tl_check_faces.specs.Clear.{IsOffBoundary, IsClearAlong}
+use Rattle.tl_check_faces.specs.Facing.{IsOfChain, IsOff, IsStrictlyOn, FacesAgree}
+use Rattle.tl_check_faces.specs.Clear.{IsOffBoundary}
 use Rattle.tl_check_faces.specs.Truth.{LiesAt, IsNearer, IsTrueAbout, AreFacesTrue}
 use Rattle.tl_check_faces.proofs.CrossingsLemmas.Apart.{apart}
 use Rattle.tl_check_faces.proofs.Along.{AreFaced, by_faces}
@@ -79,13 +78,16 @@ module _ (chains : List MapChain) (good : AreGood chains) where
     pub boundary_near : (r q : Rational) → IsOffBoundary chains S r → IsNearer (closeness r) r q → IsOffBoundary chains S q
     unfolding closeness n
     boundary_near r q off near c chain is differ (k, held) =
-        off c chain is differ (k, record {
-          segment = held.segment;
-          from = held.from;
-          to = held.to;
-          on = on_near chains n bound.1 r q near (segments_before chains c + k) held.segment
-              (chain_ends.numbered chains c chain is k held.segment held.from held.to) held.on;
-        })
+        off c chain is differ (
+          k,
+          record {
+            segment = held.segment;
+            from = held.from;
+            to = held.to;
+            on = on_near chains n bound.1 r q near (segments_before chains c + k) held.segment
+                (chain_ends.numbered chains c chain is k held.segment held.from held.to) held.on;
+          },
+        )
 
     pub stays_near : (r q : Rational) → IsOffBoundary chains S r → IsNearer (closeness r) r q → (m : ℤ) → IsCountAt chains r S m ↔ IsCountAt chains q S m
     stays_near r q off near m =

@@ -1,13 +1,12 @@
 -- What is near a place: of segments that hold a place near enough to it each holds the place itself, and of two places near it so is
 -- what lies between.
-use Rattle.std.proofs.Common.{◌≡◌, ◌⊎◌, inl, inr, ⊎_elim, ℕ, ◌+◌, ℤ, pos, ◌+ℤ◌, ◌-ℤ◌, ◌*ℤ◌, ◌<ℤ◌, ◌≤ℤ◌, List, refl, sym, ap, subst, ◌∙◌, arith}
+use Rattle.std.proofs.Common.{◌≡◌, inl, inr, ⊎_elim, ℕ, ◌+◌, ℤ, pos, ◌+ℤ◌, ◌-ℤ◌, ◌*ℤ◌, ◌<ℤ◌, ◌≤ℤ◌, List, ap, arith}
 use Rattle.std.proofs.lemmas.Int.{ints, by_lt_z}
-use Rattle.tl_geom.specs.declared.point.Point.{Point}
 use Rattle.tl_geom.specs.declared.rational.Rational.{Rational}
 use Rattle.tl_geom.specs.declared.segment.Segment.{Segment}
 use Rattle.tl_geom.specs.Plane.{IsOn, IsBetween}
 use Rattle.tl_geom.proofs.Polynomials.{num, ◌⊕◌, ◌⊖◌, ◌⊗◌, same, same_by}
-use Rattle.tl_geom.proofs.Signs.{mono, mono_lt, cancel_lt, product_above, sign}
+use Rattle.tl_geom.proofs.Signs.{mono_lt, cancel_lt, product_above, sign}
 use Rattle.tl_map_county.specs.TheMap.{MapChain}
 use Rattle.tl_check_planar.specs.ByHeight.Heights.{turn_at}
 use Rattle.tl_check_planar.specs.ByHeight.Neighbours.{IsNumbered}

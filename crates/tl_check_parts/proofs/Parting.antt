@@ -1,29 +1,25 @@
 -- Where chains are sound and their faces are true, so are those of them that are told, if the chains that are left out are named alike on
 -- both sides.
-use Rattle.std.proofs.Common.{◌≡◌, ◌≢◌, ◌⊎◌, inl, inr, ⊎_elim, ℕ, ◌+◌, ℤ, pos, ◌+ℤ◌, ◌<ℤ◌, Bool, true, false, Some, List, slice_get, refl, sym, ap, subst, ◌∙◌, arith}
-use Rattle.std.proofs.lemmas.Bool.{false≢true}
+use Rattle.std.proofs.Common.{◌≡◌, ⊎_elim, ℕ, ◌+◌, ℤ, pos, ◌+ℤ◌, Bool, true, false, Some, List, slice_get, sym, ap, subst, ◌∙◌, arith}
 use Rattle.std.proofs.lemmas.Int.{ints}
 use Rattle.tl_geom.specs.declared.rational.Rational.{Rational}
-use Rattle.tl_geom.specs.declared.segment.Segment.{Segment}
 use Rattle.tl_map_county.specs.declared.sides.Side.{Side}
 use Rattle.tl_map_county.specs.declared.sides.Side.TheVariants.{Outside}
 use Rattle.tl_map_county.specs.TheMap.{MapChain}
-use Rattle.tl_check_planar.specs.Planar.{IsOnChain}
 use Rattle.tl_check_inside.specs.Inside.{is_polygon}
 use Rattle.tl_check_faces.specs.Crossings.Headings.{AreProper}
-use Rattle.tl_check_faces.specs.Rays.{IsCountAt}
-use Rattle.tl_check_faces.specs.Facing.{IsOfChain, IsOff, IsStrictlyOn}
+use Rattle.tl_check_faces.specs.Facing.{IsOfChain, IsOff}
 use Rattle.tl_check_faces.specs.Clear.{IsOffBoundary}
-use Rattle.tl_check_faces.specs.Truth.{LiesAt, HasOnePolygon, IsNearer, IsTrueAbout, AreSidesTrue, AreFacesTrue, side_of}
+use Rattle.tl_check_faces.specs.Truth.{LiesAt, HasOnePolygon, IsNearer, IsTrueAbout, AreSidesTrue, side_of}
 use Rattle.tl_check_faces.proofs.CrossingsLemmas.Apart.{apart}
 use Rattle.tl_check_faces.proofs.Bounds.{AreBounded, some_bound}
 use Rattle.tl_check_faces.proofs.OnePolygon.{lies_by}
 use Rattle.tl_check_faces.proofs.Others.{nearness}
 use Rattle.tl_check_faces.proofs.Staying.{stays}
 use Rattle.tl_check_faces.proofs.Sums.{number_of}
-use Rattle.tl_check_parts.specs.Lines.{IsClearLine, DoPolygonsStay}
-use Rattle.tl_check_parts.specs.Told.{IsNamed, AreTold}
-use Rattle.tl_check_parts.proofs.Told.{place, StandsAt, there, IsToldAs, told_as, proper, planar, off_boundary_back}
+use Rattle.tl_check_parts.specs.Lines.{DoPolygonsStay}
+use Rattle.tl_check_parts.specs.Told.{AreTold}
+use Rattle.tl_check_parts.proofs.Told.{place, StandsAt, there, proper, planar, off_boundary_back}
 use Rattle.tl_check_parts.proofs.Counts.{counts}
 use Rattle.tl_check_parts.proofs.Beside.{less_near, some_nearness, off_near}
 use Rattle.tl_check_parts.proofs.Deciding.{IsMet, on_some_or}
@@ -48,12 +44,13 @@ module _ (names : Side → Side) (told : MapChain → Bool) (outside : names Out
 
   -- on a chain that is left out lies what it names, on both sides
   on_untold : (q : Rational) → IsOff others q → IsMet (λ c. true) chains q → (side : Side) × LiesAt others q side
-  on_untold q clear m =
-      (names m.chain.left,
-      lies_by others q (names m.chain.left)
-      (λ S none.
-      (counts names told passed chains others are good.proper q S (number_of (S (names m.chain.left)))).1
-      (on_chain chains good m.c m.chain m.is q m.on.0 m.on.1 (λ s. S (names s)) (ap S outside ∙ none) (off_all S q clear))))
+  on_untold q clear m = (
+    names m.chain.left,
+    lies_by others q (names m.chain.left)
+        (λ S none.
+        (counts names told passed chains others are good.proper q S (number_of (S (names m.chain.left)))).1
+        (on_chain chains good m.c m.chain m.is q m.on.0 m.on.1 (λ s. S (names s)) (ap S outside ∙ none) (off_all S q clear))),
+  )
 
   one_there : HasOnePolygon others
   one_there q clear = ⊎_elim (on_untold q clear)
@@ -66,17 +63,20 @@ module _ (names : Side → Side) (told : MapChain → Bool) (outside : names Out
   true_there one u r of on = go (there names told chains others are of.c one of.is)
     where
       go : StandsAt names told chains one (place names told chains of.c) → (e : ℤ) × IsTrueAbout others one u r e
-      go s = (e, record {
-        some = let a = about.1.some in let b = some_nearness r n.0 in omega (arith, ints, a, b);
-        left = λ q near clear h.
-            subst (LiesAt others q) (sym s.named.left)
-            (named_lies q s.chain.left (counts_of chains good q (free q near (λ z. omega (arith, ints, h, z))) s.chain.left
-            (about.1.left q (as_near q near) (free q near (λ z. omega (arith, ints, h, z))) h)));
-        right = λ q near clear h.
-            subst (LiesAt others q) (sym s.named.right)
-            (named_lies q s.chain.right (counts_of chains good q (free q near (λ z. omega (arith, ints, h, z))) s.chain.right
-            (about.1.right q (as_near q near) (free q near (λ z. omega (arith, ints, h, z))) h)));
-      })
+      go s = (
+        e,
+        record {
+          some = let a = about.1.some in let b = some_nearness r n.0 in omega (arith, ints, a, b);
+          left = λ q near clear h.
+              subst (LiesAt others q) (sym s.named.left)
+              (named_lies q s.chain.left (counts_of chains good q (free q near (λ z. omega (arith, ints, h, z))) s.chain.left
+              (about.1.left q (as_near q near) (free q near (λ z. omega (arith, ints, h, z))) h)));
+          right = λ q near clear h.
+              subst (LiesAt others q) (sym s.named.right)
+              (named_lies q s.chain.right (counts_of chains good q (free q near (λ z. omega (arith, ints, h, z))) s.chain.right
+              (about.1.right q (as_near q near) (free q near (λ z. omega (arith, ints, h, z))) h)));
+        },
+      )
         where
           of_all : IsOfChain chains s.chain u
           of_all = record {

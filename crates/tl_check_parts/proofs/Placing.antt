@@ -1,6 +1,5 @@
 -- Points of polygons: one lies in its own polygon alone in the joined map exactly where it does in its part.
-use Rattle.std.proofs.Common.{◌≡◌, ◌≢◌, ◌⊎◌, ◌↔◌, inl, inr, ⊎_elim, ℕ, ◌<◌, ℤ, pos, Bool, true, false, Some, List, length, slice_get, refl, sym, ap, subst, ◌∙◌, arith}
-use Rattle.std.proofs.lemmas.Bool.{false≢true}
+use Rattle.std.proofs.Common.{◌≡◌, ℕ, ◌<◌, pos, Bool, true, false, List, refl, sym, ap, subst, arith}
 use Rattle.std.proofs.lemmas.Int.{ints}
 use Rattle.tl_geom.specs.declared.point.Point.{Point}
 use Rattle.tl_geom.specs.declared.rational.Rational.{Rational}
@@ -16,12 +15,10 @@ use Rattle.tl_check_faces.specs.Rays.{IsCountAt}
 use Rattle.tl_check_faces.specs.Facing.{IsOff}
 use Rattle.tl_check_faces.specs.Clear.{IsOffBoundary}
 use Rattle.tl_check_faces.specs.Truth.{LiesAt}
-use Rattle.tl_check_faces.proofs.Sums.{number_of}
 use Rattle.tl_check_faces.proofs.Whole.{counts, one_count}
-use Rattle.tl_check_parts.specs.Told.{AreTold}
 use Rattle.tl_check_parts.specs.Homes.{Homes, is_named, is_of, own, tells}
-use Rattle.tl_check_parts.proofs.Told.{IsToldAs, told_as, off, off_boundary_back}
-use Rattle.tl_check_parts.proofs.Lies.{AreGood, HasCounts, counts_of}
+use Rattle.tl_check_parts.proofs.Told.{IsToldAs, told_as, off_boundary_back}
+use Rattle.tl_check_parts.proofs.Lies.{AreGood, counts_of}
 use Rattle.tl_check_parts.proofs.Names.{named_own, passed}
 use Rattle.tl_check_parts.proofs.Fitting.{AreParts, part_counts, alone}
 use Rattle.tl_check_parts.proofs.Faces.{by_part}

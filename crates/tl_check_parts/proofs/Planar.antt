@@ -1,5 +1,5 @@
 -- Where parts are sound, and the border between them is, joined chains are planar.
-use Rattle.std.proofs.Common.{◌≡◌, ◌≢◌, ◌⊎◌, inl, inr, ⊎_elim, ℕ, ◌<◌, ℤ, pos, Bool, true, false, not, ◌&&◌, Some, List, slice_get, refl, sym, ap, subst, ◌∙◌}
+use Rattle.std.proofs.Common.{◌≡◌, ◌≢◌, ⊎_elim, ℕ, ◌<◌, Bool, true, false, not, Some, List, slice_get, refl, sym, ap, subst, ◌∙◌}
 use Rattle.std.proofs.lemmas.Bool.{false≢true}
 use Rattle.tl_geom.specs.declared.rational.Rational.{Rational}
 use Rattle.tl_map_county.specs.declared.sides.Side.{Side}
@@ -10,8 +10,8 @@ use Rattle.tl_check_faces.specs.Clear.{IsOffBoundary}
 use Rattle.tl_check_parts.specs.Told.{AreTold}
 use Rattle.tl_check_parts.specs.Homes.{Homes, is_of, own, tells, name, is_border}
 use Rattle.tl_check_parts.proofs.Told.{place, IsToldAs, told_as}
-use Rattle.tl_check_parts.proofs.Deciding.{IsMet, IsMissed, met_or}
-use Rattle.tl_check_parts.proofs.Names.{tells_left, tells_right, border_of, one_of, IsInner, inner, IsToldBy, some_part, below_by, untold_inner}
+use Rattle.tl_check_parts.proofs.Deciding.{IsMet, met_or}
+use Rattle.tl_check_parts.proofs.Names.{tells_left, tells_right, border_of, IsInner, inner, IsToldBy, some_part, below_by, untold_inner}
 use Rattle.tl_check_parts.proofs.Fitting.{AreParts, within_counts, alone}
 
 -- two chains that are told together share their ends alone

@@ -1,20 +1,20 @@
 -- Where chains are planar, sides are true and counts stay along lines that meet no chain, sides agree about each node: from beside a dart
 -- lines that meet no chain lead about the node to beside the next one.
-use Rattle.std.proofs.Common.{◌≡◌, ◌≢◌, ◌⊎◌, inl, inr, ⊎_elim, ℕ, ◌+◌, ℤ, pos, ◌+ℤ◌, ◌-ℤ◌, ◌*ℤ◌, ◌<ℤ◌, ◌≤ℤ◌, Some, List, slice_get, refl, sym, ap, ap₂, subst, ◌∙◌, arith}
+use Rattle.std.proofs.Common.{◌≡◌, ◌≢◌, ◌⊎◌, inl, inr, ⊎_elim, ℕ, ◌+◌, ℤ, pos, ◌+ℤ◌, ◌-ℤ◌, ◌*ℤ◌, ◌<ℤ◌, ◌≤ℤ◌, Some, List, sym, ap, ap₂, subst, ◌∙◌, arith}
 use Rattle.std.proofs.lemmas.Int.{ints, by_lt_z}
 use Rattle.tl_geom.specs.declared.point.Point.{Point}
 use Rattle.tl_geom.specs.declared.direction.Direction.{Direction}
 use Rattle.tl_geom.specs.declared.rational.Rational.{Rational}
-use Rattle.tl_geom.specs.Plane.{IsSame, cross, whole}
-use Rattle.tl_geom.specs.Turning.{cross_of, dot_of, IsOneDirection, AreOpposite, IsWithin, below_half, above_half, half, full}
+use Rattle.tl_geom.specs.Plane.{cross, whole}
+use Rattle.tl_geom.specs.Turning.{cross_of, dot_of, IsOneDirection, IsWithin, below_half, above_half, half, full}
 use Rattle.tl_geom.proofs.Places.{on_same}
 use Rattle.tl_geom.proofs.Polynomials.{num, ◌⊕◌, ◌⊖◌, ◌⊗◌, same, same_by}
 use Rattle.tl_geom.proofs.Signs.{mono, mono_lt, product_above, product_at_least, square, square_above, zero_product, sign}
 use Rattle.tl_map_county.specs.declared.sides.Side.{Side}
 use Rattle.tl_map_county.specs.declared.sides.Side.TheVariants.{Outside, Polygon}
 use Rattle.tl_map_county.specs.TheMap.{MapChain}
-use Rattle.tl_map_county.specs.Darts.{dart_start, dart_second, dart_left, Heads}
-use Rattle.tl_check_planar.specs.Planar.{IsPlanar, IsOnChain}
+use Rattle.tl_map_county.specs.Darts.{dart_start, dart_second, dart_left}
+use Rattle.tl_check_planar.specs.Planar.{IsPlanar}
 use Rattle.tl_check_planar.specs.Keeping.Apart.{one_found}
 use Rattle.tl_check_sides.specs.Sides.{IsNext, SidesAgree, dart_right}
 use Rattle.tl_check_sides.proofs.Headings.{dart_within}
@@ -22,7 +22,7 @@ use Rattle.tl_check_faces.specs.Crossings.Headings.{AreProper}
 use Rattle.tl_check_faces.specs.Facing.{IsOff, IsStrictlyBetween}
 use Rattle.tl_check_faces.specs.Truth.{LiesAt, AreSidesTrue}
 use Rattle.tl_check_faces.proofs.Bounds.{IsFar, far, AreBounded, some_bound}
-use Rattle.tl_check_faces.proofs.Numbers.{above_by, below_by, zero_by}
+use Rattle.tl_check_faces.proofs.Numbers.{above_by, below_by}
 use Rattle.tl_check_faces.proofs.Others.{nearness}
 use Rattle.tl_check_faces.proofs.Unique.{unique}
 use Rattle.tl_check_parts.specs.Lines.{IsClearLine, DoPolygonsStay}
@@ -196,17 +196,19 @@ module _ (chains : List MapChain) (proper : AreProper chains) (planar : IsPlanar
                   south = mixed_close_below e b.m b.n y w m l b.some_p b.some_q close.south close'.south;
                   north = mixed_close e b.m b.n y w m l b.some_p b.some_q close.north close'.north;
                 })
-                c chain is
-                (k, record {
-                  segment = held.segment;
-                  from = held.from;
-                  to = held.to;
-                  on = on_same held.segment r (spot v (b.m *ℤ x +ℤ b.n *ℤ z) (b.m *ℤ y +ℤ b.n *ℤ w) (b.m *ℤ m +ℤ b.n *ℤ l) above)
-                      (record {
-                        x = b.x ∙ ap (λ t. t *ℤ r.d) (sym (mixed_x b.m b.n v.x x z m l));
-                        y = b.y ∙ ap (λ t. t *ℤ r.d) (sym (mixed_x b.m b.n v.y y w m l));
-                      }) held.on;
-                })
+                c chain is (
+                  k,
+                  record {
+                    segment = held.segment;
+                    from = held.from;
+                    to = held.to;
+                    on = on_same held.segment r (spot v (b.m *ℤ x +ℤ b.n *ℤ z) (b.m *ℤ y +ℤ b.n *ℤ w) (b.m *ℤ m +ℤ b.n *ℤ l) above)
+                        (record {
+                          x = b.x ∙ ap (λ t. t *ℤ r.d) (sym (mixed_x b.m b.n v.x x z m l));
+                          y = b.y ∙ ap (λ t. t *ℤ r.d) (sym (mixed_x b.m b.n v.y y w m l));
+                        }) held.on;
+                  },
+                )
               where
                 above : pos 0 <ℤ (b.m *ℤ m +ℤ b.n *ℤ l)
                 above = both_above b.m b.n m l b.some_p b.some_q some some'

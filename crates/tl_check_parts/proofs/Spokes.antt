@@ -1,24 +1,20 @@
 -- The first segments of the darts of a node, and that planar chains hold the node on no other segment.
-use Rattle.std.proofs.Common.{◌≡◌, ◌≢◌, ◌⊎◌, inl, inr, ⊎_elim, ℕ, ◌+◌, ◌-◌, ◌*◌, ◌/◌, ◌%◌, ◌<◌, ◌≤◌, Bool, true, false, Some, List, length, slice_get, refl, sym, ap, subst, ◌∙◌, arith}
+use Rattle.std.proofs.Common.{◌≡◌, ◌≢◌, ◌⊎◌, inl, inr, ⊎_elim, ℕ, ◌+◌, ◌-◌, ◌*◌, ◌/◌, ◌%◌, ◌<◌, true, false, Some, List, length, slice_get, refl, sym, ap, subst, ◌∙◌, arith}
 use Rattle.std.specs.Prelude.{if◌then◌else◌}
 use Rattle.std.specs.Option.{option_map}
-use Rattle.std.proofs.lemmas.Bool.{false≢true, eqb-true, eq-eqb, cases_order}
+use Rattle.std.proofs.lemmas.Bool.{false≢true, eqb-true, eq-eqb}
 use Rattle.std.proofs.lemmas.Option.{slice_get_within, slice_get-get_or}
 use Rattle.tl_geom.specs.declared.point.Point.{Point}
-use Rattle.tl_geom.specs.declared.direction.Direction.{Direction}
-use Rattle.tl_geom.specs.declared.rational.Rational.{Rational}
 use Rattle.tl_geom.specs.declared.segment.Segment.{Segment}
 use Rattle.tl_geom.specs.Plane.{IsOn, IsSame, whole}
 use Rattle.tl_geom.proofs.Places.{a_on, b_on, whole_same, same_refl}
 use Rattle.tl_map_county.specs.Chains.{IsProper}
-use Rattle.tl_map_county.specs.declared.sides.Side.{Side}
 use Rattle.tl_map_county.specs.TheMap.{MapChain}
-use Rattle.tl_map_county.specs.Darts.{is_along, dart_start, dart_second, dart_left, Heads}
+use Rattle.tl_map_county.specs.Darts.{is_along, dart_start, dart_second, dart_left}
 use Rattle.tl_tree_index.proofs.Times.{same_or}
 use Rattle.tl_check_planar.specs.Planar.{IsVertex, IsOnSegment, IsOnChain, IsChainEnd, IsPlanar}
 use Rattle.tl_check_planar.specs.Keeping.Apart.{one_found}
 use Rattle.tl_check_planar.proofs.Ends.{at_vertex}
-use Rattle.tl_check_planar.proofs.Numbering.{HaveSameEnds}
 use Rattle.tl_check_sides.specs.Sides.{dart_count, dart_right}
 use Rattle.tl_check_sides.proofs.Headings.{dart_within}
 use Rattle.tl_check_faces.specs.Crossings.Headings.{AreProper}
@@ -201,15 +197,18 @@ module _ (chains : List MapChain) (proper : AreProper chains) where
         before k n e = omega (arith, e)
 
     own_on : IsOnChain own.chain.points (whole v)
-    own_on = (own.k, record {
-      segment = own.u;
-      from = own.from;
-      to = own.to;
-      on = ⊎_elim
-          (λ r. subst (λ z. IsOn own.u (whole z)) (r.from ∙ own_at) (a_on own.u))
-          (λ r. subst (λ z. IsOn own.u (whole z)) (r.from ∙ own_at) (b_on own.u))
-          own.runs;
-    })
+    own_on = (
+      own.k,
+      record {
+        segment = own.u;
+        from = own.from;
+        to = own.to;
+        on = ⊎_elim
+            (λ r. subst (λ z. IsOn own.u (whole z)) (r.from ∙ own_at) (a_on own.u))
+            (λ r. subst (λ z. IsOn own.u (whole z)) (r.from ∙ own_at) (b_on own.u))
+            own.runs;
+      },
+    )
 
     at_end : (c : ℕ) (chain : MapChain) → slice_get chains c ≡ Some chain → IsOnChain chain.points (whole v) → IsChainEnd chain.points (whole v)
     at_end c chain is on = same_or c (a / 2)

@@ -1,5 +1,5 @@
 -- Places near a node, and the darts that run toward those that a chain holds.
-use Rattle.std.proofs.Common.{◌≡◌, ◌≢◌, ◌⊎◌, inl, inr, ⊎_elim, ℕ, ◌+◌, ℤ, pos, ◌+ℤ◌, ◌-ℤ◌, ◌*ℤ◌, ◌<ℤ◌, ◌≤ℤ◌, Some, List, slice_get, refl, sym, ap, ap₂, subst, ◌∙◌, arith}
+use Rattle.std.proofs.Common.{◌≡◌, ⊎_elim, ℕ, ◌+◌, ℤ, pos, ◌+ℤ◌, ◌-ℤ◌, ◌*ℤ◌, ◌<ℤ◌, ◌≤ℤ◌, Some, List, slice_get, sym, ap, ap₂, subst, ◌∙◌, arith}
 use Rattle.std.proofs.lemmas.Int.{ints}
 use Rattle.tl_geom.specs.declared.point.Point.{Point}
 use Rattle.tl_geom.specs.declared.direction.Direction.{Direction}
@@ -11,7 +11,7 @@ use Rattle.tl_geom.proofs.Signs.{at_least_of_product, product_at_least}
 use Rattle.tl_map_county.specs.TheMap.{MapChain}
 use Rattle.tl_map_county.specs.Segments.{segments_before}
 use Rattle.tl_map_county.specs.Darts.{dart_start, dart_second, Heads}
-use Rattle.tl_check_planar.specs.Planar.{IsPlanar, IsOnChain, IsOnSegment}
+use Rattle.tl_check_planar.specs.Planar.{IsPlanar, IsOnChain}
 use Rattle.tl_check_planar.specs.Keeping.Apart.{one_found}
 use Rattle.tl_check_sides.proofs.Headings.{dart_within}
 use Rattle.tl_check_faces.specs.Crossings.Headings.{AreProper}

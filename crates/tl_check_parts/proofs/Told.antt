@@ -1,5 +1,5 @@
 -- Where the chains that are told stand among all.
-use Rattle.std.proofs.Common.{◌≡◌, ◌⊎◌, inl, inr, ⊎_elim, ℕ, zero, suc, Bool, true, false, Some, List, [], ◌∷◌, refl, sym, ap, subst, ◌∙◌, arith}
+use Rattle.std.proofs.Common.{◌≡◌, ⊎_elim, ℕ, zero, suc, Bool, true, false, Some, List, [], ◌∷◌, refl, sym, ap, subst, ◌∙◌, arith}
 use Rattle.std.specs.Prelude.{slice_get, if◌then◌else◌}
 use Rattle.std.proofs.lemmas.Bool.{false≢true}
 use Rattle.tl_geom.specs.declared.rational.Rational.{Rational}
@@ -9,7 +9,7 @@ use Rattle.tl_map_county.specs.TheMap.{MapChain}
 use Rattle.tl_check_planar.specs.Planar.{IsOnChain, IsPlanar, IsSimple, ShareEndsAlone}
 use Rattle.tl_check_planar.specs.Keeping.Apart.{one_found}
 use Rattle.tl_check_faces.specs.Facing.{IsOff}
-use Rattle.tl_check_faces.specs.Clear.{IsOffBoundary, IsClearAlong}
+use Rattle.tl_check_faces.specs.Clear.{IsOffBoundary}
 use Rattle.tl_check_faces.specs.Crossings.Headings.{AreProper}
 use Rattle.tl_check_parts.specs.Told.{IsNamed, AreTold}
 

@@ -1,6 +1,6 @@
 -- Where parts are sound with true faces, and the border between them is, each side of the joined chains names what lies there, and what
 -- lies at the one end of a straight line that meets no chain lies at the other.
-use Rattle.std.proofs.Common.{◌≡◌, ◌≢◌, ◌⊎◌, inl, inr, ℕ, ◌+◌, ◌<◌, ℤ, pos, ◌+ℤ◌, ◌<ℤ◌, Bool, true, false, Some, List, slice_get, refl, sym, ap, subst, ◌∙◌, arith}
+use Rattle.std.proofs.Common.{◌≡◌, inl, inr, ℕ, ◌+◌, ◌<◌, ℤ, pos, ◌+ℤ◌, ◌<ℤ◌, Bool, true, Some, List, slice_get, refl, sym, ap, subst, ◌∙◌, arith}
 use Rattle.std.proofs.lemmas.Bool.{cases_lt}
 use Rattle.std.proofs.lemmas.Int.{ints}
 use Rattle.tl_geom.specs.declared.rational.Rational.{Rational}
@@ -10,12 +10,12 @@ use Rattle.tl_map_county.specs.declared.sides.Side.TheVariants.{Outside, Polygon
 use Rattle.tl_map_county.specs.TheMap.{MapChain}
 use Rattle.tl_check_inside.specs.Inside.{is_polygon}
 use Rattle.tl_check_faces.specs.Rays.{IsCountAt}
-use Rattle.tl_check_faces.specs.Facing.{IsOfChain, IsOff, IsStrictlyOn, IsStrictlyBetween}
+use Rattle.tl_check_faces.specs.Facing.{IsOfChain, IsOff, IsStrictlyOn}
 use Rattle.tl_check_faces.specs.Truth.{LiesAt, IsNearer, IsTrueAbout, AreSidesTrue, AreFacesTrue, side_of}
 use Rattle.tl_check_faces.proofs.CrossingsLemmas.Apart.{apart}
 use Rattle.tl_check_faces.proofs.Staying.{stays}
 use Rattle.tl_check_faces.proofs.Whole.{one_count}
-use Rattle.tl_check_parts.specs.Lines.{IsClearLine, DoPolygonsStay}
+use Rattle.tl_check_parts.specs.Lines.{DoPolygonsStay}
 use Rattle.tl_check_parts.specs.Told.{IsNamed, AreTold}
 use Rattle.tl_check_parts.specs.Homes.{Homes, is_of, own, tells, name, is_border, IsOfParts, IsTold}
 use Rattle.tl_check_parts.proofs.Told.{IsToldAs, told_as, off}
@@ -48,9 +48,12 @@ module _ (homes : Homes) (two : (p q : ℕ) → homes.part p ≡ homes.part q �
           from = subst (λ p. slice_get p k ≡ Some u.a) (sym s.named.points) from;
           to = subst (λ p. slice_get p (k + 1) ≡ Some u.b) (sym s.named.points) to;
         } in
-        let a : (e : ℤ) × IsTrueAbout others s.one u r e = good.truth.true_sides s.one u r of on in
-        (a.0, a.1.some, λ q near clear at. subst (LiesAt others q) (named names s.one s.named)
-        (told_there others s.one a.0 a.1 q near (off names told chains others are q clear) at))
+        let a : (e : ℤ) × IsTrueAbout others s.one u r e = good.truth.true_sides s.one u r of on in (
+          a.0,
+          a.1.some,
+          λ q near clear at. subst (LiesAt others q) (named names s.one s.named)
+              (told_there others s.one a.0 a.1 q near (off names told chains others are q clear) at),
+        )
 
     pub side_about : (e : ℤ) × (pos 0 <ℤ e) × ((q : Rational) → IsNearer e r q → IsOff chains q → toward q → LiesAt chains q (pick chain))
     side_about = go (pick chain) refl
@@ -58,17 +61,23 @@ module _ (homes : Homes) (two : (p q : ℕ) → homes.part p ≡ homes.part q �
         go : (s : Side) → pick chain ≡ s → (e : ℤ) × (pos 0 <ℤ e) × ((q : Rational) → IsNearer e r q → IsOff chains q → toward q → LiesAt chains q (pick chain))
         go Outside f =
             let a : (e : ℤ) × (pos 0 <ℤ e) × ((q : Rational) → IsNearer e r q → IsOff chains q → toward q → LiesAt border q (name homes (pick chain))) =
-            in_view (name homes) (is_border homes) border parts.border_told parts.border_good (on_border f) in
-            (a.0, a.1, λ q near clear at. subst (LiesAt chains q) (sym f)
-            (by_border homes two n chains border parts q clear (subst (λ s. LiesAt border q (name homes s)) f (a.2 q near clear at))))
+            in_view (name homes) (is_border homes) border parts.border_told parts.border_good (on_border f) in (
+              a.0,
+              a.1,
+              λ q near clear at. subst (LiesAt chains q) (sym f)
+                  (by_border homes two n chains border parts q clear (subst (λ s. LiesAt border q (name homes s)) f (a.2 q near clear at))),
+            )
         go (Polygon p) f =
             let lt : homes.part p < n = subst (IsOfParts homes n) f known in
             let a : (e : ℤ) × (pos 0 <ℤ e) × ((q : Rational) → IsNearer e r q → IsOff chains q → toward q → LiesAt (parts.part (homes.part p) lt) q (own homes (homes.part p) (pick chain))) =
             in_view (own homes (homes.part p)) (tells homes (homes.part p)) (parts.part (homes.part p) lt) (parts.told (homes.part p) lt) (parts.good (homes.part p) lt)
-            (tells_it (homes.part p) (ap (is_of homes (homes.part p)) f ∙ is_of_own homes p)) in
-            (a.0, a.1, λ q near clear at. subst (LiesAt chains q) (sym f)
-            (by_part homes two n chains border parts q clear p (homes.part p) refl lt
-            (subst (LiesAt (parts.part (homes.part p) lt) q) (ap (own homes (homes.part p)) f ∙ own_there homes (homes.part p) p refl) (a.2 q near clear at))))
+            (tells_it (homes.part p) (ap (is_of homes (homes.part p)) f ∙ is_of_own homes p)) in (
+              a.0,
+              a.1,
+              λ q near clear at. subst (LiesAt chains q) (sym f)
+                  (by_part homes two n chains border parts q clear p (homes.part p) refl lt
+                  (subst (LiesAt (parts.part (homes.part p) lt) q) (ap (own homes (homes.part p)) f ∙ own_there homes (homes.part p) p refl) (a.2 q near clear at))),
+            )
 
   pub sides_true : AreSidesTrue chains
   sides_true chain u r of on =
