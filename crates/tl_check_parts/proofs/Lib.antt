@@ -21,3 +21,4 @@ pub mod Parting
 pub mod Good
 pub mod Placing
 pub mod Enough
+pub mod Matching

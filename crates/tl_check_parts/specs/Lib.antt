@@ -2,5 +2,6 @@
 pub mod Told
 pub mod Homes
 pub mod Joined
+pub mod Borders
 pub mod Lines
 pub mod Sound
