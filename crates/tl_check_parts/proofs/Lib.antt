@@ -22,3 +22,4 @@ pub mod Good
 pub mod Placing
 pub mod Enough
 pub mod Matching
+pub mod Bordering
