@@ -1,6 +1,6 @@
 -- Where chains are planar, sides are true and counts stay along lines that meet no chain, sides agree about each node: from beside a dart
 -- lines that meet no chain lead about the node to beside the next one.
-use Rattle.std.proofs.Common.{◌≡◌, ◌≢◌, ◌⊎◌, inl, inr, ⊎_elim, ℕ, ◌+◌, ℤ, pos, ◌+ℤ◌, ◌-ℤ◌, ◌*ℤ◌, ◌<ℤ◌, ◌≤ℤ◌, Some, List, sym, ap, ap₂, subst, ◌∙◌, arith}
+use Rattle.std.proofs.Common.{◌≡◌, ◌≢◌, ◌⊎◌, inl, inr, ⊎_elim, ℕ, ◌+◌, ℤ, pos, ◌+ℤ◌, ◌-ℤ◌, ◌*ℤ◌, ◌<ℤ◌, ◌≤ℤ◌, Option, Some, List, sym, ap, ap₂, subst, ◌∙◌, arith}
 use Rattle.std.proofs.lemmas.Int.{ints, by_lt_z}
 use Rattle.tl_geom.specs.declared.point.Point.{Point}
 use Rattle.tl_geom.specs.declared.direction.Direction.{Direction}
@@ -154,6 +154,9 @@ both_above : (m n u w : ℤ) → pos 0 <ℤ m → pos 0 <ℤ n → pos 0 <ℤ u 
 both_above m n u w a b c d = let one = product_above m u a c in let other = product_above n w b d in omega (arith, ints, one, other)
 
 -- ---- about a node
+
+alike : (x y : Option Side) (s t : Side) → x ≡ Some s → y ≡ Some t → s ≡ t → x ≡ y
+alike x y s t e f same_side = e ∙ ap Some same_side ∙ sym f
 
 module _ (chains : List MapChain) (proper : AreProper chains) (planar : IsPlanar chains) (true_there : AreSidesTrue chains) (stay : DoPolygonsStay chains) where
   -- what lies at the one end of a line that meets no chain lies at the other
@@ -428,7 +431,7 @@ module _ (chains : List MapChain) (proper : AreProper chains) (planar : IsPlanar
           let same_side : one.0 ≡ other.0 =
           unique chains (spot v last_x last_y B.m B.some_m) one.0 other.0 (carry one.0 one.2)
           (subst (λ z. LiesAt chains (spot z last_x last_y B.m B.some_m) other.0) same_node other.2) in
-          one.1 ∙ ap Some same_side ∙ sym other.1
+          alike (dart_left chains a) (dart_right chains b) one.0 other.0 one.1 other.1 same_side
 
       -- by one line
       direct : ((i j : ℤ) → pos 0 <ℤ i → pos 0 <ℤ j → In (i *ℤ first_x +ℤ j *ℤ last_x) (i *ℤ first_y +ℤ j *ℤ last_y)) → dart_left chains a ≡ dart_right chains b

@@ -15,12 +15,27 @@ ghost use Rattle.tl_check_faces.specs.Truth.{AreFacesTrue, AreSidesTrue};
 ghost use Rattle.tl_check_parts.specs.Told.{AreTold};
 ghost use Rattle.tl_check_parts.specs.Homes.{Homes, is_named};
 ghost use Rattle.tl_check_parts.specs.Joined.{IsJoined, IsBorder};
+ghost use Rattle.tl_check_parts.specs.Borders.{AreBordersOf, of_borders, AreRising};
 ghost use Rattle.tl_check_parts.specs.Lines.{DoPolygonsStay};
 ghost use Rattle.tl_check_parts.specs.Sound.{IsSoundWithFaces, AreSoundWithFaces};
 
-/// A joined map is sound and its faces are true exactly where this holds of each of its parts, and of the border between them. So a
-/// nation is decided by its counties, each by itself, and then by their borders alone.
+/// A joined map is sound and its faces are true exactly where this holds of each of its parts, and of their joined borders. So a nation
+/// is decided by its counties, each by itself, and then by their borders alone.
 pub fn parts_are_enough()
+    ensures { (homes : Homes) (parts borders : List TheMap) (joined border : TheMap) → IsJoined homes parts joined → AreBordersOf parts borders →
+        IsJoined (of_borders homes) borders border → AreProper joined.chains → AreRising joined.chains → AreRising border.chains →
+        IsSoundWithFaces joined ↔ (AreSoundWithFaces parts × IsSoundWithFaces border) }
+{}
+
+/// For the joined borders of all parts are the border between the parts: of the joined map's chains those whose sides aren't both of one
+/// part, on which each part is one polygon.
+pub fn joined_borders_are_the_border()
+    ensures { (homes : Homes) (parts borders : List TheMap) (joined border : TheMap) → IsJoined homes parts joined → AreBordersOf parts borders →
+        IsJoined (of_borders homes) borders border → AreRising joined.chains → AreRising border.chains → IsBorder homes joined border }
+{}
+
+/// And a joined map is sound and its faces are true exactly where this holds of its parts and of the border between them.
+pub fn parts_and_the_border_are_enough()
     ensures { (homes : Homes) (parts : List TheMap) (joined border : TheMap) → IsJoined homes parts joined → IsBorder homes joined border →
         AreProper joined.chains → IsSoundWithFaces joined ↔ (AreSoundWithFaces parts × IsSoundWithFaces border) }
 {}
