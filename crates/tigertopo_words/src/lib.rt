@@ -23,6 +23,6 @@ pub use asked::{Asked, Command, View};
 pub use budget::Told;
 pub use escapes::{push_escaped, push_name};
 pub use form::Form;
-pub use json::{json_byte, push_string};
+pub use json::{json_byte, push_byte_string, push_string};
 pub use layer::Layer;
 pub use stop::WordsStop;
