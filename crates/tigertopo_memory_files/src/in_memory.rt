@@ -155,47 +155,6 @@ impl tigertopo_files::Draft for Draft {
     }
 }
 
-// What is printed, behind what was held before.
-#[derive(Drop)]
-struct Printed {
-    bytes: Vec<u8>,
-    failures: u64,
-}
-
-impl Sink for Printed {
-    ghost contents = { λ printed. Some printed.bytes.items };
-
-    ghost failure_count = { λ printed. printed.failures };
-
-    fn put(&mut self, bytes: &[u8]) -> io::Result<usize> {
-        match self.bytes.write(bytes) {
-            Ok(taken) => Ok(taken),
-            Err(error) => {
-                self.failures = self.failures.saturating_add(1);
-                Err(error)
-            }
-        }
-    }
-
-    fn failures(&self) -> u64 {
-        self.failures
-    }
-}
-
-// These bytes and a text behind them.
-fn with_printed<T: Text>(alloc: Global, held: &[u8], text: &T) -> Result<Vec<u8>, Stop>
-    requires { T.is_ready text.now }
-    ensures bytes { IfOk result (λ bytes. bytes.items ≡ held.now ++ T.text text.now) }
-    ensures stop { IfErr result (λ stop. stop ≡ Memory) }
-{
-    let bytes = Vec::from_slice(alloc, held)?;
-    let mut printed = Printed { bytes, failures: 0 };
-    match text.print(alloc, &mut printed) {
-        Ok(()) => Ok(printed.bytes),
-        Err(_) => Err(Stop::Memory),
-    }
-}
-
 impl Opener for FilesInMemory {
     type Reader = Held;
 

@@ -20,7 +20,7 @@ use Rattle.tigertopo_where.specs.Hint.Telling.{HaveTexts}
 abbrev pub refused_text : Form → Refusal → List ℕ
 refused_text Lines refusal = line_of (refusal_text refusal.line refusal.cause)
 refused_text Records refusal = line_of (refusal_text refusal.line refusal.cause)
-refused_text Objects refusal = refused_object refusal
+refused_text Objects refusal = refused_object refusal.line refusal.cause
 
 -- what stands behind it where no place is told
 abbrev pub no_place : Form → List ℕ

@@ -4,7 +4,7 @@ ghost use Rattle.std.specs.Prelude.{◌≡◌, ◌<◌, ◌^◌, ◌++◌, ℕ, 
 ghost use Rattle.tl_cert_output.specs.Writing.{line_of};
 ghost use Rattle.tl_record.specs.Layout.{layout_with};
 ghost use Rattle.tigertopo_where.specs.FieldColumns.{range_of};
-ghost use Rattle.tigertopo_where.specs.Hint.Objects.{cause_members, columns_members, place_object, refused_object, word_text};
+ghost use Rattle.tigertopo_where.specs.Hint.Objects.{cause_members, columns_members, field_members, place_object, refused_object, word_text};
 
 use crate::FieldColumns;
 use crate::hint::shown::{columns_for, content, push_number};
@@ -12,19 +12,23 @@ use crate::words::split_word;
 use std::alloc::AllocError;
 use tigertopo_words::{push_byte_string, push_string};
 use tl_cert_output::refusal_line;
-use tl_record::{Cause, Columns, Options, Refusal};
+use tl_record::{Cause, Columns, Options};
 
 /// Adds the beginning of the object of a refused line.
-pub fn push_refused_object(text: &mut Vec<u8>, refusal: Refusal) -> Result<(), AllocError>
-    ensures { OnOk result (text.new.items ≡ text.old.items ++ refused_object refusal) }
+pub fn push_refused_object(
+    text: &mut Vec<u8>,
+    number: u64,
+    cause: Cause,
+) -> Result<(), AllocError>
+    ensures { OnOk result (text.new.items ≡ text.old.items ++ refused_object number cause) }
 {
-    let line = refusal_line(refusal.line, refusal.cause);
-    let cause = cause_in(line.as_str().as_bytes());
-    let (_, name_and_field) = split_word(cause);
+    let line = refusal_line(number, cause);
+    let told = cause_in(line.as_str().as_bytes());
+    let (_, name_and_field) = split_word(told);
     let (_, field) = split_word(name_and_field);
     text.extend_from_slice(b"{\"is\":\"refused\",")?;
-    push_cause(text, cause)?;
-    push_number(text, b",\"about\":{\"line\":", refusal.line)?;
+    push_cause(text, told)?;
+    push_number(text, b",\"about\":{\"line\":", number)?;
     text.extend_from_slice(b",\"field\":")?;
     push_word(text, field)?;
     text.extend_from_slice(b"},\"records\":[")?;
@@ -55,7 +59,8 @@ fn push_cause(text: &mut Vec<u8>, cause: &[u8]) -> Result<(), AllocError>
     text.extend_from_slice(b"\"code\":")?;
     push_string(text, code)?;
     text.extend_from_slice(b",\"name\":")?;
-    push_string(text, name)
+    push_string(text, name)?;
+    Ok(())
 }
 
 // Adds a word, or null where there is none.
@@ -85,12 +90,24 @@ pub fn push_place_object(
     text.extend_from_slice(b"{\"file\":")?;
     push_string(text, name.as_bytes())?;
     push_number(text, b",\"line\":", number)?;
-    let bytes = content(line);
-    if let Some(columns) = columns_for(options, bytes, cause) {
-        push_members(text, bytes, columns)?;
-    }
+    push_field(text, content(line), options, cause)?;
     text.extend_from_slice(b"}")?;
     Ok(())
+}
+
+// Adds the columns of the field that a line is refused for, if it is for one.
+fn push_field(
+    text: &mut Vec<u8>,
+    line: &[u8],
+    options: Options,
+    cause: Cause,
+) -> Result<(), AllocError>
+    ensures { OnOk result (text.new.items ≡ text.old.items ++ field_members (layout_with options) line.now cause) }
+{
+    match columns_for(options, line, cause) {
+        Some(columns) => push_members(text, line, columns),
+        None => Ok(()),
+    }
 }
 
 // Adds columns, and what a line holds there.
@@ -100,5 +117,6 @@ fn push_members(text: &mut Vec<u8>, line: &[u8], columns: FieldColumns) -> Resul
     push_number(text, b",\"columns\":[", u64::from(columns.first))?;
     push_number(text, b",", u64::from(columns.last))?;
     text.extend_from_slice(b"],\"bytes\":")?;
-    push_byte_string(text, Columns::new(line).field(columns.first, columns.last))
+    push_byte_string(text, Columns::new(line).field(columns.first, columns.last))?;
+    Ok(())
 }

@@ -80,7 +80,7 @@ fn push_refusal(text: &mut Vec<u8>, form: Form, refusal: Refusal) -> Result<(), 
             text.extend_from_slice(line.as_str().as_bytes())?;
             Ok(())
         }
-        Form::Objects => push_refused_object(text, refusal),
+        Form::Objects => push_refused_object(text, refusal.line, refusal.cause),
     }
 }
 

@@ -22,8 +22,8 @@ returns-in_ok-push_found-in-Ok-Line-clause-told g c =
           shown_in told (no_place c.args.self.now.form) (line_at c.args.refusal.line (raw_lines held)) c.find_ahead.new.buffer c.in-Ok-Line.len _ (rw c.in-Ok-Line.field-0-is at found),
     )
 
-pub returns-in-Ok-Missing-clause-told : goal.returns-in-Ok-Missing-clause-told
-returns-in-Ok-Missing-clause-told g c =
+pub returns-in_ok-push_no_place-in-Ok-Missing-clause-told : goal.returns-in_ok-push_no_place-in-Ok-Missing-clause-told
+returns-in_ok-push_no_place-in-Ok-Missing-clause-told g c =
     let told = found_text c.args.self.now.form (layout_with c.args.self.now.options) (map string_bytes c.args.self.now.names.now) c.args.self.now.counts.now c.args.refusal in
     let old = c.args.text.now.items in
     let refused = refused_text c.args.self.now.form c.args.refusal in (
