@@ -2,20 +2,20 @@
 
 ghost use Rattle.std.specs.Prelude.{◌≡◌, ◌≢◌, ◌++◌, ℕ, List, None, Some, IfOk, IfErr, OnOk, OnErr, Contains, map, option_map, string_bytes};
 ghost use Rattle.std.specs.Bool.{OnTrue, OnFalse};
-ghost use Rattle.tl_cert_output.specs.declared.stop.Stop.TheVariants.{Memory};
 ghost use Rattle.tl_cert_output.specs.Stops.{StopsFor};
 ghost use Rattle.tigertopo_memory_files.specs.Keeping.Stored.{found_with as found_with_of};
 
 use std::alloc::{AllocError, Global};
 use std::collections::VecDeque;
 use std::io;
-use std::io::{ErrorKind, Read, Write};
+use std::io::{ErrorKind, Read};
 use tigertopo_files::{
     FileKind, FileSystem, Opener, Reading, Room, all_names, read_each, read_each_again,
 };
+use tigertopo_text::with_printed;
 use tigertopo_system_files::{Lookup, Seen, Spot, name_beside, room_of};
 use tl_cert_output::{Stop, Text};
-use tl_record::{Sink, Source};
+use tl_record::Source;
 
 /// A file with its name.
 #[derive(Drop)]
