@@ -6,7 +6,6 @@ ghost use Rattle.tl_map_rules.specs.Messages.{limited_text};
 ghost use Rattle.tl_check_faces.specs.FaultTexts.{way_text};
 ghost use Rattle.tigertopo_faults.specs.Objects.About.{details_text, face_text, faces_text, limit_text, named_text, node_text, pair_text};
 
-use crate::geojson::print_signed;
 use crate::objects::place::print_fractions;
 use tigertopo_geojson::print_key;
 use tl_cert_output::Printer;
@@ -89,9 +88,9 @@ fn print_node<S: Sink>(node: Point, printer: &mut Printer, out: &mut S)
     ensures { Prints S.contents S.failure_count (out.old, printer.old) (out.new, printer.new) (node_text node) }
 {
     printer.add(b",\"node\":[", out);
-    print_signed(i128::from(node.x), printer, out);
+    printer.number(node.x, out);
     printer.add(b",", out);
-    print_signed(i128::from(node.y), printer, out);
+    printer.number(node.y, out);
     printer.add(b"]", out);
 }
 
