@@ -171,7 +171,8 @@ rise_printed (Some count) n list rise = rise_taken count n list rise
 -- with no places they are printed as they are listed
 pub plain_lines_are : (refusals : List Refusal) → placed_text FormLines refusals [] ≡ lines told_refusal refusals
 plain_lines_are [] = refl
-plain_lines_are (refusal ∷ rest) = ap (λ t. refused_text FormLines refusal ++ t) (plain_lines_are rest)
+plain_lines_are (refusal ∷ rest) =
+    ap (λ t. t ++ placed_text FormLines rest []) (append-nil (refused_text FormLines refusal)) ∙ ap (λ t. refused_text FormLines refusal ++ t) (plain_lines_are rest)
 
 first_is : (layout : Layout) (text : List ℕ) → slice_get (refusals_of layout text) 0 ≡ (records_of layout text).refusal
 first_is layout text = first_of_judged (judgements layout 0 (raw_lines text))

@@ -1,5 +1,5 @@
 -- Kept on the way: what is prepared before it is told. No public contract cites this file.
-use Rattle.std.specs.Prelude.{◌≡◌, ⊥, ℕ, true, false, List, [], ◌∷◌, Option, Some, None, Vec}
+use Rattle.std.specs.Prelude.{◌≡◌, ℕ, true, false, List, [], ◌∷◌, Option, Some, None, Vec}
 use Rattle.std.specs.Global.{Global}
 use Rattle.tl_map_county.specs.TheMap.{MapChain}
 use Rattle.tigertopo_words.specs.declared.budget.Told.{Told}
