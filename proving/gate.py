@@ -26,6 +26,7 @@ import judged
 import made_files
 import memory
 import mended
+import objects
 import packaged
 import pictures
 import progress
@@ -80,6 +81,7 @@ def parts():
         ("what is taken away", packaged.play_all),
         ("progress", progress.play_all),
         ("a county mended", mended.play_all),
+        ("objects of JSON", objects.play_all),
         ("rows", rows.play_all),
         ("rows over the core", core.play_all),
         ("what pages name", cited.play_all),

@@ -16,7 +16,7 @@ from folders import CORE
 from rows import ROWS, play, rows_of
 
 LACKING = b"error: the program that has this isn't built: run `make`\n"
-MORE = ("--all", "--where", "--geojson")
+MORE = ("--all", "--where", "--json", "--geojson")
 HELP = ("--help", "-h")
 
 

@@ -9,6 +9,8 @@ use Rattle.tigertopo_words.specs.declared.asked.Asked.TheVariants.{Show, Landmar
 use Rattle.tigertopo_words.specs.declared.asked.Command.{Command}
 use Rattle.tigertopo_words.specs.declared.budget.Told.{Told}
 use Rattle.tigertopo_words.specs.declared.budget.Told.TheVariants.{One, All}
+use Rattle.tigertopo_words.specs.declared.form.Form.{Form}
+use Rattle.tigertopo_words.specs.declared.form.Form.TheVariants.{Lines, Records, Objects}
 use Rattle.tigertopo_words.specs.Asked.{made_of}
 use Rattle.tigertopo_files.specs.Files.{Under, IsRoom}
 use Rattle.tigertopo_files.specs.declared.beginning.FileKind.{FileKind}
@@ -32,19 +34,20 @@ by_asked command asked is w r =
     subst (λ a. Does w (names_with a (map string_bytes command.files.items)) (made_of a) (IsSaid (PlainAnswers a command.options (map string_bytes command.files.items) w)) (PlainStops a command.options (map string_bytes command.files.items) w) r) (sym is)
 
 -- an audit for one line makes no file
-pub makes_none : (told : Told) (places : Bool) (made : Option (String Global)) → IsPlain (Audit told places made) → option_map string_bytes made ≡ None
-makes_none One false None plain = refl
-makes_none One false (Some name) plain = absurd plain
-makes_none One true made plain = absurd plain
-makes_none (All most) places made plain = absurd plain
+pub makes_none : (told : Told) (form : Form) (made : Option (String Global)) → IsPlain (Audit told form made) → option_map string_bytes made ≡ None
+makes_none One Lines None plain = refl
+makes_none One Lines (Some name) plain = absurd plain
+makes_none One Records made plain = absurd plain
+makes_none One Objects made plain = absurd plain
+makes_none (All most) form made plain = absurd plain
 
 -- a file that may be made beside what is read
 pub may_make : (asked : Asked) (names : List (List ℕ)) (under : Under) → IsRoomWith under (made_of asked) (inputs_with asked names) (kind_of asked) Free → MayMake under (made_of asked) (names_with asked names) (kind_of asked)
 may_make Show names under room = tt
 may_make Landmarks names under room = tt
 may_make (Locate point) names under room = tt
-may_make (Audit told places None) names under room = tt
-may_make (Audit told places (Some name)) names under room = room
+may_make (Audit told form None) names under room = tt
+may_make (Audit told form (Some name)) names under room = room
 may_make (Build made) names under room = room
 may_make (Check cert budget) names under room = tt
 may_make (Convert cert made) names under room = room
@@ -62,10 +65,11 @@ pub is_one : (asked : Asked) → is_plain asked ≡ true → IsPlain asked
 is_one Show test = tt
 is_one Landmarks test = tt
 is_one (Locate point) test = tt
-is_one (Audit One false None) test = tt
-is_one (Audit One false (Some name)) test = absurd (cc)
-is_one (Audit One true made) test = absurd (cc)
-is_one (Audit (All most) places made) test = absurd (cc)
+is_one (Audit One Lines None) test = tt
+is_one (Audit One Lines (Some name)) test = absurd (cc)
+is_one (Audit One Records made) test = absurd (cc)
+is_one (Audit One Objects made) test = absurd (cc)
+is_one (Audit (All most) form made) test = absurd (cc)
 is_one (Build made) test = tt
 is_one (Check cert budget) test = tt
 is_one (Convert cert made) test = tt
@@ -76,10 +80,11 @@ pub is_none : (asked : Asked) → is_plain asked ≡ false → ¬ IsPlain asked
 is_none Show test = absurd (cc)
 is_none Landmarks test = absurd (cc)
 is_none (Locate point) test = absurd (cc)
-is_none (Audit One false None) test = absurd (cc)
-is_none (Audit One false (Some name)) test = λ no. no
-is_none (Audit One true made) test = λ no. no
-is_none (Audit (All most) places made) test = λ no. no
+is_none (Audit One Lines None) test = absurd (cc)
+is_none (Audit One Lines (Some name)) test = λ no. no
+is_none (Audit One Records made) test = λ no. no
+is_none (Audit One Objects made) test = λ no. no
+is_none (Audit (All most) form made) test = λ no. no
 is_none (Build made) test = absurd (cc)
 is_none (Check cert budget) test = absurd (cc)
 is_none (Convert cert made) test = absurd (cc)

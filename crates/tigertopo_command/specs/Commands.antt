@@ -7,6 +7,7 @@ use Rattle.tigertopo_words.specs.declared.asked.Asked.{Asked}
 use Rattle.tigertopo_words.specs.declared.asked.Asked.TheVariants.{Show, Landmarks, Locate, Audit, Build, Check, Convert, Export, Draw}
 use Rattle.tigertopo_words.specs.declared.asked.Command.{Command}
 use Rattle.tigertopo_words.specs.declared.budget.Told.TheVariants.{One}
+use Rattle.tigertopo_words.specs.declared.form.Form.TheVariants.{Lines}
 use Rattle.tigertopo_files.specs.Files.{bytes_under}
 use Rattle.tigertopo_files.specs.World.{World}
 use Rattle.tigertopo_files.specs.declared.beginning.FileKind.{FileKind}
@@ -35,7 +36,7 @@ inputs_of command = inputs_with command.asked (map string_bytes command.files.it
 
 -- the kind of the file that is made, where one is
 abbrev pub kind_of : Asked → FileKind
-kind_of (Audit told places made) = Collection
+kind_of (Audit told form made) = Collection
 kind_of (Export made layer) = Collection
 kind_of (Draw made view faults) = Picture
 kind_of other = Certificate
@@ -46,7 +47,7 @@ abbrev pub PlainAnswers : Asked → Options → (names : List (List ℕ)) → Wo
 PlainAnswers Show options names w = ShowAnswers (layout_with options) (text_under w.before names)
 PlainAnswers Landmarks options names w = LandmarksAnswers (layout_with options) (text_under w.before names)
 PlainAnswers (Locate point) options names w = LocateAnswers (layout_with options) point (text_under w.before names)
-PlainAnswers (Audit told places made) options names w = AuditAnswers options (text_under w.before names)
+PlainAnswers (Audit told form made) options names w = AuditAnswers options (text_under w.before names)
 PlainAnswers (Build made) options names w = BuildAnswers w options (text_under w.before names) (string_bytes made)
 PlainAnswers (Check cert budget) options names w = CheckAnswers options budget (text_under w.before names) (bytes_under w.before (string_bytes cert))
 PlainAnswers (Convert cert made) options names w = ConvertAnswers w (bytes_under w.before (string_bytes cert)) (string_bytes made)
@@ -60,16 +61,16 @@ PlainStops other options names w = StopsRecords (layout_with options) (text_unde
 
 -- one of these commands
 abbrev pub IsPlain : Asked → Type 0
-IsPlain (Audit One false None) = ⊤
-IsPlain (Audit told places made) = ⊥
+IsPlain (Audit One Lines None) = ⊤
+IsPlain (Audit told form made) = ⊥
 IsPlain (Export made layer) = ⊥
 IsPlain (Draw made view faults) = ⊥
 IsPlain other = ⊤
 
 -- is it one of these
 abbrev pub is_plain : Asked → Bool
-is_plain (Audit One false None) = true
-is_plain (Audit told places made) = false
+is_plain (Audit One Lines None) = true
+is_plain (Audit told form made) = false
 is_plain (Export made layer) = false
 is_plain (Draw made view faults) = false
 is_plain other = true

@@ -20,7 +20,7 @@ use tigertopo_outcome::convert::convert;
 use tigertopo_outcome::records::{landmarks, locate, show};
 use tigertopo_outcome::said::{Answer, Said};
 use tigertopo_outcome::stop::{USAGE, try_to_write};
-use tigertopo_words::{Asked, Command, Told};
+use tigertopo_words::{Asked, Command, Form, Told};
 use tl_cert_output::Stop;
 use tl_record::Sink;
 
@@ -73,8 +73,8 @@ pub fn is_plain(asked: &Asked) -> bool
     ensures { result ≡ is_plain asked.now }
 {
     match asked {
-        Asked::Audit { told, places, made } => matches!(told, Told::One)
-            && !*places
+        Asked::Audit { told, form, made } => matches!(told, Told::One)
+            && matches!(form, Form::Lines)
             && made.is_none(),
         Asked::Export { .. } | Asked::Draw { .. } => false,
         _ => true,

@@ -1,3 +1,4 @@
 pub mod RecordsLemmas
 pub mod LinesLemmas
 pub mod GeojsonLemmas
+pub mod ObjectLemmas

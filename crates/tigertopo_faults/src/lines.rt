@@ -13,4 +13,5 @@ mod text;
 pub use again::{Spoken, read_again};
 pub use places::{fault_places, place_at};
 pub use spoken::{lines_for, segment_spoken};
+pub(crate) use text::chosen;
 pub use text::{placed_text, push_faults};

@@ -1,27 +1,8 @@
--- Strings of JSON.
-use Rattle.std.specs.Prelude.{ℕ, ◌+◌, ◌/◌, ◌%◌, ◌==◌, nat_lt, if◌then◌else◌, List, [], ◌∷◌, ◌++◌, codes, decimal}
-use Rattle.std.specs.List.{flat_map}
+-- Keys of polygons as strings of JSON.
+use Rattle.std.specs.Prelude.{ℕ, List, ◌++◌, codes, decimal}
 use Rattle.tl_record_key.specs.declared.key.PolyKey.{PolyKey}
 use Rattle.tl_record_key.specs.KeyText.{cenid_text, key_text}
-
--- a hexadecimal digit
-abbrev pub hex_digit : ℕ → ℕ
-hex_digit n = if nat_lt n 10 then 48 + n else 87 + n
-
--- a control character by its number
-abbrev pub control_text : ℕ → List ℕ
-control_text b = codes "\\u00" ++ (hex_digit (b / 16) ∷ hex_digit (b % 16) ∷ [])
-
--- a byte of a string: a quotation mark and a backslash stand behind a backslash, and a control character is written by its number
-abbrev pub escaped_byte : ℕ → List ℕ
-escaped_byte b =
-    if b == 34 then codes "\\\"" else (
-    if b == 92 then codes "\\\\" else (
-    if nat_lt b 32 then control_text b else b ∷ []))
-
--- a text as a string
-unfoldable pub string_text : List ℕ → List ℕ
-string_text text = codes "\"" ++ flat_map escaped_byte text ++ codes "\""
+use Rattle.tigertopo_words.specs.Json.{string_text}
 
 -- the key of a polygon as a string
 abbrev pub key_string : PolyKey → List ℕ

@@ -1,14 +1,16 @@
 //! Strings of JSON.
 
-ghost use Rattle.std.specs.Prelude.{◌≡◌, ◌+◌, ◌<◌, ◌≤◌, ◌++◌, encode_utf8};
+ghost use Rattle.std.specs.Prelude.{◌≡◌, ◌+◌, ◌≤◌, ◌++◌, encode_utf8};
 ghost use Rattle.arrayvec.specs.ArrayString.{array_string_len};
 ghost use Rattle.tl_record_key.specs.KeyText.{key_text};
 ghost use Rattle.tl_cert_output.specs.Printing.{Prints};
 ghost use Rattle.std.specs.List.{flat_map};
-ghost use Rattle.tigertopo_geojson.specs.Strings.{hex_digit, control_text, escaped_byte, string_text, key_string, whole_cenid, key_members};
+ghost use Rattle.tigertopo_words.specs.Json.{string_byte, string_text};
+ghost use Rattle.tigertopo_geojson.specs.Strings.{key_string, whole_cenid, key_members};
 
 use arrayvec::ArrayString;
 use itoa::Buffer;
+use tigertopo_words::json_byte;
 use tl_cert_output::Printer;
 use tl_record::Sink;
 use tl_record_key::PolyKey;
@@ -21,50 +23,16 @@ pub fn print_string<S: Sink>(text: &[u8], printer: &mut Printer, out: &mut S)
     ensures { Prints S.contents S.failure_count (out.old, printer.old) (out.new, printer.new) (string_text text.now) }
 {
     printer.add(b"\"", out);
-    print_escaped(text, printer, out);
+    print_bytes(text, printer, out);
     printer.add(b"\"", out);
 }
 
 // Prints the bytes of a string.
-fn print_escaped<S: Sink>(text: &[u8], printer: &mut Printer, out: &mut S)
-    ensures { Prints S.contents S.failure_count (out.old, printer.old) (out.new, printer.new) (flat_map escaped_byte text.now) }
+fn print_bytes<S: Sink>(text: &[u8], printer: &mut Printer, out: &mut S)
+    ensures { Prints S.contents S.failure_count (out.old, printer.old) (out.new, printer.new) (flat_map string_byte text.now) }
 {
     for byte in text {
-        print_byte(*byte, printer, out);
-    }
-}
-
-fn print_byte<S: Sink>(byte: u8, printer: &mut Printer, out: &mut S)
-    ensures { Prints S.contents S.failure_count (out.old, printer.old) (out.new, printer.new) (escaped_byte byte) }
-{
-    if byte == b'"' {
-        printer.add(b"\\\"", out);
-    } else if byte == b'\\' {
-        printer.add(b"\\\\", out);
-    } else if byte < 32 {
-        print_control(byte, printer, out);
-    } else {
-        printer.add(&[byte], out);
-    }
-}
-
-// Prints a control character by its number.
-fn print_control<S: Sink>(byte: u8, printer: &mut Printer, out: &mut S)
-    ensures { Prints S.contents S.failure_count (out.old, printer.old) (out.new, printer.new) (control_text byte) }
-{
-    printer.add(b"\\u00", out);
-    printer.add(&[digit(byte / 16), digit(byte % 16)], out);
-}
-
-// A hexadecimal digit.
-fn digit(number: u8) -> u8
-    requires { number < 16 }
-    ensures { result ≡ hex_digit number }
-{
-    if number < 10 {
-        b'0' + number
-    } else {
-        b'a' - 10 + number
+        printer.add(json_byte(*byte).as_slice(), out);
     }
 }
 

@@ -28,6 +28,8 @@ use Rattle.tigertopo_where.specs.Hint.Again.{FailsAgain, SomeUnread}
 use Rattle.tigertopo_files.proofs.WorldLemmas.{all_kept, none_made, unmade_from, may_stop, does_so, does_then}
 use Rattle.tigertopo_words.specs.declared.budget.Told.{Told}
 use Rattle.tigertopo_words.specs.declared.budget.Told.TheVariants.{One, All}
+use Rattle.tigertopo_words.specs.declared.form.Form.{Form}
+use Rattle.tigertopo_words.specs.declared.form.Form.TheVariants.{Lines as FormLines, Records as FormRecords, Objects as FormObjects}
 use Rattle.tl_cert_output.specs.declared.stop.Stop.{Stop}
 use Rattle.tl_cert_output.specs.declared.stop.Stop.TheVariants.{Record, Memory, Device, Budget}
 use Rattle.tl_cert_output.specs.Stops.{StopsFor}
@@ -50,7 +52,7 @@ use Rattle.tigertopo_outcome.specs.Records.{StopsNever}
 use Rattle.tigertopo_outcome.specs.declared.said.Answer.{Answer}
 use Rattle.tigertopo_lists.specs.declared.listed.Listed.{Listed}
 use Rattle.tigertopo_lists.specs.declared.listed.Listed.TheVariants.{Listing, Lines}
-use Rattle.tigertopo_lists.specs.Listed.{Asked, ListAnswers, IsSoundList, IsFaultList, StopsList, StopsAgain, listed_text, told_text, featured, reads_again}
+use Rattle.tigertopo_lists.specs.Listed.{Asked, ListAnswers, IsSoundList, IsFaultList, StopsList, StopsAgain, has_places, listed_text, most_of, told_text, featured, reads_again, stops_refused}
 use Rattle.tigertopo_lists.specs.Keeping.{ArePlaced, IsPrepared, IsRefusedList, first_stop, faults_answer}
 
 -- ---- what is done with files
@@ -85,13 +87,13 @@ module _ {T : Type 0} (w : World) (same : w.after ≡ w.before) (logs : w.knows 
   does_not failed stop why device (Err other) is = subst (λ s. Does {T = T} w [] made P S (Err s)) (sym is) (stops_still stop (may_stop failed S stop why) (λ e. device (subst (StopsFor failed) e why)))
 
 -- files were read again for the records, and that failed
-fails_again : (w : World) (asked : Asked) → FailsAgain w asked.names → reads_again asked.places asked.made ≡ true → Failed w [] ⊎ StopsAgain w asked Device
+fails_again : (w : World) (asked : Asked) → FailsAgain w asked.names → reads_again asked.form asked.made ≡ true → Failed w [] ⊎ StopsAgain w asked Device
 fails_again w asked (inl (inl missing)) again = inr (again, inl missing)
 fails_again w asked (inl (inr failed)) again = inl (inr failed)
 fails_again w asked (inr endless) again = inr (again, inr endless)
 
 module _ (A : Type 0) {T : Type 0} (w : World) (asked : Asked) (same : w.after ≡ w.before) (P : T → Type 0) where
-  stops_behind : (stop : Stop) → StopsFor ((reads_again asked.places asked.made ≡ true) × FailsAgain w asked.names) stop → (w.knows ≡ true → LogsAgain {T = A} w.log w.logged (Err stop))
+  stops_behind : (stop : Stop) → StopsFor ((reads_again asked.form asked.made ≡ true) × FailsAgain w asked.names) stop → (w.knows ≡ true → LogsAgain {T = A} w.log w.logged (Err stop))
       → Does {T = T} w [] asked.made P (StopsAgain w asked) (Err stop)
   stops_behind (Record line cause) why logs = absurd why
   stops_behind Memory why logs = stops_still w same logs asked.made P (StopsAgain w asked) Memory tt (λ e. absurd (cc))
@@ -105,7 +107,7 @@ module _ (A : Type 0) {T : Type 0} (w : World) (asked : Asked) (same : w.after �
   }
   stops_behind Budget why logs = absurd why
 
-  pub does_not_read_again : (stop : Stop) → StopsFor ((reads_again asked.places asked.made ≡ true) × FailsAgain w asked.names) stop → (w.knows ≡ true → LogsAgain {T = A} w.log w.logged (Err stop))
+  pub does_not_read_again : (stop : Stop) → StopsFor ((reads_again asked.form asked.made ≡ true) × FailsAgain w asked.names) stop → (w.knows ≡ true → LogsAgain {T = A} w.log w.logged (Err stop))
       → (r : Result T Stop) → IsErrAnd r (λ told. told ≡ stop) → Does w [] asked.made P (StopsAgain w asked) r
   does_not_read_again stop why logs (Ok t) is = absurd is
   does_not_read_again stop why logs (Err other) is = subst (λ s. Does {T = T} w [] asked.made P (StopsAgain w asked) (Err s)) (sym is) (stops_behind stop why logs)
@@ -127,9 +129,9 @@ made_behind u v after l m q k asked same logs text r makes =
 
 -- ---- what is answered of what was found
 
-reads_where_placed : (places : Bool) (made : Option (List ℕ)) → places ≡ true → reads_again places made ≡ true
-reads_where_placed places None asks = asks
-reads_where_placed places (Some name) asks = refl
+reads_where_placed : (form : Form) (made : Option (List ℕ)) → has_places form ≡ true → reads_again form made ≡ true
+reads_where_placed form None asks = asks
+reads_where_placed form (Some name) asks = refl
 
 -- each refused line comes behind the one before, and the first is of this number or a greater one
 abbrev RiseUp : ℕ → List (ℕ × Cause) → Type 0
@@ -167,27 +169,30 @@ rise_printed None n list rise = rise
 rise_printed (Some count) n list rise = rise_taken count n list rise
 
 -- with no places they are printed as they are listed
-pub plain_lines_are : (refusals : List Refusal) → placed_text refusals [] ≡ lines told_refusal refusals
+pub plain_lines_are : (refusals : List Refusal) → placed_text FormLines refusals [] ≡ lines told_refusal refusals
 plain_lines_are [] = refl
-plain_lines_are (refusal ∷ rest) = ap (λ t. refused_text refusal ++ t) (plain_lines_are rest)
+plain_lines_are (refusal ∷ rest) =
+    ap (λ t. t ++ placed_text FormLines rest []) (append-nil (refused_text FormLines refusal)) ∙ ap (λ t. refused_text FormLines refusal ++ t) (plain_lines_are rest)
 
 first_is : (layout : Layout) (text : List ℕ) → slice_get (refusals_of layout text) 0 ≡ (records_of layout text).refusal
 first_is layout text = first_of_judged (judgements layout 0 (raw_lines text))
 
 -- refused lines as they are listed, and with where they stand
-pub plain_refused : (layout : Layout) (under : Under) (names : List (List ℕ)) (places : Bool) (most : Option ℕ) (list : Vec Refusal Global) → places ≡ false
-    → IsRefusedList layout under names places most list (record { status = 3; text = Listing (Refused list) most })
-plain_refused layout under names places most list none = record {
+pub plain_refused : (layout : Layout) (under : Under) (names : List (List ℕ)) (form : Form) (most : Option ℕ) (list : Vec Refusal Global) → has_places form ≡ false
+    → IsRefusedList layout under names form most list (record { status = 3; text = Listing (Refused list) most })
+plain_refused layout under names FormLines most list none = record {
   told = [];
-  stand = λ asks. absurd (let wrong = sym none ∙ asks in cc);
+  stand = λ asks. absurd (cc asks);
   plain = λ same. refl;
   is = refl;
   lines = ap (λ t. t ++ count_line (codes "refused=") most (length list.items)) (sym (plain_lines_are (printed most list.items)));
 }
+plain_refused layout under names FormRecords most list none = absurd (cc none)
+plain_refused layout under names FormObjects most list none = absurd (cc none)
 
-pub placed_refused : (layout : Layout) (under : Under) (names : List (List ℕ)) (places : Bool) (most : Option ℕ) (list : Vec Refusal Global) (text : Vec ℕ Global) → places ≡ true
-    → ArePlaced layout under names most list.items text.items → IsRefusedList layout under names places most list (record { status = 3; text = Lines text })
-placed_refused layout under names places most list text asks placed = record {
+pub placed_refused : (layout : Layout) (under : Under) (names : List (List ℕ)) (form : Form) (most : Option ℕ) (list : Vec Refusal Global) (text : Vec ℕ Global) → has_places form ≡ true
+    → ArePlaced form layout under names most list.items text.items → IsRefusedList layout under names form most list (record { status = 3; text = Lines text })
+placed_refused layout under names form most list text asks placed = record {
   told = placed.0;
   stand = λ same. placed.2;
   plain = λ none. absurd (let wrong = sym none ∙ asks in cc);
@@ -203,8 +208,8 @@ module _ (options : Options) (known : Option (List ℕ)) (asked : Asked) where
     report = report;
     sound = IfSome_then known are (λ text have. weaker (records_of (layout_with options) text) _ _ (λ m is. record { sound = is.0; reported = is.1 }) have);
     kept = so.kept;
-    is = ap (λ (a : Answer Listed). a.status) so.is;
-    line = ap (λ (a : Answer Listed). listed_text a.text) so.is;
+    is = so.is;
+    line = so.line;
   })
 
   -- it has faults
@@ -232,7 +237,7 @@ module _ (options : Options) (known : Option (List ℕ)) (asked : Asked) where
 
   -- lines are refused
   module _ (w : World) (list : Vec Refusal Global) (are : IfSome known (λ text. IsListingOf options text (Refused list))) where
-    first_stops : (refusals : List Refusal) → asked.told ≡ One → list.items ≡ refusals → MayStop (StopsList w options known asked) (first_stop refusals)
+    first_stops : (refusals : List Refusal) → stops_refused asked.told asked.form ≡ true → list.items ≡ refusals → MayStop (StopsList w options known asked) (first_stop refusals)
     first_stops [] one is = tt
     first_stops (refusal ∷ rest) one is = (
       one,
@@ -243,36 +248,35 @@ module _ (options : Options) (known : Option (List ℕ)) (asked : Asked) where
     no_device [] is = absurd (cc)
     no_device (refusal ∷ rest) is = absurd (cc)
 
-    -- one alone is a stop
-    pub first_refused : (same : w.after ≡ w.before) (logs : w.knows ≡ true → w.logged ≡ w.log) → asked.told ≡ One
+    -- one alone as a line is a stop
+    pub first_refused : (same : w.after ≡ w.before) (logs : w.knows ≡ true → w.logged ≡ w.log) → stops_refused asked.told asked.form ≡ true
         → Does {T = Answer Listed} w [] asked.made (λ answer. ListAnswers w options known asked answer.status (listed_text answer.text)) (StopsList w options known asked) (Err (first_stop list.items))
     first_refused same logs one = stops_still w same logs asked.made _ (StopsList w options known asked) (first_stop list.items) (first_stops list.items one refl) (no_device list.items)
 
-    refused_answer : (same : w.after ≡ w.before) (most : Option ℕ) → asked.told ≡ All most → (answer : Answer Listed)
-        → IsRefusedList (layout_with options) w.before asked.names asked.places most list answer → ListAnswers w options known asked answer.status (listed_text answer.text)
-    refused_answer same most all answer so = inr (inr (record {
-      most = most;
-      all = all;
+    refused_answer : (same : w.after ≡ w.before) → stops_refused asked.told asked.form ≡ false → (answer : Answer Listed)
+        → IsRefusedList (layout_with options) w.before asked.names asked.form (most_of asked.told) list answer → ListAnswers w options known asked answer.status (listed_text answer.text)
+    refused_answer same all answer so = inr (inr (record {
+      told_all = all;
       list = list;
       are_all = are;
       unmade = none_made w asked.made same;
       is = so.is;
       told = so.told;
-      places = IfSome_then known are (λ text lists asks texts have. so.stand asks texts have (rise_printed most 0 list.items (rise_listed (layout_with options) text list.items lists.1)));
+      places = IfSome_then known are (λ text lists asks texts have. so.stand asks texts have (rise_printed (most_of asked.told) 0 list.items (rise_listed (layout_with options) text list.items lists.1)));
       plain = so.plain;
       lines = so.lines;
     }))
 
     -- or all are answered
-    pub refused_answers : (same : w.after ≡ w.before) (most : Option ℕ) → asked.told ≡ All most → (r : Result (Answer Listed) Stop)
-        → IfOk r (IsRefusedList (layout_with options) w.before asked.names asked.places most list)
-        → IfErr r (StopsFor ((asked.places ≡ true) × FailsAgain w asked.names)) → (w.knows ≡ true → LogsAgain w.log w.logged r)
+    pub refused_answers : (same : w.after ≡ w.before) → stops_refused asked.told asked.form ≡ false → (r : Result (Answer Listed) Stop)
+        → IfOk r (IsRefusedList (layout_with options) w.before asked.names asked.form (most_of asked.told) list)
+        → IfErr r (StopsFor ((has_places asked.form ≡ true) × FailsAgain w asked.names)) → (w.knows ≡ true → LogsAgain w.log w.logged r)
         → Does w [] asked.made (λ answer. ListAnswers w options known asked answer.status (listed_text answer.text)) (StopsList w options known asked) r
-    refused_answers same most all (Ok answer) so stops logs = does_nothing w same logs asked.made _ (StopsList w options known asked) answer (refused_answer same most all answer so)
-    refused_answers same most all (Err stop) so stops logs =
+    refused_answers same all (Ok answer) so stops logs = does_nothing w same logs asked.made _ (StopsList w options known asked) answer (refused_answer same all answer so)
+    refused_answers same all (Err stop) so stops logs =
         does_so w [] asked.made _ _ (StopsAgain w asked) (StopsList w options known asked) (λ t is. is) (fault_stops w) (Err stop)
         (stops_behind (Answer Listed) w asked same (λ answer. ListAnswers w options known asked answer.status (listed_text answer.text)) stop
-        (stops_for _ _ stop (λ why. (reads_where_placed asked.places asked.made why.0, why.1)) stops) logs)
+        (stops_for _ _ stop (λ why. (reads_where_placed asked.form asked.made why.0, why.1)) stops) logs)
 
 -- ---- the same behind reading
 
@@ -294,8 +298,7 @@ answers_from u v after l m q k options known asked status text same (inr (inl fa
   lines = faults.lines;
 }))
 answers_from u v after l m q k options known asked status text same (inr (inr refused)) = inr (inr (record {
-  most = refused.most;
-  all = refused.all;
+  told_all = refused.told_all;
   list = refused.list;
   are_all = refused.are_all;
   unmade = unmade_from u v after m q k asked.made same refused.unmade l;
@@ -346,10 +349,10 @@ does_later u after l m q false names made P S r same does = record {
 
 -- ---- what is printed of faults, and what stands in the file
 
-pub answer_text : (names : List (List ℕ)) (chains : List MapChain) (spoken : Spoken) (places : Bool) (told : Told) (faults : Vec MapFault Global) (touched : ℕ) (text : Option (Vec ℕ Global))
-    → IsPrepared names chains spoken places told faults.items touched text → listed_text (faults_answer text faults touched told).text ≡ told_text names chains spoken places told faults.items touched
-answer_text names chains spoken places told faults touched (Some text) is = is
-answer_text names chains spoken places told faults touched None is = rw (is.0, is.1.1) refl
+pub answer_text : (names : List (List ℕ)) (chains : List MapChain) (spoken : Spoken) (form : Form) (told : Told) (faults : Vec MapFault Global) (touched : ℕ) (text : Option (Vec ℕ Global))
+    → IsPrepared names chains spoken form told faults.items touched text → listed_text (faults_answer text faults touched told).text ≡ told_text names chains spoken form told faults.items touched
+answer_text names chains spoken form told faults touched (Some text) is = is
+answer_text names chains spoken form told faults touched None is = rw (is.0, is.1.1) refl
 
 pub answer_status : (told : Told) (faults : Vec MapFault Global) (touched : ℕ) (text : Option (Vec ℕ Global)) → (faults_answer text faults touched told).status ≡ 1
 answer_status told faults touched (Some text) = refl

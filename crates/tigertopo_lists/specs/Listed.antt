@@ -16,6 +16,8 @@ use Rattle.tigertopo_where.specs.Hint.Placed.{places_of}
 use Rattle.tigertopo_where.specs.Hint.Placed.{placed_text as refusals_placed}
 use Rattle.tigertopo_words.specs.declared.budget.Told.{Told}
 use Rattle.tigertopo_words.specs.declared.budget.Told.TheVariants.{One, All}
+use Rattle.tigertopo_words.specs.declared.form.Form.{Form}
+use Rattle.tigertopo_words.specs.declared.form.Form.TheVariants as form
 use Rattle.tl_cert_output.specs.declared.stop.Stop.{Stop}
 use Rattle.tl_cert_output.specs.declared.stop.Stop.TheVariants.{Record, Device}
 use Rattle.tl_check_verdict.specs.declared.fault.MapFault.{MapFault}
@@ -33,6 +35,8 @@ use Rattle.tigertopo_faults.specs.declared.lines.again.Spoken.{Spoken}
 use Rattle.tigertopo_faults.specs.Lines.Again.{AreSpoken}
 use Rattle.tigertopo_faults.specs.Lines.Texts.{placed_text, chosen, end_text}
 use Rattle.tigertopo_faults.specs.Geojson.Texts.{faults_text}
+use Rattle.tigertopo_faults.specs.Objects.Texts.{objects_text}
+use Rattle.tigertopo_faults.specs.Objects.Ends.{sound_object, refusals_end}
 use Rattle.tigertopo_outcome.specs.declared.said.Answer.{Answer}
 use Rattle.tigertopo_outcome.specs.Records.{IsSoundWith, OfMap, StopsRecords}
 use Rattle.tigertopo_lists.specs.declared.listed.Listed.{Listed}
@@ -44,31 +48,64 @@ abbrev pub listed_text : Listed → List ℕ
 listed_text (Listing list most) = listing_text most list
 listed_text (Lines text) = text.items
 
--- what is asked: of which files, which faults are told, the first or all or so many from the front, whether with the records that they
--- speak of, and the name of the file that is made of them, if one is
+-- what is asked: of which files, which faults are told, the first or all or so many from the front, in which form, and the name of the file
+-- that is made of them, if one is
 pub record Asked : Type 0 where
   pub names : List (List ℕ)
   pub told : Told
-  pub places : Bool
+  pub form : Form
   pub made : Option (List ℕ)
 
 abbrev pub wanted_of : List (List ℕ) → TheWanted → Asked
-wanted_of names wanted = record { names = names; told = wanted.told; places = wanted.places; made = option_map string_bytes wanted.made.now }
+wanted_of names wanted = record { names = names; told = wanted.told; form = wanted.form; made = option_map string_bytes wanted.made.now }
 
 -- what is printed of faults without their records: the first line, or all, or so many from the front, and where all are told,
 -- how many there are
 abbrev pub plain_text : Told → List MapFault → ℕ → List ℕ
 plain_text told faults touched = lines map_fault_text (chosen told faults) ++ end_text told (length faults) touched
 
--- what is printed of faults, with the records that they speak of or without
-abbrev pub told_text : List (List ℕ) → List MapChain → Spoken → Bool → Told → List MapFault → ℕ → List ℕ
-told_text names chains spoken false told faults touched = plain_text told faults touched
-told_text names chains spoken true told faults touched =
+-- what is printed of faults: lines, with the records that they speak of or without, or objects
+abbrev pub told_text : List (List ℕ) → List MapChain → Spoken → Form → Told → List MapFault → ℕ → List ℕ
+told_text names chains spoken form.Lines told faults touched = plain_text told faults touched
+told_text names chains spoken form.Records told faults touched =
     placed_text names spoken.counts.items chains (held spoken.lines) spoken.places.items told faults touched
+told_text names chains spoken form.Objects told faults touched =
+    objects_text names spoken.counts.items chains (held spoken.lines) spoken.places.items told faults touched
+
+-- what is printed of a sound map's numbers
+abbrev pub report_text : Form → Report → List ℕ
+report_text form.Lines report = listing_text None (listing.Sound report)
+report_text form.Records report = listing_text None (listing.Sound report)
+report_text form.Objects report = sound_object report
+
+-- how many of a list are told, where not each is
+abbrev pub most_of : Told → Option ℕ
+most_of One = Some 1
+most_of (All most) = most
+
+-- how many lines are refused, and how many of them are printed where a number is given
+abbrev pub refusals_last : Form → (most : Option ℕ) → (count printed : ℕ) → List ℕ
+refusals_last form.Lines most count printed = count_line (codes "refused=") most count
+refusals_last form.Records most count printed = count_line (codes "refused=") most count
+refusals_last form.Objects most count printed = refusals_end count printed
 
 -- what is printed of refused lines, all or so many from the front, each with what is told of its place; and how many there are
-abbrev pub refusals_text : Option ℕ → List Refusal → List (List ℕ) → List ℕ
-refusals_text most refusals told = refusals_placed (printed most refusals) told ++ count_line (codes "refused=") most (length refusals)
+abbrev pub refusals_text : Form → Option ℕ → List Refusal → List (List ℕ) → List ℕ
+refusals_text form most refusals told =
+    refusals_placed form (printed most refusals) told ++ refusals_last form most (length refusals) (length (printed most refusals))
+
+-- is a refused line a stop, and not answered: where one fault is asked for as a line
+abbrev pub stops_refused : Told → Form → Bool
+stops_refused One form.Lines = true
+stops_refused One form.Records = true
+stops_refused One form.Objects = false
+stops_refused (All most) form = false
+
+-- have faults in this form the records that they speak of, and refused lines where they stand
+abbrev pub has_places : Form → Bool
+has_places form.Lines = false
+has_places form.Records = true
+has_places form.Objects = true
 
 -- the faults that the file is made of: the first, or all, however many are printed
 abbrev pub featured : Told → List MapFault → List MapFault
@@ -76,14 +113,15 @@ featured One faults = take 1 faults
 featured (All most) faults = faults
 
 -- are the files read again for the records that faults speak of
-abbrev pub reads_again : Bool → Option (List ℕ) → Bool
-reads_again places None = places
-reads_again places (Some name) = true
+abbrev pub reads_again : Form → Option (List ℕ) → Bool
+reads_again form None = has_places form
+reads_again form (Some name) = true
 
 -- the report of a sound map is answered, and no fault stands in the file
 pub record IsSoundList (w : World) (asked : Asked) (report : Report) (answer : Answer Listed) : Type 0 where
   pub kept : Made w asked.made (faults_text asked.names [] None (λ s. []) [] [] 0)
-  pub is : answer ≡ record { status = 0; text = Listing (listing.Sound report) None }
+  pub is : answer.status ≡ 0
+  pub line : listed_text answer.text ≡ report_text asked.form report
 
 -- faults that are listed, and how many polygons are touched
 pub record Faults : Type 0 where
@@ -93,19 +131,19 @@ pub record Faults : Type 0 where
 -- faults are answered, with the records that they speak of where these are asked for, and those that are told stand in the file
 pub record IsFaultList (w : World) (layout : Layout) (asked : Asked) (map : Option TheMap) (list : Faults) (answer : Answer Listed) : Type 0 where
   pub spoken : Spoken
-  pub speak : reads_again asked.places asked.made ≡ true → AreSpoken layout w.before asked.names map (featured asked.told list.faults.items) spoken
+  pub speak : reads_again asked.form asked.made ≡ true → AreSpoken layout w.before asked.names map (featured asked.told list.faults.items) spoken
   pub kept : Made w asked.made (faults_text asked.names spoken.counts.items map (held spoken.lines) spoken.places.items (featured asked.told list.faults.items) list.touched)
   pub is : answer.status ≡ 1
-  pub lines : listed_text answer.text ≡ told_text asked.names (chains_of map) spoken asked.places asked.told list.faults.items list.touched
+  pub lines : listed_text answer.text ≡ told_text asked.names (chains_of map) spoken asked.form asked.told list.faults.items list.touched
 
 -- why that isn't: where files are read again for the records, one of them may not be read
 abbrev pub StopsAgain : World → Asked → Stop → Type 0
-StopsAgain w asked Device = (reads_again asked.places asked.made ≡ true) × SomeUnread w.before asked.names
+StopsAgain w asked Device = (reads_again asked.form asked.made ≡ true) × SomeUnread w.before asked.names
 StopsAgain w asked other = ⊥
 
--- why nothing is answered: the same, or the first line that is refused, where one fault is asked for
+-- why nothing is answered: the same, or the first line that is refused, where one fault is asked for as a line
 abbrev pub StopsList : World → Options → (known : Option (List ℕ)) → Asked → Stop → Type 0
-StopsList w options known asked (Record line cause) = (asked.told ≡ One) × StopsRecords (layout_with options) known (Record line cause)
+StopsList w options known asked (Record line cause) = (stops_refused asked.told asked.form ≡ true) × StopsRecords (layout_with options) known (Record line cause)
 StopsList w options known asked other = StopsAgain w asked other
 
 -- with the status 0 the report of a map that is sound, of which no fault stands in the file
@@ -114,7 +152,7 @@ pub record TellsSound (w : World) (options : Options) (known : Option (List ℕ)
   pub sound : OfMap (layout_with options) known (IsSoundWith options.faces report)
   pub kept : Made w asked.made (faults_text asked.names [] None (λ s. []) [] [] 0)
   pub is : status ≡ 0
-  pub line : text ≡ listing_text None (listing.Sound report)
+  pub line : text ≡ report_text asked.form report
 
 -- with the status 1 faults: those of the records and of no other, and all of them, where the text of the records is known; each lies where
 -- the map has it, and where the texts of all files are known, the records behind them are those of the files that they speak of
@@ -125,25 +163,24 @@ pub record TellsFaults (w : World) (options : Options) (known : Option (List ℕ
   pub are : IfSome known (λ held. AreFindingsOf options held (record { listing = listing.Faults faults touched; map = map }))
   pub unsound : IfSome known (λ held. ¬ HaveMap (records_of (layout_with options) held) (IsSoundFor options.faces))
   pub spoken : Spoken
-  pub speak : reads_again asked.places asked.made ≡ true → AreSpoken (layout_with options) w.before asked.names map (featured asked.told faults.items) spoken
+  pub speak : reads_again asked.form asked.made ≡ true → AreSpoken (layout_with options) w.before asked.names map (featured asked.told faults.items) spoken
   pub kept : Made w asked.made (faults_text asked.names spoken.counts.items map (held spoken.lines) spoken.places.items (featured asked.told faults.items) touched)
   pub is : status ≡ 1
-  pub lines : text ≡ told_text asked.names (chains_of map) spoken asked.places asked.told faults.items touched
+  pub lines : text ≡ told_text asked.names (chains_of map) spoken asked.form asked.told faults.items touched
 
--- with the status 3 lines that are refused, where all that is wrong is asked for: each of the records', and no other; and where places are
+-- with the status 3 lines that are refused, where these are no stop: each of the records', and no other; and where places are
 -- asked for and the text of each file is known, where each stands; no file is made
 pub record TellsRefusals (w : World) (options : Options) (known : Option (List ℕ)) (asked : Asked) (status : ℕ) (text : List ℕ) : Type 0 where
-  pub most : Option ℕ
-  pub all : asked.told ≡ All most
+  pub told_all : stops_refused asked.told asked.form ≡ false
   pub list : Vec Refusal Global
   pub are_all : IfSome known (λ held. IsListingOf options held (listing.Refused list))
   pub unmade : Unmade w asked.made
   pub is : status ≡ 3
   pub told : List (List ℕ)
-  pub places : IfSome known (λ held. asked.places ≡ true → (texts : List (List ℕ)) → HaveTexts w.before asked.names texts
-      → told ≡ places_of (layout_with options) asked.names texts (printed most list.items))
-  pub plain : asked.places ≡ false → told ≡ []
-  pub lines : text ≡ refusals_text most list.items told
+  pub places : IfSome known (λ held. has_places asked.form ≡ true → (texts : List (List ℕ)) → HaveTexts w.before asked.names texts
+      → told ≡ places_of asked.form (layout_with options) asked.names texts (printed (most_of asked.told) list.items))
+  pub plain : has_places asked.form ≡ false → told ≡ []
+  pub lines : text ≡ refusals_text asked.form (most_of asked.told) list.items told
 
 -- what a list answers
 abbrev pub ListAnswers : World → Options → (known : Option (List ℕ)) → Asked → ℕ → List ℕ → Type 0

@@ -2,9 +2,10 @@
 //! or as a file of GeoJSON.
 //!
 //! [`list`] reads a county's files, lists all that is wrong (`tl_list`), reads the files again for the records that
-//! faults speak of where these are asked for (`tigertopo_faults::lines`), makes the file (`tigertopo_faults::geojson`), and answers what was found.
+//! faults speak of where these are asked for (`tigertopo_faults::lines`), makes the file (`tigertopo_faults::geojson`), and answers what was found,
+//! as lines or as objects of JSON (`tigertopo_faults::objects`).
 //!
-//! Where one fault is asked for a refused line is a stop. Where all are asked for, all refused lines are answered, or
+//! Where one fault is asked for as a line, a refused line is a stop. Else all refused lines are answered, or
 //! so many from the front, with where they stand if that is asked for (`tigertopo_where::hint`), and no file is made. Beside a file that
 //! failed, a device is said to have failed only where files are read again for the records of faults or for refused lines, and one of
 //! them may not be read.

@@ -13,36 +13,39 @@ ghost use Rattle.tigertopo_files.specs.World.{Does, MayMake, world};
 ghost use Rattle.tigertopo_files.specs.declared.beginning.FileKind.TheVariants.{Collection};
 ghost use Rattle.tigertopo_files.specs.Reading.{text_under};
 ghost use Rattle.tigertopo_outcome.specs.Records.{StopsNever};
-ghost use Rattle.tigertopo_lists.specs.Listed.{ListAnswers, IsSoundList, IsFaultList, StopsList, StopsAgain, listed_text, reads_again, wanted_of};
-ghost use Rattle.tigertopo_lists.specs.Keeping.{ArePlaced, IsRefusedList, first_stop, faults_answer, most_of};
+ghost use Rattle.tigertopo_lists.specs.Listed.{ListAnswers, IsSoundList, IsFaultList, StopsList, StopsAgain, has_places, listed_text, most_of};
+ghost use Rattle.tigertopo_lists.specs.Listed.{reads_again, refusals_last, report_text, stops_refused, wanted_of};
+ghost use Rattle.tigertopo_lists.specs.Keeping.{ArePlaced, IsRefusedList, first_stop, faults_answer};
 
 use crate::collection::make_collection;
 use crate::found::FindingsIn;
 use crate::listed::Listed;
 use crate::prepared::prepare;
 use crate::speaking::{featured, speak_of};
-use std::alloc::Global;
+use arrayvec::ArrayString;
+use std::alloc::{AllocError, Global};
 use std::hash::RandomState;
 use tigertopo_faults::lines::Spoken;
+use tigertopo_faults::objects::{refusals_end, sound_object};
 use tigertopo_files::FileSystem;
 use tigertopo_outcome::reading::over_records;
 use tigertopo_outcome::said::Answer;
 use tigertopo_outcome::stop::{DONE, MAP_FAULT, REFUSED};
 use tigertopo_where::hint::place_refusals;
-use tigertopo_words::Told;
+use tigertopo_words::{Form, Told};
 use tl_cert_output::Stop;
 use tl_check_verdict::{MapFault, Report};
 use tl_list::Findings;
-use tl_list_text::{Listing, first_of, text_of_end};
+use tl_list_text::{LINE_ROOM, Listing, first_of, text_of_end};
 use tl_map_county::Map;
 use tl_record::{Options, Refusal};
 
-/// What is asked of a list: which faults are told, the first or all or so many from the front, whether with the records that they
-/// speak of, and the name of the file of GeoJSON that is made of them, if one is.
+/// What is asked of a list: which faults are told, the first or all or so many from the front, in which form, and the name of the file of
+/// GeoJSON that is made of them, if one is.
 #[derive(Clone, Copy)]
 pub struct Wanted<'a> {
     pub told: Told,
-    pub places: bool,
+    pub form: Form,
     pub made: &'a Option<String>,
 }
 
@@ -63,7 +66,7 @@ pub fn list<F: FileSystem>(
         Does w asked.names asked.made (λ answer. ListAnswers w options known asked answer.status (listed_text answer.text))
         (StopsList w options known asked) result }
 {
-    let again = reads_again(wanted.places, wanted.made);
+    let again = reads_again(wanted.form, wanted.made);
     let found = find_all(files, alloc, hasher, options, names, again)?;
     tell_found(files, alloc, hasher, options, names, wanted, found)
 }
@@ -138,18 +141,32 @@ fn tell_sound<F: FileSystem>(
         Does w [] asked.made (IsSoundList w asked report) StopsNever result }
 {
     let nothing = Spoken::nothing(alloc, hasher)?;
+    let text = listed_report(alloc, wanted.form, report)?;
     make_collection(files, alloc, wanted.made, names, None, &nothing, &[], 0)?;
-    Ok(Answer {
-        status: DONE,
-        text: Listed::Listing {
-            listing: Listing::Sound(report),
-            most: None,
-        },
-    })
+    Ok(Answer { status: DONE, text })
 }
 
-// Answers lines that are refused: all, or so many from the front, with where they stand if that is asked for; or the first as a stop.
-// No file is made.
+// The report of a sound map, in this form.
+fn listed_report(alloc: Global, form: Form, report: Report) -> Result<Listed, AllocError>
+    ensures { IfOk result (λ text. listed_text text ≡ report_text form report) }
+{
+    match form {
+        Form::Lines | Form::Records => Ok(Listed::Listing {
+            listing: Listing::Sound(report),
+            most: None,
+        }),
+        Form::Objects => {
+            let object = sound_object(&report);
+            Ok(Listed::Lines(Vec::from_slice(
+                alloc,
+                object.as_str().as_bytes(),
+            )?))
+        }
+    }
+}
+
+// Answers lines that are refused: all, or so many from the front, with where they stand if the form has that; or where one fault is asked for
+// as a line, the first as a stop. No file is made.
 fn tell_refused<F: FileSystem>(
     files: &mut F,
     alloc: Global,
@@ -164,37 +181,48 @@ fn tell_refused<F: FileSystem>(
         Does w [] asked.made (λ answer. ListAnswers w options known asked answer.status (listed_text answer.text))
         (StopsList w options known asked) result }
 {
-    match wanted.told {
-        Told::One => Err(first_stop(list.as_slice())),
-        Told::All(most) => tell_all_refused(
-            files,
-            alloc,
-            options,
-            names,
-            wanted.places,
-            most,
-            list,
-        ),
+    if stops_refused(wanted.told, wanted.form) {
+        return Err(first_stop(list.as_slice()));
+    }
+    tell_all_refused(
+        files,
+        alloc,
+        options,
+        names,
+        wanted.form,
+        most_of(wanted.told),
+        list,
+    )
+}
+
+// Whether a refused line is a stop, and isn't answered: where one fault is asked for as a line.
+fn stops_refused(told: Told, form: Form) -> bool
+    ensures { result ≡ stops_refused told form }
+{
+    match (told, form) {
+        (Told::One, Form::Lines | Form::Records) => true,
+        (Told::One, Form::Objects) => false,
+        (Told::All(_), _) => false,
     }
 }
 
-// Answers lines that are refused: all, or so many from the front, with where they stand if that is asked for.
+// Answers lines that are refused: all, or so many from the front, with where they stand if the form has that.
 fn tell_all_refused<F: FileSystem>(
     files: &mut F,
     alloc: Global,
     options: Options,
     names: &[String],
-    places: bool,
+    form: Form,
     most: Option<u64>,
     list: Vec<Refusal>,
 ) -> Result<Answer<Listed>, Stop>
-    ensures answered { IfOk result (IsRefusedList (layout_with options) (F.under files.old) (map_list string_bytes names.now) places most list) }
-    ensures stops { IfErr result (StopsFor ((places ≡ true)
+    ensures answered { IfOk result (IsRefusedList (layout_with options) (F.under files.old) (map_list string_bytes names.now) form most list) }
+    ensures stops { IfErr result (StopsFor ((has_places form ≡ true)
         × FailsAgain (world F.under F.log F.knows files.old files.new) (map_list string_bytes names.now))) }
     ensures stays { F.under files.new ≡ F.under files.old }
     ensures logged { F.knows ≡ true → LogsAgain (F.log files.old) (F.log files.new) result }
 {
-    if !places {
+    if !has_places(form) {
         return Ok(Answer {
             status: REFUSED,
             text: Listed::Listing {
@@ -203,11 +231,21 @@ fn tell_all_refused<F: FileSystem>(
             },
         });
     }
-    let text = placed_list(files, alloc, options, names, list.as_slice(), most)?;
+    let text = placed_list(files, alloc, options, names, form, list.as_slice(), most)?;
     Ok(Answer {
         status: REFUSED,
         text: Listed::Lines(text),
     })
+}
+
+// Whether in this form faults have the records that they speak of, and refused lines where they stand.
+fn has_places(form: Form) -> bool
+    ensures { result ≡ has_places form }
+{
+    match form {
+        Form::Lines => false,
+        Form::Records | Form::Objects => true,
+    }
 }
 
 // Lines that are refused, all or so many from the front, each with where it stands, and how many there are.
@@ -216,19 +254,31 @@ fn placed_list<F: FileSystem>(
     alloc: Global,
     options: Options,
     names: &[String],
+    form: Form,
     list: &[Refusal],
     most: Option<u64>,
 ) -> Result<Vec<u8>, Stop>
-    ensures placed { IfOk result (λ text. ArePlaced (layout_with options) (F.under files.old) (map_list string_bytes names.now)
+    ensures placed { IfOk result (λ text. ArePlaced form (layout_with options) (F.under files.old) (map_list string_bytes names.now)
         most list.now text.items) }
     ensures stops { IfErr result (StopsFor (FailsAgain (world F.under F.log F.knows files.old files.new) (map_list string_bytes names.now))) }
     ensures stays { F.under files.new ≡ F.under files.old }
     ensures logged { F.knows ≡ true → LogsAgain (F.log files.old) (F.log files.new) result }
 {
-    let mut text = place_refusals(files, alloc, names, options, first_of(list, most))?;
-    let end = text_of_end(0, "refused=", most, list.len() as u64);
+    let shown = first_of(list, most);
+    let mut text = place_refusals(files, alloc, names, options, form, shown)?;
+    let end = refusals_last(form, most, list.len() as u64, shown.len() as u64);
     text.extend_from_slice(end.as_str().as_bytes())?;
     Ok(text)
+}
+
+// How many lines are refused, and how many of them are printed where a number is given.
+fn refusals_last(form: Form, most: Option<u64>, count: u64, printed: u64) -> ArrayString<LINE_ROOM>
+    ensures { result.bytes ≡ refusals_last form most count printed }
+{
+    match form {
+        Form::Lines | Form::Records => text_of_end(0, "refused=", most, count),
+        Form::Objects => refusals_end(count, printed),
+    }
 }
 
 // Why there is no answer, where these lines are refused: the first of them. There is one.
@@ -272,7 +322,7 @@ fn tell_faults<F: FileSystem>(
         names,
         options,
         drawn,
-        reads_again(wanted.places, wanted.made),
+        reads_again(wanted.form, wanted.made),
         shown,
     )?;
     let text = prepare(
@@ -280,7 +330,7 @@ fn tell_faults<F: FileSystem>(
         names,
         drawn,
         &spoken,
-        wanted.places,
+        wanted.form,
         wanted.told,
         listed,
         touched,
@@ -299,12 +349,12 @@ fn tell_faults<F: FileSystem>(
 }
 
 // Whether the files are read again for the records that faults speak of.
-fn reads_again(places: bool, made: &Option<String>) -> bool
-    ensures { result ≡ reads_again places (option_map string_bytes made.now) }
+fn reads_again(form: Form, made: &Option<String>) -> bool
+    ensures { result ≡ reads_again form (option_map string_bytes made.now) }
 {
     match made {
         Some(_) => true,
-        None => places,
+        None => has_places(form),
     }
 }
 

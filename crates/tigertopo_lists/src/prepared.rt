@@ -1,50 +1,74 @@
 //! What is printed of faults, put together before anything is made or told.
 
-ghost use Rattle.std.specs.Prelude.{◌≡◌, IfOk, map, option_copied, string_bytes};
+ghost use Rattle.std.specs.Prelude.{◌≡◌, IfOk, IfErr, map, option_copied, string_bytes};
 ghost use Rattle.tigertopo_faults.specs.Records.SpokenOf.{chains_of};
 ghost use Rattle.tl_list_text.specs.Texts.{lines};
 ghost use Rattle.tl_check_verdict.specs.Messages.{map_fault_text};
 ghost use Rattle.tigertopo_faults.specs.Lines.Texts.{chosen};
 ghost use Rattle.tigertopo_words.specs.declared.budget.Told.TheVariants.{One};
-ghost use Rattle.tigertopo_lists.specs.Keeping.{IsPrepared};
+ghost use Rattle.tl_cert_output.specs.declared.stop.Stop.TheVariants.{Memory};
+ghost use Rattle.tigertopo_lists.specs.Keeping.{IsPlain, IsPrepared};
 
 use std::alloc::{AllocError, Global};
 use tigertopo_faults::lines::{Spoken, placed_text};
-use tigertopo_words::Told;
+use tigertopo_faults::objects::FaultObjects;
+use tigertopo_text::with_printed;
+use tigertopo_words::{Form, Told};
+use tl_cert_output::Stop;
 use tl_check_verdict::MapFault;
 use tl_list_text::fault_line;
 use tl_map_county::Map;
 
-/// The text of faults with the records that they speak of, or of the first alone; of all without their records there is none,
-/// since they are printed as they are listed.
+/// The text of faults in this form; of all faults as lines there is none, since they are printed as they are listed.
 pub(crate) fn prepare(
     alloc: Global,
     names: &[String],
     drawn: Option<&Map>,
     spoken: &Spoken,
-    places: bool,
+    form: Form,
     told: Told,
     faults: &[MapFault],
     touched: u64,
-) -> Result<Option<Vec<u8>>, AllocError>
-    ensures { IfOk result (IsPrepared (map string_bytes names.now) (chains_of (option_copied drawn.entry)) spoken.now
-        places told faults.now touched) }
+) -> Result<Option<Vec<u8>>, Stop>
+    ensures prepared { IfOk result (IsPrepared (map string_bytes names.now) (chains_of (option_copied drawn.entry)) spoken.now
+        form told faults.now touched) }
+    ensures stop { IfErr result (λ stop. stop ≡ Memory) }
 {
-    if places {
-        let counts = spoken.counts.as_slice();
-        let text = placed_text(
+    let counts = spoken.counts.as_slice();
+    let places = spoken.places.as_slice();
+    match form {
+        Form::Lines => Ok(plain(alloc, told, faults)?),
+        Form::Records => Ok(Some(placed_text(
             alloc,
             names,
             counts,
             drawn,
             &spoken.lines,
-            spoken.places.as_slice(),
+            places,
             told,
             faults,
             touched,
-        )?;
-        return Ok(Some(text));
+        )?)),
+        Form::Objects => {
+            let objects = FaultObjects {
+                names,
+                counts,
+                drawn,
+                lines: &spoken.lines,
+                places,
+                told,
+                faults,
+                touched,
+            };
+            Ok(Some(with_printed(alloc, &[], &objects)?))
+        }
     }
+}
+
+// The line of the first fault, where it alone is told.
+fn plain(alloc: Global, told: Told, faults: &[MapFault]) -> Result<Option<Vec<u8>>, AllocError>
+    ensures { IfOk result (IsPlain told faults.now) }
+{
     match told {
         Told::One => Ok(Some(first_line(alloc, faults)?)),
         Told::All(_) => Ok(None),

@@ -2,20 +2,20 @@
 
 ghost use Rattle.std.specs.Prelude.{◌≡◌, ◌≢◌, ◌++◌, ℕ, List, None, Some, IfOk, IfErr, OnOk, OnErr, Contains, map, option_map, string_bytes};
 ghost use Rattle.std.specs.Bool.{OnTrue, OnFalse};
-ghost use Rattle.tl_cert_output.specs.declared.stop.Stop.TheVariants.{Memory};
 ghost use Rattle.tl_cert_output.specs.Stops.{StopsFor};
 ghost use Rattle.tigertopo_memory_files.specs.Keeping.Stored.{found_with as found_with_of};
 
 use std::alloc::{AllocError, Global};
 use std::collections::VecDeque;
 use std::io;
-use std::io::{ErrorKind, Read, Write};
+use std::io::{ErrorKind, Read};
 use tigertopo_files::{
     FileKind, FileSystem, Opener, Reading, Room, all_names, read_each, read_each_again,
 };
+use tigertopo_text::with_printed;
 use tigertopo_system_files::{Lookup, Seen, Spot, name_beside, room_of};
 use tl_cert_output::{Stop, Text};
-use tl_record::{Sink, Source};
+use tl_record::Source;
 
 /// A file with its name.
 #[derive(Drop)]
@@ -152,47 +152,6 @@ impl tigertopo_files::Draft for Draft {
     fn print<T: Text>(&mut self, alloc: Global, text: &T) -> Result<(), Stop> {
         self.bytes = with_printed(alloc, self.bytes.as_slice(), text)?;
         Ok(())
-    }
-}
-
-// What is printed, behind what was held before.
-#[derive(Drop)]
-struct Printed {
-    bytes: Vec<u8>,
-    failures: u64,
-}
-
-impl Sink for Printed {
-    ghost contents = { λ printed. Some printed.bytes.items };
-
-    ghost failure_count = { λ printed. printed.failures };
-
-    fn put(&mut self, bytes: &[u8]) -> io::Result<usize> {
-        match self.bytes.write(bytes) {
-            Ok(taken) => Ok(taken),
-            Err(error) => {
-                self.failures = self.failures.saturating_add(1);
-                Err(error)
-            }
-        }
-    }
-
-    fn failures(&self) -> u64 {
-        self.failures
-    }
-}
-
-// These bytes and a text behind them.
-fn with_printed<T: Text>(alloc: Global, held: &[u8], text: &T) -> Result<Vec<u8>, Stop>
-    requires { T.is_ready text.now }
-    ensures bytes { IfOk result (λ bytes. bytes.items ≡ held.now ++ T.text text.now) }
-    ensures stop { IfErr result (λ stop. stop ≡ Memory) }
-{
-    let bytes = Vec::from_slice(alloc, held)?;
-    let mut printed = Printed { bytes, failures: 0 };
-    match text.print(alloc, &mut printed) {
-        Ok(()) => Ok(printed.bytes),
-        Err(_) => Err(Stop::Memory),
     }
 }
 

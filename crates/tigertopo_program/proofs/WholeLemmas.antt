@@ -8,6 +8,8 @@ use Rattle.tigertopo_words.specs.declared.asked.Asked.{Asked}
 use Rattle.tigertopo_words.specs.declared.asked.Asked.TheVariants.{Show, Landmarks, Locate, Audit, Build, Check, Convert, Export, Draw}
 use Rattle.tigertopo_words.specs.declared.budget.Told.{Told}
 use Rattle.tigertopo_words.specs.declared.budget.Told.TheVariants.{One, All}
+use Rattle.tigertopo_words.specs.declared.form.Form.{Form}
+use Rattle.tigertopo_words.specs.declared.form.Form.TheVariants.{Lines, Records, Objects}
 use Rattle.tigertopo_files.specs.World.{World}
 use Rattle.tigertopo_files.specs.Reading.{text_under}
 use Rattle.tigertopo_command.specs.Commands.{PlainAnswers, PlainStops, is_plain}
@@ -19,10 +21,11 @@ pub plain_answers : (asked : Asked) (options : Options) (names : List (List ℕ)
 plain_answers Show options names w status text plain so = so
 plain_answers Landmarks options names w status text plain so = so
 plain_answers (Locate point) options names w status text plain so = so
-plain_answers (Audit One false None) options names w status text plain so = so
-plain_answers (Audit One false (Some name)) options names w status text plain so = absurd (cc)
-plain_answers (Audit One true made) options names w status text plain so = absurd (cc)
-plain_answers (Audit (All most) places made) options names w status text plain so = absurd (cc)
+plain_answers (Audit One Lines None) options names w status text plain so = so
+plain_answers (Audit One Lines (Some name)) options names w status text plain so = absurd (cc)
+plain_answers (Audit One Records made) options names w status text plain so = absurd (cc)
+plain_answers (Audit One Objects made) options names w status text plain so = absurd (cc)
+plain_answers (Audit (All most) form made) options names w status text plain so = absurd (cc)
 plain_answers (Build made) options names w status text plain so = so
 plain_answers (Check cert budget) options names w status text plain so = so
 plain_answers (Convert cert made) options names w status text plain so = so
@@ -33,10 +36,11 @@ pub plain_stops : (asked : Asked) (options : Options) (names : List (List ℕ)) 
 plain_stops Show options names w stop plain so = so
 plain_stops Landmarks options names w stop plain so = so
 plain_stops (Locate point) options names w stop plain so = so
-plain_stops (Audit One false None) options names w stop plain so = so
-plain_stops (Audit One false (Some name)) options names w stop plain so = absurd (cc)
-plain_stops (Audit One true made) options names w stop plain so = absurd (cc)
-plain_stops (Audit (All most) places made) options names w stop plain so = absurd (cc)
+plain_stops (Audit One Lines None) options names w stop plain so = so
+plain_stops (Audit One Lines (Some name)) options names w stop plain so = absurd (cc)
+plain_stops (Audit One Records made) options names w stop plain so = absurd (cc)
+plain_stops (Audit One Objects made) options names w stop plain so = absurd (cc)
+plain_stops (Audit (All most) form made) options names w stop plain so = absurd (cc)
 plain_stops (Build made) options names w stop plain so = so
 plain_stops (Check cert budget) options names w stop plain so = so
 plain_stops (Convert cert made) options names w stop plain so = so
@@ -44,18 +48,20 @@ plain_stops (Export made layer) options names w stop plain so = absurd (cc)
 plain_stops (Draw made view faults) options names w stop plain so = absurd (cc)
 
 -- an audit that asks for more than one line
-pub list_answers : (told : Told) (places : Bool) (made : Option (String Global)) (options : Options) (names : List (List ℕ)) (w : World) (status : ℕ) (text : List ℕ) → is_plain (Audit told places made) ≡ false
-    → ListAnswers w options (text_under w.before names) (record { names = names; told = told; places = places; made = option_map string_bytes made }) status text
-    → AllAnswers (Audit told places made) options names w status text
-list_answers One false None options names w status text plain so = absurd (cc)
-list_answers One false (Some name) options names w status text plain so = so
-list_answers One true made options names w status text plain so = so
-list_answers (All most) places made options names w status text plain so = so
+pub list_answers : (told : Told) (form : Form) (made : Option (String Global)) (options : Options) (names : List (List ℕ)) (w : World) (status : ℕ) (text : List ℕ) → is_plain (Audit told form made) ≡ false
+    → ListAnswers w options (text_under w.before names) (record { names = names; told = told; form = form; made = option_map string_bytes made }) status text
+    → AllAnswers (Audit told form made) options names w status text
+list_answers One Lines None options names w status text plain so = absurd (cc)
+list_answers One Lines (Some name) options names w status text plain so = so
+list_answers One Records made options names w status text plain so = so
+list_answers One Objects made options names w status text plain so = so
+list_answers (All most) form made options names w status text plain so = so
 
-pub list_stops : (told : Told) (places : Bool) (made : Option (String Global)) (options : Options) (names : List (List ℕ)) (w : World) (stop : Stop) → is_plain (Audit told places made) ≡ false
-    → StopsList w options (text_under w.before names) (record { names = names; told = told; places = places; made = option_map string_bytes made }) stop
-    → AllStops (Audit told places made) options names w stop
-list_stops One false None options names w stop plain so = absurd (cc)
-list_stops One false (Some name) options names w stop plain so = so
-list_stops One true made options names w stop plain so = so
-list_stops (All most) places made options names w stop plain so = so
+pub list_stops : (told : Told) (form : Form) (made : Option (String Global)) (options : Options) (names : List (List ℕ)) (w : World) (stop : Stop) → is_plain (Audit told form made) ≡ false
+    → StopsList w options (text_under w.before names) (record { names = names; told = told; form = form; made = option_map string_bytes made }) stop
+    → AllStops (Audit told form made) options names w stop
+list_stops One Lines None options names w stop plain so = absurd (cc)
+list_stops One Lines (Some name) options names w stop plain so = so
+list_stops One Records made options names w stop plain so = so
+list_stops One Objects made options names w stop plain so = so
+list_stops (All most) form made options names w stop plain so = so

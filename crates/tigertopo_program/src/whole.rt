@@ -42,10 +42,10 @@ impl Program for Whole {
         let options = command.options;
         let names = command.files.as_slice();
         match &command.asked {
-            Asked::Audit { told, places, made } => {
+            Asked::Audit { told, form, made } => {
                 let wanted = Wanted {
                     told: *told,
-                    places: *places,
+                    form: *form,
                     made,
                 };
                 let answer = list(files, alloc, hasher, options, names, wanted);

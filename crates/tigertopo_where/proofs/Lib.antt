@@ -1,3 +1,4 @@
+pub mod WordLemmas
 pub mod PlaceLemmas
 pub mod FindingLemmas
 pub mod ShownLemmas

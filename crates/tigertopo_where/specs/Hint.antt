@@ -2,6 +2,7 @@
 pub mod Shown
 pub mod Advice
 pub mod Hints
+pub mod Objects
 pub mod Telling
 pub mod Again
 pub mod Placed

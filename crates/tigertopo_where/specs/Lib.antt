@@ -1,4 +1,5 @@
 -- What the contracts of places cite.
+pub mod Words
 pub mod LinePlaces
 pub mod Finding
 pub mod FieldColumns

@@ -6,6 +6,7 @@
 
 mod advice;
 mod again;
+mod object;
 mod placed;
 mod refused;
 mod shown;

@@ -12,9 +12,11 @@ pub mod hint;
 pub mod laws;
 mod lines;
 mod place;
+mod words;
 
 pub use columns::columns_of;
 pub use degrees::{COORDINATE_ROOM, LOCATION_ROOM, is_in_reach, push_degrees, push_location};
 pub use field_columns::FieldColumns;
 pub use lines::{BLOCK, Found, count_lines, find_line, show_line};
 pub use place::{TextLine, place_of};
+pub use words::split_word;

@@ -6,6 +6,8 @@ use Rattle.tl_record.specs.declared.options.Options.{Options}
 use Rattle.tigertopo_words.specs.declared.asked.View.{View}
 use Rattle.tigertopo_words.specs.declared.budget.Told.{Told}
 use Rattle.tigertopo_words.specs.declared.budget.Told.TheVariants.{One, All}
+use Rattle.tigertopo_words.specs.declared.form.Form.{Form}
+use Rattle.tigertopo_words.specs.declared.form.Form.TheVariants.{Lines, Records, Objects}
 use Rattle.tigertopo_words.specs.declared.layer.Layer.{Layer}
 use Rattle.tigertopo_words.specs.declared.layer.Layer.TheVariants.{Chains, Points, Polygons, Landmarks}
 use Rattle.tigertopo_words.specs.Points.{Spells}
@@ -66,6 +68,12 @@ AskForTold all most (All number) = AskForAll all most number
 -- some are
 abbrev pub AskForFaults : (all most : Option Text) → Type 0
 AskForFaults all most = (told : Told) × AskForTold all most told
+
+-- what was given for --where and for --json asks for this form: --json for objects, whatever --where says
+abbrev pub IsForm : (places objects : Option Text) → Form → Type 0
+IsForm places objects Lines = (objects ≢ Some (codes "true")) × (places ≢ Some (codes "true"))
+IsForm places objects Records = (objects ≢ Some (codes "true")) × (places ≡ Some (codes "true"))
+IsForm places objects Objects = objects ≡ Some (codes "true")
 
 -- the word for a layer
 abbrev pub layer_word : Layer → Text

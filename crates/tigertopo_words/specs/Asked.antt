@@ -5,12 +5,13 @@ use Rattle.tigertopo_words.specs.declared.asked.Command.{Command}
 use Rattle.tigertopo_words.specs.declared.asked.Asked.{Asked}
 use Rattle.tigertopo_words.specs.declared.asked.Asked.TheVariants.{Show, Landmarks, Locate, Audit, Build, Check, Convert, Export, Draw}
 use Rattle.tigertopo_words.specs.declared.asked.View.{View}
+use Rattle.tigertopo_words.specs.declared.form.Form.{Form}
 use Rattle.tigertopo_words.specs.declared.layer.Layer.{Layer}
 use Rattle.tigertopo_words.specs.declared.budget.Told.{Told}
 use Rattle.tigertopo_words.specs.declared.command_line.Named.{Named}
 use Rattle.tigertopo_words.specs.declared.command_line.Named.TheVariants as name
 use Rattle.tigertopo_words.specs.Commands.{name_of}
-use Rattle.tigertopo_words.specs.Arguments.{IsSwitch, IsBudget, AskForTold, IsLayer, IsPlace, IsView, FacesNeedFaults}
+use Rattle.tigertopo_words.specs.Arguments.{IsSwitch, IsForm, IsBudget, AskForTold, IsLayer, IsPlace, IsView, FacesNeedFaults}
 use Rattle.tigertopo_words.specs.Requests.{Request, given_by, AreFiles, AreOptions, IsWatched, HasNeeds, IsWhole}
 
 -- the command that asks for it
@@ -18,7 +19,7 @@ abbrev pub named_of : Asked → Named
 named_of Show = name.Show
 named_of Landmarks = name.Landmarks
 named_of (Locate point) = name.Locate
-named_of (Audit told places made) = name.Audit
+named_of (Audit told form made) = name.Audit
 named_of (Build made) = name.Build
 named_of (Check cert budget) = name.Check
 named_of (Convert cert made) = name.Convert
@@ -33,17 +34,17 @@ cert_of other = None
 
 -- the name of the file that is made, if one is
 abbrev pub made_of : Asked → Option Text
-made_of (Audit told places made) = option_map string_bytes made
+made_of (Audit told form made) = option_map string_bytes made
 made_of (Build made) = Some (string_bytes made)
 made_of (Convert cert made) = Some (string_bytes made)
 made_of (Export made layer) = Some (string_bytes made)
 made_of (Draw made view faults) = Some (string_bytes made)
 made_of other = None
 
--- the request asks for so many faults, with their records or without, and for this file of GeoJSON, word for word, or for none
-pub record AsksToAudit (given : Request) (told : Told) (places : Bool) (made : Option Text) : Type 0 where
+-- the request asks for so many faults, in this form, and for this file of GeoJSON, word for word, or for none
+pub record AsksToAudit (given : Request) (told : Told) (form : Form) (made : Option Text) : Type 0 where
   pub asked : AskForTold given.all given.most told
-  pub placed : IsSwitch given.places places
+  pub formed : IsForm given.places given.objects form
   pub to : given.geojson ≡ made
 
 -- the request asks for a check by this certificate, word for word, with this budget
@@ -73,7 +74,7 @@ abbrev pub IsAsked : Request → Asked → Type 0
 IsAsked given Show = ⊤
 IsAsked given Landmarks = ⊤
 IsAsked given (Locate point) = IsPlace given.point point
-IsAsked given (Audit told places made) = AsksToAudit given told places (option_map string_bytes made)
+IsAsked given (Audit told form made) = AsksToAudit given told form (option_map string_bytes made)
 IsAsked given (Build made) = given.out ≡ Some (string_bytes made)
 IsAsked given (Check cert budget) = AsksToCheck given (string_bytes cert) budget
 IsAsked given (Convert cert made) = AsksToConvert given (string_bytes cert) (string_bytes made)

@@ -42,6 +42,10 @@ all_argument = switch (codes "all")
 abbrev pub where_argument : Rule
 where_argument = switch (codes "where")
 
+-- --json: what is told is told as objects of JSON
+abbrev pub json_argument : Rule
+json_argument = switch (codes "json")
+
 -- --faces: faces have to agree too
 abbrev pub faces_argument : Rule
 faces_argument = switch (codes "faces")
@@ -91,14 +95,14 @@ conversion_app = with_rule (with_rule (new_app convert_name) (name_argument (cod
 abbrev pub on_a_map : App → App
 on_a_map app = with_rule (with_rule (with_rule (with_rule app faces_argument) zero_cells_argument) released_argument) files_argument
 
--- audit [--all] [--most N] [--where] [--geojson OUT] [--progress] [--faces] [--zero-cells] [--released] FILES..
+-- audit [--all] [--most N] [--where] [--json] [--geojson OUT] [--progress] [--faces] [--zero-cells] [--released] FILES..
 abbrev pub audit_name : Text
 audit_name = codes "audit"
 
 abbrev pub audit_app : App
 audit_app =
-    on_a_map (with_rule (with_rule (with_rule (with_rule (with_rule (new_app audit_name) all_argument) most_argument) where_argument)
-    (value_argument (codes "geojson"))) progress_argument)
+    on_a_map (with_rule (with_rule (with_rule (with_rule (with_rule (with_rule (new_app audit_name) all_argument) most_argument) where_argument)
+    json_argument) (value_argument (codes "geojson"))) progress_argument)
 
 -- build --out CERT [--progress] [--faces] [--zero-cells] [--released] FILES..
 abbrev pub build_name : Text

@@ -8,10 +8,10 @@ use Rattle.clap.specs.declared.builder.command.Command.TheViews.{out-Command}
 use Rattle.tigertopo_words.specs.declared.command_line.Named.{Named}
 use Rattle.tigertopo_words.specs.declared.command_line.Named.TheVariants.{Show, Landmarks, Locate, Audit, Build, Check, Convert, Export, Draw}
 use Rattle.tigertopo_words.specs.declared.command_line.Argument.{Argument}
-use Rattle.tigertopo_words.specs.declared.command_line.Argument.TheVariants.{All, Most, Progress, Where, FacesOfDrawing, Faces, FaultsOption, ZeroCells, Released, Files, Point}
+use Rattle.tigertopo_words.specs.declared.command_line.Argument.TheVariants.{All, Most, Progress, Where, Json, FacesOfDrawing, Faces, FaultsOption, ZeroCells, Released, Files, Point}
 use Rattle.tigertopo_words.specs.declared.command_line.Argument.TheVariants.{CertOption, OutOption, Tests, Cert, Out, LayerOption, CollectionOption, PictureOption, At, Width, Faults}
 use Rattle.tigertopo_words.specs.Commands.{all_argument, most_argument, zero_cells_argument, released_argument, files_argument}
-use Rattle.tigertopo_words.specs.Commands.{progress_argument, where_argument, faces_argument, faults_argument, value_argument}
+use Rattle.tigertopo_words.specs.Commands.{progress_argument, where_argument, json_argument, faces_argument, faults_argument, value_argument}
 use Rattle.tigertopo_words.specs.Commands.{name_argument, named_argument, tests_argument}
 use Rattle.tigertopo_words.specs.Commands.{command_on_files, show_name, landmarks_name}
 use Rattle.tigertopo_words.specs.Commands.{locate_app, audit_app, build_app, check_app, conversion_app, export_app, draw_app}
@@ -31,6 +31,7 @@ rule_for Cert = name_argument (codes "cert")
 rule_for Out = name_argument (codes "out")
 rule_for Progress = progress_argument
 rule_for Where = where_argument
+rule_for Json = json_argument
 rule_for FacesOfDrawing = faces_argument
 rule_for Faces = faces_argument
 rule_for FaultsOption = value_argument (codes "geojson")
@@ -82,7 +83,7 @@ abbrev pub arguments_for : Named → List Argument
 arguments_for Show = Released ∷ Files ∷ []
 arguments_for Landmarks = Released ∷ Files ∷ []
 arguments_for Locate = Released ∷ Point ∷ Files ∷ []
-arguments_for Audit = All ∷ Most ∷ Where ∷ FaultsOption ∷ Progress ∷ Faces ∷ ZeroCells ∷ Released ∷ Files ∷ []
+arguments_for Audit = All ∷ Most ∷ Where ∷ Json ∷ FaultsOption ∷ Progress ∷ Faces ∷ ZeroCells ∷ Released ∷ Files ∷ []
 arguments_for Build = OutOption ∷ Progress ∷ Faces ∷ ZeroCells ∷ Released ∷ Files ∷ []
 arguments_for Check = CertOption ∷ Tests ∷ Progress ∷ Faces ∷ ZeroCells ∷ Released ∷ Files ∷ []
 arguments_for Convert = Cert ∷ Out ∷ []

@@ -6,5 +6,6 @@ pub mod Requests
 pub mod Asked
 pub mod CommandLine
 pub mod Escapes
+pub mod Json
 pub mod Spelling
 pub mod Keeping

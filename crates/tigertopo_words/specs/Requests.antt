@@ -15,7 +15,7 @@ use Rattle.tigertopo_words.specs.Arguments.{IsGiven, AreSome, IsSwitch, AreChose
 
 -- a command; what was given for its FILES, if anything was, and the values of its --released, its --zero-cells, its --faces and its
 -- --all, each of which is the word true where the switch is given; and what was given for its @X,Y, its CERT or --cert, its OUT or
--- --out, its --tests, and its --most; its --progress, its --faults and its --where, which are switches; its --geojson, its --layer, its --at
+-- --out, its --tests, and its --most; its --progress, its --faults, its --where and its --json, which are switches; its --geojson, its --layer, its --at
 -- and its --width
 pub record Request : Type 0 where
   pub command : Text
@@ -32,6 +32,7 @@ pub record Request : Type 0 where
   pub progress : Option Text
   pub faults : Option Text
   pub places : Option Text
+  pub objects : Option Text
   pub geojson : Option Text
   pub layer : Option Text
   pub center : Option Text
@@ -54,6 +55,7 @@ request_in found = record {
   progress = first_of (codes "progress") found.1;
   faults = first_of (codes "faults") found.1;
   places = first_of (codes "where") found.1;
+  objects = first_of (codes "json") found.1;
   geojson = first_of (codes "geojson") found.1;
   layer = first_of (codes "layer") found.1;
   center = first_of (codes "at") found.1;

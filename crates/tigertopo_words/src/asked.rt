@@ -5,6 +5,7 @@ ghost use Rattle.tigertopo_words.specs.Asked.{named_of};
 
 use crate::budget::Told;
 use crate::command_line::{Named, word_of};
+use crate::form::Form;
 use crate::layer::Layer;
 use tl_geom::Point;
 use tl_record::Options;
@@ -32,12 +33,11 @@ pub enum Asked {
     Locate {
         point: Point,
     },
-    /// To decide with no certificate given whether the map is sound, and to tell what is wrong with it: one fault or more, with
-    /// the records that each speaks of where `places` asks for them, and with a file of GeoJSON of this name that is made of
-    /// the faults, if one is named.
+    /// To decide with no certificate given whether the map is sound, and to tell in this form what is wrong with it: one fault or
+    /// more, and with a file of GeoJSON of this name that is made of the faults, if one is named.
     Audit {
         told: Told,
-        places: bool,
+        form: Form,
         made: Option<String>,
     },
     /// To make a certificate of this name, in version 2, where the map is sound.

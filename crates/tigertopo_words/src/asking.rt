@@ -4,7 +4,7 @@ ghost use Rattle.std.specs.Prelude.{◌≡◌, ◌≢◌, IfOk, MatchOption, cod
 ghost use Rattle.clap.specs.Walk.{rows_of, first_of};
 ghost use Rattle.clap.specs.Matches.{found_of};
 ghost use Rattle.tigertopo_words.specs.Commands.{name_of};
-ghost use Rattle.tigertopo_words.specs.Arguments.{AskForFaults, AskForTold};
+ghost use Rattle.tigertopo_words.specs.Arguments.{AskForFaults, AskForTold, IsForm};
 ghost use Rattle.tigertopo_words.specs.Asked.{IsAskedBy};
 ghost use Rattle.tigertopo_words.specs.declared.command_line.Named.{Named};
 
@@ -12,6 +12,7 @@ use crate::arguments::{switch_of, word_of};
 use crate::asked::Asked;
 use crate::budget::{Told, asked_by, budget_of};
 use crate::command_line::Named;
+use crate::form::Form;
 use crate::layer::layer_by;
 use crate::point::place_of;
 use crate::view::view_of;
@@ -77,9 +78,22 @@ fn audit_of(alloc: Global, found: &ArgMatches<'_>) -> Result<Option<Asked>, Allo
     let made = word_of(alloc, found, "geojson")?;
     Ok(Some(Asked::Audit {
         told,
-        places: switch_of(found, "where"),
+        form: form_of(found),
         made,
     }))
+}
+
+// In which form, by --where and --json.
+fn form_of(found: &ArgMatches<'_>) -> Form
+    ensures { IsForm (first_of (codes "where") (rows_of (found_of found.now))) (first_of (codes "json") (rows_of (found_of found.now))) result }
+{
+    if switch_of(found, "json") {
+        Form::Objects
+    } else if switch_of(found, "where") {
+        Form::Records
+    } else {
+        Form::Lines
+    }
 }
 
 // How many faults are asked for, by --all and --most. A number without --all asks for none, and so does one that isn't spelt as one.

@@ -14,7 +14,7 @@ ghost use Rattle.tigertopo_words.specs.declared.command_line.Named.{Named};
 use crate::help::{
     ABOUT, ALL, AT, AUDIT_ABOUT, AUDIT_EXAMPLE, BUILD_ABOUT, BUILD_EXAMPLE, CHECK_ABOUT,
     CHECK_EXAMPLE, CONVERT_ABOUT, CONVERT_EXAMPLE, DRAW_ABOUT, DRAW_EXAMPLE, EXAMPLES,
-    EXPORT_ABOUT, EXPORT_EXAMPLE, FACES, FACES_OF_DRAWING, FAULTS, FAULTS_COLLECTION,
+    EXPORT_ABOUT, EXPORT_EXAMPLE, FACES, FACES_OF_DRAWING, FAULTS, FAULTS_COLLECTION, JSON,
     LANDMARKS_ABOUT, LANDMARKS_EXAMPLE, LAYER, LOCATE_ABOUT, LOCATE_EXAMPLE, MOST, PROGRESS,
     RELEASED, SHOW_ABOUT, SHOW_EXAMPLE, TESTS, WHERE, WIDTH, ZERO_CELLS,
 };
@@ -66,6 +66,8 @@ enum Argument {
     Progress,
     // --where
     Where,
+    // --json
+    Json,
     // --faces
     Faces,
     // --faces, of a picture
@@ -221,6 +223,7 @@ fn arguments_of<'a>(named: &Named) -> &'a [Argument]
             Argument::All,
             Argument::Most,
             Argument::Where,
+            Argument::Json,
             Argument::FaultsOption,
             Argument::Progress,
             Argument::Faces,
@@ -314,6 +317,7 @@ fn arg_of<'a>(alloc: Global, argument: &Argument) -> Arg<'a>
         Argument::Out => name_argument(alloc, "out", "OUT", "The certificate that is made"),
         Argument::Progress => switch(alloc, "progress", PROGRESS),
         Argument::Where => switch(alloc, "where", WHERE),
+        Argument::Json => switch(alloc, "json", JSON),
         Argument::Faces => switch(alloc, "faces", FACES),
         Argument::FacesOfDrawing => switch(alloc, "faces", FACES_OF_DRAWING),
         Argument::FaultsOption => option(alloc, "geojson", "OUT", FAULTS_COLLECTION),

@@ -42,8 +42,8 @@ pub fn push_escaped(text: &mut Vec<u8>, byte: u8) -> Result<(), AllocError>
     Ok(())
 }
 
-// A hexadecimal digit.
-fn hex_digit(digit: u8) -> u8
+/// A hexadecimal digit.
+pub(crate) fn hex_digit(digit: u8) -> u8
     requires { digit < 16 }
     ensures { result ≡ hex_digit digit }
 {

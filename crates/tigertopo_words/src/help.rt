@@ -75,6 +75,9 @@ line is `faults=K printed=P`.
 With --where each fault has a line behind it for each record that it speaks of, behind two blanks: the
 file, the line, the record's type, the TLID, polygon or landmark, and where the fault lies, in degrees:
 with six decimals `locate` and `draw --at` take it behind @, with ten it is rounded.
+With --json each fault, or each line that is refused, is an object of JSON on a line of its own, with its code,
+its name, what it is about, where it lies and its records; and the last line is an object that says `sound`,
+`faults` or `refusals` and how many. --where adds nothing to that.
 With --geojson OUT the faults that are told are made a collection of features of RFC 7946, with --all
 all of them: each where it lies, with its code, what it is about and its records, and then the chains
 that they name. Of a sound map the collection is empty. OUT is written as OUT.unfinished and takes its
@@ -92,6 +95,7 @@ Examples:
   tigertopo audit --faces TGR24001.RT*
   tigertopo audit --all --faces TGR24001.RT*
   tigertopo audit --all --where TGR24001.RT*
+  tigertopo audit --all --json TGR24001.RT*
   tigertopo audit --all --geojson TGR24001.geojson TGR24001.RT*";
 
 pub const BUILD_ABOUT: &str = "Makes a certificate of a sound map, in version 2";
@@ -170,6 +174,9 @@ pub const PROGRESS: &str =
     "Shows how far reading is, once a second, where the error output is a terminal";
 
 pub const WHERE: &str = "Tells behind each fault in which lines of which files its records stand";
+
+pub const JSON: &str =
+    "Tells each fault, or each line that is refused, as an object of JSON, with its records";
 
 pub const LAYER: &str = "Writes features of one kind alone: chains, points, polygons or landmarks";
 

@@ -4,10 +4,13 @@ use Rattle.tl_geom.specs.declared.rational.Rational.{Rational}
 use Rattle.tigertopo_where.specs.Degrees.{degrees_text, is_in_reach}
 use Rattle.tl_check_faces.specs.FaultTexts.{rational_text}
 
--- a point: the longitude, then the latitude, in degrees with twelve places
+-- a position: the longitude, then the latitude, in degrees with twelve places
+unfoldable pub position_text : Rational → List ℕ
+position_text at = codes "[" ++ degrees_text 12 at.x at.d ++ codes "," ++ degrees_text 12 at.y at.d ++ codes "]"
+
+-- a point at it
 unfoldable pub point_text : Rational → List ℕ
-point_text at =
-    codes "{\"type\":\"Point\",\"coordinates\":[" ++ degrees_text 12 at.x at.d ++ codes "," ++ degrees_text 12 at.y at.d ++ codes "]}"
+point_text at = codes "{\"type\":\"Point\",\"coordinates\":" ++ position_text at ++ codes "}"
 
 -- the point where a fault lies, or null where it has no place or one that can't be printed
 abbrev pub geometry_text : Option Rational → List ℕ

@@ -12,7 +12,7 @@ use Rattle.tigertopo_faults.specs.declared.records.line.SegmentEnds.{SegmentEnds
 use Rattle.tigertopo_faults.specs.declared.records.line.Part.{Part}
 use Rattle.tigertopo_faults.specs.declared.records.line.Part.TheVariants.{Start, Pair, End}
 use Rattle.tigertopo_faults.specs.Lines.Texts.{spoken_of}
-use Rattle.tigertopo_geojson.specs.Strings.{string_text}
+use Rattle.tigertopo_words.specs.Json.{string_text}
 use Rattle.tigertopo_geojson.specs.Features.{separated}
 
 -- a record's type

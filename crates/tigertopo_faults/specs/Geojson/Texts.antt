@@ -10,10 +10,12 @@ use Rattle.tigertopo_faults.specs.declared.records.subject.Subject.{Subject}
 use Rattle.tigertopo_faults.specs.Records.SpokenOf.{chains_of}
 use Rattle.tl_geom.specs.declared.rational.Rational.{Rational}
 use Rattle.tigertopo_faults.specs.Lines.Places.{place_at}
-use Rattle.tigertopo_geojson.specs.Strings.{string_text, key_string}
+use Rattle.tigertopo_words.specs.Json.{string_text}
+use Rattle.tigertopo_geojson.specs.Strings.{key_string}
 use Rattle.tigertopo_geojson.specs.Features.{separated, features_below, chain_text, collection_opening, collection_closing}
 use Rattle.tigertopo_faults.specs.Geojson.Named.{listed, tlids_of, keys_of, land_of}
-use Rattle.tigertopo_faults.specs.Geojson.Words.{told_text, first_word, behind_word}
+use Rattle.tigertopo_where.specs.Words.{first_word, behind_word}
+use Rattle.tigertopo_faults.specs.Geojson.Words.{told_text}
 use Rattle.tigertopo_faults.specs.Geojson.Places.{geometry_text, exact_text}
 use Rattle.tigertopo_faults.specs.Geojson.Records.{spoken_lines, records_text}
 
@@ -26,7 +28,7 @@ words_text told =
 -- the TLIDs, the keys and the LAND that a fault names
 unfoldable pub names_text : List MapChain → MapFault → List ℕ
 names_text chains fault =
-    codes ",\"tlids\":[" ++ separated decimal (listed (tlids_of chains fault))
+    codes "\"tlids\":[" ++ separated decimal (listed (tlids_of chains fault))
     ++ codes "],\"polygons\":[" ++ separated key_string (listed (keys_of fault))
     ++ codes "],\"landmarks\":[" ++ separated decimal (option_to_list (land_of fault)) ++ codes "]"
 
@@ -36,7 +38,7 @@ fault_text names counts chains about at fault =
     codes "{\"type\":\"Feature\",\"geometry\":" ++ geometry_text at
     ++ codes ",\"properties\":{" ++ words_text (told_text fault)
     ++ codes ",\"at\":" ++ exact_text at
-    ++ names_text chains fault ++ records_text names counts (spoken_lines chains about fault) ++ codes "}}"
+    ++ codes "," ++ names_text chains fault ++ records_text names counts (spoken_lines chains about fault) ++ codes "}}"
 
 -- the fault with this number, at the place with it
 abbrev pub fault_feature : List (List ℕ) → List ℕ → List MapChain → (Subject → List RecordLine) → List (Option Rational) → List MapFault → ℕ → List ℕ

@@ -67,17 +67,23 @@ fn print_fault<S: Sink>(
     print_words(rest_of(line.as_str().as_bytes()), printer, out);
     printer.add(b",\"at\":", out);
     print_exact(at, printer, out);
+    printer.add(b",", out);
     print_names(drawn, fault, printer, out);
     print_spoken(names, counts, drawn, lines, fault, printer, out);
     printer.add(b"}}", out);
 }
 
-// Prints the TLIDs, the keys and the LAND that a fault names.
-fn print_names<S: Sink>(drawn: Option<&Map>, fault: &MapFault, printer: &mut Printer, out: &mut S)
+/// Prints the TLIDs, the keys and the LAND that a fault names.
+pub fn print_names<S: Sink>(
+    drawn: Option<&Map>,
+    fault: &MapFault,
+    printer: &mut Printer,
+    out: &mut S,
+)
     ensures { Prints S.contents S.failure_count (out.old, printer.old) (out.new, printer.new)
         (names_text (chains_of (option_copied drawn.entry)) fault.now) }
 {
-    printer.add(b",\"tlids\":[", out);
+    printer.add(b"\"tlids\":[", out);
     print_numbers(tlids_of(drawn, fault), printer, out);
     printer.add(b"],\"polygons\":[", out);
     print_keys(keys_of(fault), printer, out);
@@ -134,8 +140,8 @@ fn print_keys<S: Sink>(keys: (Option<PolyKey>, Option<PolyKey>), printer: &mut P
     }
 }
 
-// Prints the records that a fault speaks of.
-fn print_spoken<S: Sink>(
+/// Prints the records that a fault speaks of.
+pub fn print_spoken<S: Sink>(
     names: &[String],
     counts: &[u64],
     drawn: Option<&Map>,

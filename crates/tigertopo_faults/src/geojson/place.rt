@@ -5,7 +5,7 @@ ghost use Rattle.std.specs.Fmt.{signed_decimal};
 ghost use Rattle.tl_check_faces.specs.FaultTexts.{rational_text};
 ghost use Rattle.tigertopo_where.specs.Degrees.{degrees_text, is_in_reach};
 ghost use Rattle.tl_cert_output.specs.Printing.{Prints};
-ghost use Rattle.tigertopo_faults.specs.Geojson.Places.{point_text, geometry_text, exact_text};
+ghost use Rattle.tigertopo_faults.specs.Geojson.Places.{position_text, point_text, geometry_text, exact_text};
 
 use arrayvec::ArrayString;
 use tigertopo_where::{COORDINATE_ROOM, is_in_reach, push_degrees};
@@ -37,16 +37,26 @@ fn print_place<S: Sink>(at: Rational, printer: &mut Printer, out: &mut S)
     }
 }
 
-// Prints a point: the longitude, then the latitude, in degrees.
+// Prints a point at a place.
 fn print_point<S: Sink>(at: Rational, printer: &mut Printer, out: &mut S)
     requires { is_in_reach at ≡ true }
     ensures { Prints S.contents S.failure_count (out.old, printer.old) (out.new, printer.new) (point_text at) }
 {
-    printer.add(b"{\"type\":\"Point\",\"coordinates\":[", out);
+    printer.add(b"{\"type\":\"Point\",\"coordinates\":", out);
+    print_position(at, printer, out);
+    printer.add(b"}", out);
+}
+
+/// Prints a position: the longitude, then the latitude, in degrees.
+pub fn print_position<S: Sink>(at: Rational, printer: &mut Printer, out: &mut S)
+    requires { is_in_reach at ≡ true }
+    ensures { Prints S.contents S.failure_count (out.old, printer.old) (out.new, printer.new) (position_text at) }
+{
+    printer.add(b"[", out);
     printer.add(longitude(at).as_str().as_bytes(), out);
     printer.add(b",", out);
     printer.add(latitude(at).as_str().as_bytes(), out);
-    printer.add(b"]}", out);
+    printer.add(b"]", out);
 }
 
 // The longitude of a place.
@@ -94,8 +104,8 @@ fn print_rational<S: Sink>(at: Rational, printer: &mut Printer, out: &mut S)
     print_signed(at.d, printer, out);
 }
 
-// Prints a number.
-fn print_signed<S: Sink>(number: i128, printer: &mut Printer, out: &mut S)
+/// Prints a number.
+pub fn print_signed<S: Sink>(number: i128, printer: &mut Printer, out: &mut S)
     ensures { Prints S.contents S.failure_count (out.old, printer.old) (out.new, printer.new) (signed_decimal number) }
 {
     printer.number(number, out);

@@ -3,10 +3,10 @@
 ghost use Rattle.std.specs.Prelude.{◌≡◌, ℕ, List, codes, drop, length};
 ghost use Rattle.tl_cert_output.specs.Writing.{line_of};
 ghost use Rattle.tl_cert_output.specs.Printing.{Prints};
-ghost use Rattle.tigertopo_faults.specs.Geojson.Words.{first_word, behind_word};
 ghost use Rattle.tigertopo_faults.specs.Geojson.Texts.{words_text};
 
 use tigertopo_geojson::print_string;
+use tigertopo_where::split_word;
 use tl_cert_output::Printer;
 use tl_record::Sink;
 
@@ -35,17 +35,4 @@ pub fn print_words<S: Sink>(told: &[u8], printer: &mut Printer, out: &mut S)
     print_string(name, printer, out);
     printer.add(b",\"fault\":", out);
     print_string(told, printer, out);
-}
-
-// The bytes before the first blank, and those behind it.
-fn split_word(text: &[u8]) -> (&[u8], &[u8])
-    ensures word { result.0.now ≡ first_word text.now }
-    ensures behind { result.1.now ≡ behind_word text.now }
-{
-    for (place, byte) in text.iter().enumerate() {
-        if *byte == b' ' {
-            return (&text[..place], &text[place + 1..]);
-        }
-    }
-    (text, &[])
 }

@@ -40,8 +40,8 @@ pub fn placed_text(
     Ok(text)
 }
 
-// The first of the faults, or all, or so many from the front.
-fn chosen(faults: &[MapFault], told: Told) -> &[MapFault]
+/// The first of the faults, or all, or so many from the front.
+pub(crate) fn chosen(faults: &[MapFault], told: Told) -> &[MapFault]
     ensures { result.now ≡ chosen told faults.now }
 {
     match told {

@@ -48,8 +48,8 @@ fn push_columns(text: &mut Vec<u8>, line: &[u8], columns: FieldColumns) -> Resul
     Ok(())
 }
 
-// The columns of the field that a line is refused for.
-fn columns_for(options: Options, line: &[u8], cause: Cause) -> Option<FieldColumns>
+/// The columns of the field that a line is refused for.
+pub fn columns_for(options: Options, line: &[u8], cause: Cause) -> Option<FieldColumns>
     ensures { option_map range_of result ≡ columns_for (layout_with options) line.now cause }
 {
     match field_of(cause) {
@@ -75,8 +75,8 @@ fn first_byte(line: &[u8]) -> u8
     if line.is_empty() { 0 } else { line[0] }
 }
 
-// A line without one carriage return at its end.
-fn content(line: &[u8]) -> &[u8]
+/// A line without one carriage return at its end.
+pub fn content(line: &[u8]) -> &[u8]
     ensures { result.now ≡ content line.now }
 {
     let len = line.len();
@@ -87,8 +87,8 @@ fn content(line: &[u8]) -> &[u8]
     }
 }
 
-// Adds a word and a number.
-fn push_number(text: &mut Vec<u8>, word: &[u8], number: u64) -> Result<(), AllocError>
+/// Adds a word and a number.
+pub fn push_number(text: &mut Vec<u8>, word: &[u8], number: u64) -> Result<(), AllocError>
     ensures { OnOk result (text.new.items ≡ text.old.items ++ word.now ++ decimal number) }
 {
     let mut digits = Buffer::new();

@@ -25,5 +25,5 @@ returns-in-Check g c =
 
 pub returns-in-Audit : goal.returns-in-Audit
 returns-in-Audit g c =
-    by_asked c.args.command.now (Audit c.in-Audit.told c.in-Audit.places c.in-Audit.made) c.in-Audit.is (world g.F.FileSystem.under g.F.FileSystem.log g.F.FileSystem.knows c.args.files.now c.audit.new.files) c.audit.result
-    (rw (makes_none c.in-Audit.told c.in-Audit.places c.in-Audit.made (rw c.in-Audit.is at c.requires.plain)) (rw c.as_slice-names.ensures.value at c.audit.ensures))
+    by_asked c.args.command.now (Audit c.in-Audit.told c.in-Audit.form c.in-Audit.made) c.in-Audit.is (world g.F.FileSystem.under g.F.FileSystem.log g.F.FileSystem.knows c.args.files.now c.audit.new.files) c.audit.result
+    (rw (makes_none c.in-Audit.told c.in-Audit.form c.in-Audit.made (rw c.in-Audit.is at c.requires.plain)) (rw c.as_slice-names.ensures.value at c.audit.ensures))

@@ -5,7 +5,7 @@ use Rattle.tl_map_county.specs.TheMap.{TheMap}
 use Rattle.tl_check_verdict.specs.declared.fault.MapFault.{MapFault}
 use Rattle.tigertopo_faults.specs.Records.SpokenOf.{chains_of}
 use Rattle.tigertopo_faults.specs.Records.Keeping.{held}
-use Rattle.tl_cert_output.specs.declared.stop.Stop.TheVariants.{Memory}
+use Rattle.tl_cert_output.specs.Stops.{StopsFor}
 use Rattle.tigertopo_files.specs.World.{Made, MayMake, world}
 use Rattle.tigertopo_files.specs.declared.beginning.FileKind.TheVariants.{Collection}
 use Rattle.tigertopo_files.proofs.WorldLemmas.{does_fail, does_answer}
@@ -26,7 +26,8 @@ returns-in_err-spoken g c =
 pub returns-in_err-text : goal.returns-in_err-text
 returns-in_err-text g c =
     let w = world g.F.FileSystem.under g.F.FileSystem.log g.F.FileSystem.knows c.args.files.now c.speak_of.new.files in
-    does_not w c.in_ok-spoken.ensures.stays c.in_ok-spoken.ensures.logged _ _ _ ⊥ Memory tt (λ never. absurd never) c.from_residual-in_err-text.result c.from_residual-in_err-text.ensures.1
+    does_not w c.in_ok-spoken.ensures.stays c.in_ok-spoken.ensures.logged _ _ _ ⊥ c.in_err-text.field-0.0 (subst (StopsFor ⊥) (sym c.in_err-text.ensures.stop) tt) (λ never. absurd never) c.from_residual-in_err-text.result
+    c.from_residual-in_err-text.ensures.1
 
 pub make_collection-requires : goal.make_collection-requires
 make_collection-requires g c =
@@ -65,8 +66,8 @@ returns g c =
     let done = made_behind u v after l m q g.F.FileSystem.knows asked c.in_ok-spoken.ensures.stays c.in_ok-spoken.ensures.logged _ _ c.in_ok-make_collection.ensures in
     let same = ap (λ (m : Option TheMap). faults_text names spoken.counts.items m (held spoken.lines) spoken.places.items c.featured-shown.result.now c.args.touched) drawn
     ∙ ap (λ (fs : List MapFault). faults_text names spoken.counts.items c.args.map (held spoken.lines) spoken.places.items fs c.args.touched) shown in
-    let prepared = subst (λ (m : Option TheMap). IsPrepared names (chains_of m) spoken c.args.wanted.places c.args.wanted.told c.args.faults.items c.args.touched text) drawn
-    (subst (λ (fs : List MapFault). IsPrepared names (chains_of (option_copied c.as_ref-drawn.result)) spoken c.args.wanted.places c.args.wanted.told fs c.args.touched text) listed c.in_ok-text.ensures) in
+    let prepared = subst (λ (m : Option TheMap). IsPrepared names (chains_of m) spoken c.args.wanted.form c.args.wanted.told c.args.faults.items c.args.touched text) drawn
+    (subst (λ (fs : List MapFault). IsPrepared names (chains_of (option_copied c.as_ref-drawn.result)) spoken c.args.wanted.form c.args.wanted.told fs c.args.touched text) listed c.in_ok-text.ensures.prepared) in
     does_answer w [] asked.made _ _ c.in_ok-make_collection.field-0 done _ _ (record {
       spoken = spoken;
       speak = λ again.
@@ -75,5 +76,5 @@ returns g c =
           (c.in_ok-spoken.ensures.spoken (c.reads_again.ensures ∙ again)));
       kept = subst (λ (t : List ℕ). Made w asked.made t) same c.in_ok-make_collection.ensures.answered;
       is = rw c.faults_answer.ensures (answer_status c.args.wanted.told c.args.faults c.args.touched text);
-      lines = rw c.faults_answer.ensures (answer_text names (chains_of c.args.map) spoken c.args.wanted.places c.args.wanted.told c.args.faults c.args.touched text prepared);
+      lines = rw c.faults_answer.ensures (answer_text names (chains_of c.args.map) spoken c.args.wanted.form c.args.wanted.told c.args.faults c.args.touched text prepared);
     })

@@ -39,18 +39,18 @@ returns-in-Audit g c =
     let w = world g.F.FileSystem.under g.F.FileSystem.log g.F.FileSystem.knows c.args.files.now c.list-answer.new.files in
     let s = streams (stream g.W.Sink.contents g.W.Sink.failure_count c.args.out.now c.tell_answer-in-Audit.new.out) (stream g.E.Sink.contents g.E.Sink.failure_count c.args.err.now c.tell_answer-in-Audit.new.err) in
     let told = c.in-Audit.told in
-    let places = c.in-Audit.places in
+    let form = c.in-Audit.form in
     let made = c.in-Audit.made in
-    let more : is_plain (Audit told places made) ≡ false = ap is_plain (sym c.in-Audit.is) ∙ (sym c.is_plain.ensures ∙ c.if-is_plain.false) in
-    let asked : Asked = record { names = names; told = told; places = places; made = option_map string_bytes made } in
+    let more : is_plain (Audit told form made) ≡ false = ap is_plain (sym c.in-Audit.is) ∙ (sym c.is_plain.ensures ∙ c.if-is_plain.false) in
+    let asked : Asked = record { names = names; told = told; form = form; made = option_map string_bytes made } in
     let known = text_under w.before names in
     inl (answered (terms (AllAnswers command.asked options names w) (AllStops command.asked options names w) ⊥) command w s c.tell_answer-in-Audit.result
     (λ answer. ListAnswers w options known asked answer.status (listed_text answer.text)) listed_text c.list-answer.result
     (subst (λ a. Does w (names_with a names) (made_of a) (λ answer. ListAnswers w options known asked answer.status (listed_text answer.text))
     (AllStops a options names w) c.list-answer.result) (sym c.in-Audit.is)
     (does_so w names (option_map string_bytes made) (λ answer. ListAnswers w options known asked answer.status (listed_text answer.text)) (λ answer. ListAnswers w options known asked answer.status (listed_text answer.text))
-    (StopsList w options known asked) (AllStops (Audit told places made) options names w) (λ t so. so) (λ stop. list_stops told places made options names w stop more) c.list-answer.result (rw c.as_slice-names.ensures.value at c.list-answer.ensures)))
-    (λ a so. subst (λ q. AllAnswers q options names w a.status (listed_text a.text)) (sym c.in-Audit.is) (list_answers told places made options names w a.status (listed_text a.text) more so))
+    (StopsList w options known asked) (AllStops (Audit told form made) options names w) (λ t so. so) (λ stop. list_stops told form made options names w stop more) c.list-answer.result (rw c.as_slice-names.ensures.value at c.list-answer.ensures)))
+    (λ a so. subst (λ q. AllAnswers q options names w a.status (listed_text a.text)) (sym c.in-Audit.is) (list_answers told form made options names w a.status (listed_text a.text) more so))
     c.is_aside-aside.result c.is_aside-aside.ensures c.tell_answer-in-Audit.ensures.told c.tell_answer-in-Audit.ensures.stop c.requires)
 
 pub returns-in-Export : goal.returns-in-Export

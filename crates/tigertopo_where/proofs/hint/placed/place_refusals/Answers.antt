@@ -21,11 +21,11 @@ returns-in-Some-2-clause-placed g c =
     let under = g.F.FileSystem.under c.args.files.now in
     let counts = c.in_ok-counts.ensures.counted in
     let answered = c.in_ok-text.ensures.told.answered in
-    placed_so (layout_with c.args.options) under (g.F.FileSystem.under c.count_all.new.files) (map string_bytes c.args.names.now) c.as_slice.result.now c.in-Some-2.text.items c.args.refusals.now
+    placed_so c.args.form (layout_with c.args.options) under (g.F.FileSystem.under c.count_all.new.files) (map string_bytes c.args.names.now) c.as_slice.result.now c.in-Some-2.text.items c.args.refusals.now
     c.in_ok-counts.ensures.stays (rw (c.in-Some.is, ← c.as_slice.ensures.value) at counts) (rw c.in-Some-2.is at answered)
 
 pub returns-clause-placed : goal.returns-clause-placed
 returns-clause-placed g c =
     let passing = c.in_ok-text.ensures.passing in
-    plain_so (layout_with c.args.options) (g.F.FileSystem.under c.args.files.now) (map string_bytes c.args.names.now) c.in_ok-plain_lines-in-None.field-0.items c.args.refusals.now
+    plain_so c.args.form (layout_with c.args.options) (g.F.FileSystem.under c.args.files.now) (map string_bytes c.args.names.now) c.in_ok-plain_lines-in-None.field-0.items c.args.refusals.now
     c.in_ok-plain_lines-in-None.ensures (g.F.FileSystem.under c.count_all.new.files) c.in_ok-counts.ensures.stays (rw c.in-None.is at passing)

@@ -3,4 +3,4 @@ use Rattle.tigertopo_where.specs.Hint.Placed.{placed_text}
 use Rattle.tigertopo_where.proofs.hint.placed.plain_lines.Given as goal
 
 abbrev pub invariant-loop-refusal : goal.invariant-loop-refusal
-invariant-loop-refusal l = l.text.items ≡ placed_text (take l.refusal-index l.refusals) []
+invariant-loop-refusal l = l.text.items ≡ placed_text l.form (take l.refusal-index l.refusals) []

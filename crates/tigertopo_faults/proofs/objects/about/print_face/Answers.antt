@@ -1,0 +1,7 @@
+use Rattle.tigertopo_faults.specs.Objects.About.{face_text}
+use Rattle.tl_cert_output.proofs.PrinterLemmas.{both}
+use Rattle.tigertopo_faults.proofs.objects.about.print_face.Goals as goal
+
+pub returns : goal.returns
+unfolding face_text
+returns g c = both (both (both (both (both (both c.add.ensures c.number.ensures) c.add-2.ensures) c.print_named.ensures) c.add-3.ensures) c.print_fractions.ensures) c.add-4.ensures

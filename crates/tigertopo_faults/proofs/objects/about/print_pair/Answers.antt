@@ -1,0 +1,7 @@
+use Rattle.tigertopo_faults.specs.Objects.About.{pair_text}
+use Rattle.tl_cert_output.proofs.PrinterLemmas.{both}
+use Rattle.tigertopo_faults.proofs.objects.about.print_pair.Goals as goal
+
+pub returns : goal.returns
+unfolding pair_text
+returns g c = both (both (both (both (both c.add.ensures c.add-2.ensures) c.number.ensures) c.add-3.ensures) c.number-2.ensures) c.add-4.ensures

@@ -1,0 +1,11 @@
+use Rattle.std.proofs.Common.{◌∙◌, refl}
+use Rattle.tl_check_verdict.specs.Messages.{map_fault_text}
+use Rattle.tl_cert_output.proofs.PrinterLemmas.{both, as_text}
+use Rattle.tigertopo_faults.specs.Objects.Texts.{object_text}
+use Rattle.tigertopo_faults.proofs.objects.fault.print_object.Goals as goal
+
+pub returns : goal.returns
+unfolding object_text
+returns g c =
+    let told = c.rest_of.ensures (map_fault_text c.args.fault.now) (c.as_bytes.ensures.value ∙ c.as_str.ensures.value ∙ c.fault_line-line.ensures) in
+    as_text (both (both (both (both (both (both c.add.ensures c.print_words.ensures) c.print_about.ensures) c.add-2.ensures) c.print_place.ensures) c.print_spoken.ensures) c.add-3.ensures) (rw told refl)

@@ -1,0 +1,5 @@
+use Rattle.tl_cert_output.proofs.PrinterLemmas.{both}
+use Rattle.tigertopo_faults.proofs.objects.place.print_place.Goals as goal
+
+pub returns-in-Some : goal.returns-in-Some
+returns-in-Some g c = rw c.in-Some.is (both (both (both (both c.add.ensures c.print_fractions.ensures) c.add-in-Some.ensures) c.print_degrees.ensures) c.add-in-Some-2.ensures)

@@ -1,8 +1,0 @@
-use Rattle.std.proofs.Common.{sym}
-use Rattle.tigertopo_geojson.specs.Strings.{escaped_byte}
-use Rattle.tl_cert_output.proofs.PrinterLemmas.{both, as_text}
-use Rattle.tigertopo_geojson.proofs.TextLemmas.{each_at}
-use Rattle.tigertopo_geojson.proofs.strings.print_escaped.Goals as goal
-
-pub loop-byte-preserved : goal.loop-byte-preserved
-loop-byte-preserved g c = as_text (both c.loop-byte.invariant c.print_byte.ensures) (sym (each_at escaped_byte c.args.text.now c.loop-byte.byte-index _ c.loop-byte-test.true))

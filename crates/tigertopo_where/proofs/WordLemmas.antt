@@ -1,0 +1,46 @@
+-- Words of a text.
+use Rattle.std.proofs.Common.{◌≡◌, ◌≢◌, ◌==◌, ℕ, ◌<◌, ◌≤◌, ◌-◌, ◌^◌, Bool, false, List, [], ◌∷◌, ◌++◌, take, drop, length, refl, ap, ◌∙◌, ne_eqb, arith, decimal, append_assoc}
+use Rattle.std.specs.Prelude.{codes}
+use Rattle.std.specs.Str.Parse.{AllDigits}
+use Rattle.std.specs.Char.{digit_value}
+use Rattle.std.proofs.lemmas.List.{length-append, take-append-le, take_all}
+use Rattle.std.proofs.lemmas.Fmt.{decimal_is_IsNumeral}
+use Rattle.tl_cert_output.specs.Writing.{line_of}
+use Rattle.tigertopo_where.specs.Words.{first_word, behind_word}
+
+-- no blank stands before place i
+pub record IsOneWord (text : List ℕ) (i : ℕ) : Type 0 where
+  pub first : first_word text ≡ take i text ++ first_word (drop i text)
+  pub behind : behind_word text ≡ behind_word (drop i text)
+
+digit_no_blank : (d : ℕ) → digit_value d < 10 → d ≢ 32
+digit_no_blank d digit is = let wrong = rw is at digit in absurd (omega (arith, wrong))
+
+behind_digits : (digits rest : List ℕ) → AllDigits 10 digits → behind_word (digits ++ 32 ∷ rest) ≡ rest
+behind_digits [] rest all = refl
+behind_digits (d ∷ digits) rest all = let other : (d == 32) ≡ false = ne_eqb d 32 (digit_no_blank d all.0) in rw other (behind_digits digits rest all.1)
+
+-- what stands behind the first three words of a refusal's line
+pub behind_three : (number : ℕ) (cause : List ℕ) → number < 2 ^ 64
+    → behind_word (behind_word (behind_word (line_of (codes "refused line " ++ decimal number ++ codes " " ++ cause)))) ≡ line_of cause
+behind_three number cause small =
+    ap behind_word (append_assoc (decimal number ++ codes " ") cause (codes "\n") ∙ append_assoc (decimal number) (codes " ") (line_of cause))
+    ∙ behind_digits (decimal number) (line_of cause) (decimal_is_IsNumeral number small).0.1
+
+-- a line without its end
+pub without_end : (line cause : List ℕ) → line ≡ line_of cause → take (length line - 1) line ≡ cause
+without_end line cause is =
+    let size : length (line_of cause) - 1 ≡ length cause = omega (arith, length-append cause (10 ∷ [])) in
+    ap (λ (l : List ℕ). take (length l - 1) l) is ∙ ap (λ n. take n (line_of cause)) size
+    ∙ take-append-le (length cause) cause (10 ∷ []) (omega arith) ∙ take_all (length cause) cause (omega arith)
+
+-- a line isn't empty
+pub has_end : (line cause : List ℕ) → line ≡ line_of cause → length line ≢ 0
+has_end line cause is none = let size : length line ≡ length (line_of cause) = ap length is in omega (arith, size, none, length-append cause (10 ∷ []))
+
+-- texts that were added one behind the other
+pub six_parts : (old a b c d e f : List ℕ) → old ++ a ++ b ++ c ++ d ++ e ++ f ≡ old ++ (a ++ b ++ c ++ d ++ e ++ f)
+six_parts old a b c d e f = simp append_assoc
+
+pub seven_parts : (old a b c d e f g : List ℕ) → old ++ a ++ b ++ c ++ d ++ e ++ f ++ g ≡ old ++ (a ++ b ++ c ++ d ++ e ++ f ++ g)
+seven_parts old a b c d e f g = simp append_assoc

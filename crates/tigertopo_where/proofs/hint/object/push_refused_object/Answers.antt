@@ -1,0 +1,17 @@
+use Rattle.std.proofs.Common.{◌≡◌, ◌∙◌, ap, arith, codes, decimal}
+use Rattle.tl_record.specs.Messages.{cause_text}
+use Rattle.tigertopo_where.specs.Words.{behind_word}
+use Rattle.tigertopo_where.specs.Hint.Objects.{cause_members, refused_object, word_text}
+use Rattle.tigertopo_where.proofs.WordLemmas.{seven_parts}
+use Rattle.tigertopo_where.proofs.hint.object.push_refused_object.Goals as goal
+
+pub returns : goal.returns
+unfolding refused_object
+returns c =
+    let told : c.cause_in-told.result.now ≡ cause_text c.args.cause =
+    c.cause_in-told.ensures c.args.number (cause_text c.args.cause) (omega arith) (c.as_bytes.ensures.value ∙ c.as_str.ensures.value ∙ c.refusal_line-line.ensures) in
+    let field : c.split_word-2.result.1.now ≡ behind_word (behind_word (cause_text c.args.cause)) =
+    c.split_word-2.ensures.behind ∙ ap behind_word (c.split_word.ensures.behind ∙ ap behind_word told) in
+    rw (c.in_ok-extend_from_slice-3.ensures.items, c.in_ok-push_word.ensures, c.in_ok-extend_from_slice-2.ensures.items, c.in_ok-push_number.ensures, c.in_ok-push_cause.ensures, c.in_ok-extend_from_slice.ensures.items, field, told)
+    (seven_parts c.args.text.now.items (codes "{\"is\":\"refused\",") (cause_members (cause_text c.args.cause)) (codes ",\"about\":{\"line\":") (decimal c.args.number) (codes ",\"field\":")
+    (word_text (behind_word (behind_word (cause_text c.args.cause)))) (codes "},\"records\":["))

@@ -1,0 +1,46 @@
+-- Refused lines as objects of JSON.
+use Rattle.std.specs.Prelude.{ℕ, List, [], ◌∷◌, ◌++◌, codes, decimal}
+use Rattle.std.specs.Option.{option_map_or}
+use Rattle.tl_record.specs.Range.{Range}
+use Rattle.tl_record.specs.declared.layout.Layout.{Layout}
+use Rattle.tl_record.specs.declared.stop.Cause.{Cause}
+use Rattle.tl_record.specs.Lines.{content}
+use Rattle.tl_record.specs.Messages.{cause_text}
+use Rattle.tigertopo_words.specs.Json.{string_text, bytes_text}
+use Rattle.tigertopo_where.specs.Words.{first_word, behind_word}
+use Rattle.tigertopo_where.specs.Hint.Hints.{columns_for}
+use Rattle.tigertopo_where.specs.Hint.Shown.{bytes_at}
+
+-- a word as a string, or null where there is none
+abbrev pub word_text : List ℕ → List ℕ
+word_text [] = codes "null"
+word_text (byte ∷ rest) = string_text (byte ∷ rest)
+
+-- the code and the name of a cause
+abbrev pub cause_members : List ℕ → List ℕ
+cause_members cause = codes "\"code\":" ++ string_text (first_word cause) ++ codes ",\"name\":" ++ string_text (first_word (behind_word cause))
+
+-- the beginning of an object: the code and the name of the cause, the line's number through all files and the field that it is refused for;
+-- what is told of its place stands behind it
+unfoldable pub refused_object : ℕ → Cause → List ℕ
+refused_object line cause =
+    codes "{\"is\":\"refused\"," ++ cause_members (cause_text cause) ++ codes ",\"about\":{\"line\":" ++ decimal line
+    ++ codes ",\"field\":" ++ word_text (behind_word (behind_word (cause_text cause))) ++ codes "},\"records\":["
+
+-- the end of an object
+abbrev pub refused_end : List ℕ
+refused_end = codes "]}\n"
+
+-- columns, and what a line holds there
+abbrev pub columns_members : List ℕ → Range → List ℕ
+columns_members line columns =
+    codes ",\"columns\":[" ++ decimal columns.first ++ codes "," ++ decimal columns.last ++ codes "],\"bytes\":" ++ bytes_text (bytes_at line columns)
+
+-- the columns of the field that a line is refused for, if it is for one
+abbrev pub field_members : Layout → List ℕ → Cause → List ℕ
+field_members layout line cause = option_map_or (columns_members line) (columns_for layout line cause) []
+
+-- a file, one of its lines, and the columns of the field that it is refused for
+unfoldable pub place_object : Layout → List ℕ → ℕ → List ℕ → Cause → List ℕ
+place_object layout name number line cause =
+    codes "{\"file\":" ++ string_text name ++ codes ",\"line\":" ++ decimal number ++ field_members layout (content line) cause ++ codes "}"
