@@ -1,5 +1,5 @@
 -- The joined borders of all parts are the border of the joined map.
-use Rattle.std.proofs.Common.{◌≡◌, ◌≢◌, ◌⊎◌, inl, inr, ℕ, ◌<◌, Bool, true, false, ◌||◌, Some, None, List, [], length, get_or, slice_get, refl, sym, ap, subst, ◌∙◌, arith}
+use Rattle.std.proofs.Common.{◌≡◌, ℕ, ◌<◌, Bool, true, false, ◌||◌, Some, List, [], length, get_or, slice_get, refl, sym, ap, subst, ◌∙◌, arith}
 use Rattle.std.specs.Prelude.{◌==◌, if◌then◌else◌}
 use Rattle.std.proofs.lemmas.Bool.{false≢true, eqb-true, eq-eqb}
 use Rattle.std.proofs.lemmas.Option.{slice_get-get_or, slice_get_within}
@@ -7,9 +7,8 @@ use Rattle.tl_map_county.specs.declared.polygons.Polygon as polygons
 use Rattle.tl_map_county.specs.declared.sides.Side.{Side}
 use Rattle.tl_map_county.specs.declared.sides.Side.TheVariants.{Outside, Polygon}
 use Rattle.tl_map_county.specs.TheMap.{TheMap, MapChain}
-use Rattle.tl_check_planar.specs.Keeping.Apart.{one_found}
 use Rattle.tl_check_parts.specs.Told.{IsNamed, AreTold}
-use Rattle.tl_check_parts.specs.Homes.{Homes, is_of, is_blank, own, tells, name, are_of_one, is_border, IsOfParts, IsTold}
+use Rattle.tl_check_parts.specs.Homes.{Homes, is_of, is_blank, own, tells, name, is_border, IsOfParts, IsTold}
 use Rattle.tl_check_parts.specs.Joined.{IsJoined, IsBorder, IsPolygonOf, IsFromPart, IsPointOfPart}
 use Rattle.tl_check_parts.specs.Borders.{as_one, has_blank, IsFirstPoint, IsBorderOf, AreBordersOf, of_borders, AreRising}
 use Rattle.tl_check_parts.proofs.Told.{place, StandsAt, there, IsToldAs, told_as}

@@ -14,6 +14,7 @@ pub mod TrueSides
 pub mod Spokes
 pub mod Spots
 pub mod Darting
+pub mod Turning
 pub mod Sectors
 pub mod Cycles
 pub mod Closed

@@ -1,5 +1,5 @@
 -- Two lists of chains by rising TLID, of which each chain that is told has its own in the other, and each of the other has one.
-use Rattle.std.proofs.Common.{◌≡◌, ◌≢◌, ◌⊎◌, inl, inr, ⊎_elim, ℕ, zero, suc, ◌<◌, Bool, true, false, Some, List, [], ◌∷◌, slice_get, refl, sym, ap, subst, ◌∙◌, arith}
+use Rattle.std.proofs.Common.{◌≡◌, inl, inr, ⊎_elim, ℕ, zero, suc, ◌<◌, Bool, true, false, Some, List, [], ◌∷◌, slice_get, refl, sym, ap, subst, ◌∙◌, arith}
 use Rattle.std.proofs.lemmas.Bool.{false≢true, cases_order}
 use Rattle.tl_map_county.specs.declared.sides.Side.{Side}
 use Rattle.tl_map_county.specs.TheMap.{MapChain}
@@ -91,16 +91,25 @@ module _ (names : Side → Side) (told : MapChain → Bool) where
       go : (AllFound chains others → AllSources chains others → AreTold names told chains others) →
           (AllFound chains (o ∷ others) → AllSources chains (o ∷ others) → AreTold names told chains (o ∷ others)) →
           (b : Bool) → told c ≡ b → AreTold names told (c ∷ chains) (o ∷ others)
-      go both one true e = inl (e, (here, both
-          (λ d chain is t. found_rest o others chain (λ f. let k = past_first c chains rising d chain is in let g = here.tlid in omega (arith, k, f, g)) (found (suc d) chain is t))
-          (λ d other is. source_rest c chains other
-          (λ chain same t named.
-          let k = past_first o others rising' d other is in let g = here.tlid in let h = named.tlid in
-          let i : c.tlid ≡ chain.tlid = ap (λ (z : MapChain). z.tlid) same in omega (arith, k, g, h, i))
-          (sources (suc d) other is))))
+      go both one true e = inl (
+        e,
+        (
+          here,
+          both
+              (λ d chain is t. found_rest o others chain (λ f. let k = past_first c chains rising d chain is in let g = here.tlid in omega (arith, k, f, g)) (found (suc d) chain is t))
+              (λ d other is. source_rest c chains other
+              (λ chain same t named.
+              let k = past_first o others rising' d other is in let g = here.tlid in let h = named.tlid in
+              let i : c.tlid ≡ chain.tlid = ap (λ (z : MapChain). z.tlid) same in omega (arith, k, g, h, i))
+              (sources (suc d) other is)),
+        ),
+      )
         where
           here : IsNamed names c o
           here = first_is c o chains others rising rising' (found zero c refl e) (sources zero o refl)
-      go both one false e = inr (e, one
-          (λ d chain is t. found (suc d) chain is t)
-          (λ d other is. source_rest c chains other (λ chain same t named. false≢true (sym e ∙ ap told same ∙ t)) (sources d other is)))
+      go both one false e = inr (
+        e,
+        one
+            (λ d chain is t. found (suc d) chain is t)
+            (λ d other is. source_rest c chains other (λ chain same t named. false≢true (sym e ∙ ap told same ∙ t)) (sources d other is)),
+      )
