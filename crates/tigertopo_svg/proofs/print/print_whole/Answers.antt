@@ -10,5 +10,6 @@ returns g c =
     let m = c.args.map.now in
     let picture = c.args.picture in
     let faults = c.args.faults.now in
+    let circles = faults_part picture.frame faults c.args.places.now in
     as_text (both c.print_front.ensures c.print_back.ensures)
-    (seven_pieces (size_text picture.frame) style_text (chains_part picture m) (marks_part picture m) (faults_part picture.frame m faults) (key_part picture faults) (codes "</svg>\n"))
+    (seven_pieces (size_text picture.frame) style_text (chains_part picture m) (marks_part picture m) circles (key_part picture faults) (codes "</svg>\n"))
