@@ -130,11 +130,15 @@ def faulty(program, folder):
     draw(program, folder, b"drawn chains=5 faults=0\n", "--faults", COUNTY)
 
 
-def bounds(program, records):
-    """The least and the greatest longitude and latitude of the points of all chains, by `show`."""
+def chains_of(program, records):
+    """The points of each chain, by `show`."""
     _, out, _ = run(program, "show", records)
-    points = [tuple(map(int, it.split(","))) for line in out.decode().splitlines() if line.startswith("tlid") for it in line.split()[2:]]
-    xs, ys = zip(*points)
+    return [[tuple(map(int, it.split(","))) for it in line.split()[2:]] for line in out.decode().splitlines() if line.startswith("tlid")]
+
+
+def bounds(program, records):
+    """The least and the greatest longitude and latitude of the points of all chains."""
+    xs, ys = zip(*(point for points in chains_of(program, records) for point in points))
     return min(xs), min(ys), max(xs), max(ys)
 
 
@@ -244,7 +248,7 @@ def crowded(program, folder):
 
 
 def many(program, folder):
-    """Twenty squares in a row, each with its polygon's point just west of it: of so many faults the places are found by the keys."""
+    """Twenty squares in a row, each with its polygon's point just west of it: the places are found by the keys."""
     lines = []
     for k in range(20):
         west, east, own = 20 * k + 10, 20 * k + 20, f"A0001/{k + 1}"
@@ -256,6 +260,15 @@ def many(program, folder):
     # The squares reach from 10 to 400, and 390 are 9800 tenths of a pixel.
     want("circles", picture.circles, [((20 * k - 1) * 9800 // 390, 5 * 9800 // 390) for k in range(20)])
     want("titles", picture.titles, [f"G4 PointOutside polygon A0001/{k + 1}" for k in range(20)])
+
+
+def touched(program, folder):
+    """Of how many polygons points aren't looked at is said behind the line, in the words of `audit --all`."""
+    _, listed, _ = run(program, "audit", "--all", EXAMPLES / "faults" / "G2")
+    words = [line for line in listed.splitlines() if line.startswith(b"touched")]
+    want("what is touched", words, [b"touched polygons=1 not looked at"])
+    draw(program, folder, b"drawn chains=%d faults=2 %s\n" % (len(chains_of(program, EXAMPLES / "faults" / "G2")), words[0]), "--faults", EXAMPLES / "faults" / "G2")
+    draw(program, folder, b"drawn chains=%d\n" % len(chains_of(program, EXAMPLES / "faults" / "G2")), EXAMPLES / "faults" / "G2")
 
 
 def escaped(program, folder):
@@ -340,7 +353,7 @@ def browser():
 
 def play_all(program=PROGRAM):
     """How many pictures are as they have to be, and how many aren't."""
-    parts = [whole, part, crossing, at_the_border, centred, seen, thirds, shortened, scales, crowded, faulty, many, escaped, refused]
+    parts = [whole, part, crossing, at_the_border, centred, seen, thirds, shortened, scales, crowded, faulty, many, touched, escaped, refused]
     shows = browser()
     if shows:
         parts.append(lambda program, folder: shown(shows, program, folder))
