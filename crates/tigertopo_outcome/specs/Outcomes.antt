@@ -27,7 +27,7 @@ touched_behind touched = if touched == 0 then [] else codes " " ++ touched_words
 -- how many chains are shown, and where they are asked for, how many faults, and how many polygons are touched
 abbrev pub drawn_text : ℕ → Option ℕ → (touched : ℕ) → List ℕ
 drawn_text chains None touched = codes "drawn chains=" ++ decimal chains
-drawn_text chains (Some faults) touched = codes "drawn chains=" ++ decimal chains ++ codes " faults=" ++ decimal faults ++ touched_behind touched
+drawn_text chains (Some faults) touched = codes "drawn chains=" ++ (decimal chains ++ (codes " faults=" ++ (decimal faults ++ touched_behind touched)))
 
 -- the status of an export: that of a fault where the map isn't sound
 abbrev pub exported_status : Option ℕ → ℕ
