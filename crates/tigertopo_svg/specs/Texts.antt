@@ -120,10 +120,10 @@ size_text f =
     codes "<svg xmlns=\"http://www.w3.org/2000/svg\" class=\"tigertopo\" viewBox=\"-100 -600 " ++ decimal (reach_east f / side f + 200)
     ++ codes " " ++ decimal (reach_south f / side f + 700) ++ codes "\" style=\"width:100%;height:auto\">\n"
 
--- how each part is drawn: chains dark and thin, nodes black, polygons' points blue, faults red, on white; in a narrow window what is
--- written is twice as large, in a wide one smaller
+-- how each part is drawn: chains dark and thin, nodes black, polygons' points blue, faults red, on white, and of a polygon what lies in an odd
+-- number of its rings; in a narrow window what is written is twice as large, in a wide one smaller
 unfoldable pub style_text : List ℕ
-style_text = codes "<style>path,circle{fill:none;vector-effect:non-scaling-stroke;stroke-linecap:round;stroke-linejoin:round}text{font:130px sans-serif;fill:#333;stroke:#fff;stroke-width:25px;paint-order:stroke}.chains,.chain{stroke:#333;stroke-width:1}.nodes,.node{stroke:#000;stroke-width:3.2}.points,.point{stroke:#07c;stroke-width:4}.scale{stroke:#333;stroke-width:1.5}circle,.fault{stroke:#d00;stroke-width:2;fill:#d00;fill-opacity:.2}.code{fill:#a00}@media(max-width:700px){text{font-size:240px}circle{r:95px}}@media(min-width:1500px){text{font-size:90px}circle{r:45px}}</style>\n<rect x=\"-100\" y=\"-600\" width=\"100%\" height=\"100%\" fill=\"#fff\"/>\n"
+style_text = codes "<style>path,circle{fill:none;vector-effect:non-scaling-stroke;stroke-linecap:round;stroke-linejoin:round}text{font:130px sans-serif;fill:#333;stroke:#fff;stroke-width:25px;paint-order:stroke}.chains,.chain{stroke:#333;stroke-width:1}.nodes,.node{stroke:#000;stroke-width:3.2}.points,.point{stroke:#07c;stroke-width:4}.scale{stroke:#333;stroke-width:1.5}circle,.fault{stroke:#d00;stroke-width:2;fill:#d00;fill-opacity:.2}.code{fill:#a00}.polygons path{fill-rule:evenodd}@media(max-width:700px){text{font-size:240px}circle{r:95px}}@media(min-width:1500px){text{font-size:90px}circle{r:45px}}</style>\n<rect x=\"-100\" y=\"-600\" width=\"100%\" height=\"100%\" fill=\"#fff\"/>\n"
 
 -- the lines of chains
 unfoldable pub chains_part : Picture → TheMap → List ℕ
@@ -188,9 +188,3 @@ faults_key = codes "<path class=\"fault\" d=\"M4360 -430a60 60 0 1 0 120 0a60 60
 abbrev pub key_part : Picture → List MapFault → List ℕ
 key_part picture faults =
     chain_key ++ (if picture.is_marked then marks_key else []) ++ (if not (length faults == 0) then faults_key else []) ++ scale_part picture.frame
-
--- the picture of a map with these faults, which lie at these places
-unfoldable pub picture_text : TheMap → Picture → List MapFault → List (Option Rational) → List ℕ
-picture_text m picture faults places =
-    size_text picture.frame ++ style_text ++ chains_part picture m ++ marks_part picture m
-    ++ faults_part picture.frame faults places ++ key_part picture faults ++ codes "</svg>\n"

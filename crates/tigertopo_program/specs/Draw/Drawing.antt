@@ -13,12 +13,14 @@ use Rattle.tigertopo_files.specs.World.{World, Unmade}
 use Rattle.tl_cert_output.specs.Writing.{line_of}
 use Rattle.tigertopo_words.specs.declared.asked.View.{View}
 use Rattle.tl_check_verdict.specs.declared.fault.MapFault.{MapFault}
+use Rattle.tl_check_verdict.specs.Sound.{IsSound}
 use Rattle.tigertopo_faults.specs.Lines.Places.{fault_place}
 use Rattle.tigertopo_svg.specs.declared.frame.Frame.{Frame}
 use Rattle.tigertopo_svg.specs.declared.picture.Picture.{Picture}
 use Rattle.tigertopo_svg.specs.Frames.{fitted, frame_at}
 use Rattle.tigertopo_svg.specs.Pictures.{picture_of, chain_count, fault_count}
-use Rattle.tigertopo_svg.specs.Texts.{picture_text}
+use Rattle.tigertopo_svg.specs.Fills.{Filling, IsFillingOf}
+use Rattle.tigertopo_svg.specs.Whole.{picture_text}
 use Rattle.tigertopo_outcome.specs.declared.outcome.Drawn.{Drawn}
 use Rattle.tigertopo_outcome.specs.declared.outcome.Outcome.TheVariants.{Drawn as Drawing}
 use Rattle.tigertopo_outcome.specs.declared.said.Answer.{Answer}
@@ -41,9 +43,14 @@ picture_by view m = picture_of (frame_of view m) m
 abbrev pub places_of : TheMap → List MapFault → List (Option Rational)
 places_of m faults = map (fault_place (Some m)) faults
 
+-- by this the polygons of a sound map are filled, and nothing is of one that isn't sound
+abbrev pub IsFilled : TheMap → Option Filling → Type 0
+IsFilled m None = ¬ IsSound m
+IsFilled m (Some filling) = IsSound m × IsFillingOf m filling
+
 -- the picture of a map with these faults, each at its place
-abbrev pub picture_with : TheMap → Picture → List MapFault → List ℕ
-picture_with m picture faults = picture_text m picture faults (places_of m faults)
+abbrev pub picture_with : TheMap → Picture → Option Filling → List MapFault → List ℕ
+picture_with m picture filling faults = picture_text m picture filling faults (places_of m faults)
 
 -- the number of faults that are shown, where they are asked for
 abbrev pub shown_count : Bool → Frame → TheMap → List MapFault → Option ℕ
@@ -67,7 +74,9 @@ pub record Wanted : Type 0 where
 
 -- the picture of a map with these faults stands, and this is answered
 pub record IsDrawnOf (w : World) (wanted : Wanted) (subject : Subject) (answer : Answer Said) : Type 0 where
-  pub kept : StandsUnder w.after wanted.name (picture_with subject.map (picture_by wanted.view subject.map) subject.faults.items)
+  pub filling : Option Filling
+  pub filled : IsFilled subject.map filling
+  pub kept : StandsUnder w.after wanted.name (picture_with subject.map (picture_by wanted.view subject.map) filling subject.faults.items)
   pub is : answer ≡ answer_of (Drawing (drawn_of (picture_by wanted.view subject.map) wanted.shows subject))
 
 -- with the status 0 the line of what the picture shows: that of the map that the records draw, with the faults to show, which stands
@@ -76,7 +85,9 @@ pub record TellsDrawn (w : World) (options : Options) (known : Option (List ℕ)
   pub faults : List MapFault
   pub touched : ℕ
   pub drawn : IfSome known (λ held. IsReadFrom (records_of (layout_with options) held) map × AreToShow options.faces wanted.shows map faults touched)
-  pub kept : StandsUnder w.after wanted.name (picture_with map (picture_by wanted.view map) faults)
+  pub filling : Option Filling
+  pub filled : IsFilled map filling
+  pub kept : StandsUnder w.after wanted.name (picture_with map (picture_by wanted.view map) filling faults)
   pub is : status ≡ 0
   pub line : text ≡ line_of (drawn_text (chain_count (picture_by wanted.view map) map) (shown_count wanted.shows (picture_by wanted.view map).frame map faults) touched)
 
