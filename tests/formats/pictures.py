@@ -58,6 +58,9 @@ class Picture:
         want("its width", (root.get("width"), root.get("height"), root.get("style")), (None, None, "width:100%;height:auto"))
         self.box = tuple(map(int, root.get("viewBox").split()))
         self.paths = {path.get("class"): path.get("d") for path in root.iter(SVG + "path")}
+        groups = [it for it in root.iter(SVG + "g") if it.get("class") == "polygons"]
+        self.is_filled = len(groups) == 1 and list(root).index(groups[0]) < [it.get("class") for it in root].index("chains")
+        self.fills = [(it.get("style"), rings_of(it.get("d"))) for group in groups for it in group]
         self.circles = [(int(it.get("cx")), int(it.get("cy"))) for it in root.iter(SVG + "circle")]
         self.titles = [it.text.split("\n")[0] for it in root.iter(SVG + "title")]
         self.closer = [it.text.split("\n")[1:] for it in root.iter(SVG + "title")]
@@ -71,6 +74,29 @@ class Picture:
     def dots(self, path):
         """The places of the dots of a path."""
         return [(int(x), int(y)) for x, y in re.findall(r"M(-?\d+) (-?\d+)h0", self.paths[path])]
+
+
+def rings_of(steps):
+    """The rings of a path, each as its corners; a ring that isn't closed before its `z` is wrong."""
+    rings = []
+    for ring in re.findall(r"M[^Mz]*z", steps):
+        first, *others = [tuple(map(int, it)) for it in re.findall(r"[Ml](-?\d+) (-?\d+)", ring)]
+        corners = [first]
+        for dx, dy in others:
+            corners.append((corners[-1][0] + dx, corners[-1][1] + dy))
+        want("where a ring ends", corners[-1], first)
+        rings.append(corners)
+    want("what a path has beside rings", re.sub(r"M-?\d+ -?\d+(l-?\d+ -?\d+)*z", "", steps), "")
+    return rings
+
+
+def is_in(rings, x, y):
+    """Whether a place lies in an odd number of rings: each step that crosses the way from it to the east is counted."""
+    crossed = 0
+    for ring in rings:
+        for (x1, y1), (x2, y2) in zip(ring, ring[1:]):
+            crossed += (y1 > y) != (y2 > y) and x < x1 + Fraction((y - y1) * (x2 - x1), y2 - y1)
+    return crossed % 2 == 1
 
 
 def draw(program, folder, answer, *words):
@@ -130,11 +156,15 @@ def faulty(program, folder):
     draw(program, folder, b"drawn chains=5 faults=0\n", "--faults", COUNTY)
 
 
-def bounds(program, records):
-    """The least and the greatest longitude and latitude of the points of all chains, by `show`."""
+def chains_of(program, records):
+    """The points of each chain, by `show`."""
     _, out, _ = run(program, "show", records)
-    points = [tuple(map(int, it.split(","))) for line in out.decode().splitlines() if line.startswith("tlid") for it in line.split()[2:]]
-    xs, ys = zip(*points)
+    return [[tuple(map(int, it.split(","))) for it in line.split()[2:]] for line in out.decode().splitlines() if line.startswith("tlid")]
+
+
+def bounds(program, records):
+    """The least and the greatest longitude and latitude of the points of all chains."""
+    xs, ys = zip(*(point for points in chains_of(program, records) for point in points))
     return min(xs), min(ys), max(xs), max(ys)
 
 
@@ -244,7 +274,7 @@ def crowded(program, folder):
 
 
 def many(program, folder):
-    """Twenty squares in a row, each with its polygon's point just west of it: of so many faults the places are found by the keys."""
+    """Twenty squares in a row, each with its polygon's point just west of it: the places are found by the keys."""
     lines = []
     for k in range(20):
         west, east, own = 20 * k + 10, 20 * k + 20, f"A0001/{k + 1}"
@@ -256,6 +286,95 @@ def many(program, folder):
     # The squares reach from 10 to 400, and 390 are 9800 tenths of a pixel.
     want("circles", picture.circles, [((20 * k - 1) * 9800 // 390, 5 * 9800 // 390) for k in range(20)])
     want("titles", picture.titles, [f"G4 PointOutside polygon A0001/{k + 1}" for k in range(20)])
+
+
+def touched(program, folder):
+    """Of how many polygons points aren't looked at is said behind the line, in the words of `audit --all`."""
+    _, listed, _ = run(program, "audit", "--all", EXAMPLES / "faults" / "G2")
+    words = [line for line in listed.splitlines() if line.startswith(b"touched")]
+    want("what is touched", words, [b"touched polygons=1 not looked at"])
+    draw(program, folder, b"drawn chains=%d faults=2 %s\n" % (len(chains_of(program, EXAMPLES / "faults" / "G2")), words[0]), "--faults", EXAMPLES / "faults" / "G2")
+    draw(program, folder, b"drawn chains=%d\n" % len(chains_of(program, EXAMPLES / "faults" / "G2")), EXAMPLES / "faults" / "G2")
+
+
+def filled(program, folder):
+    """Of a sound map each polygon is filled below the chains: its point lies in its own fill, and in no other. What lies in a hole isn't."""
+    picture = draw(program, folder, b"drawn chains=5\n", COUNTY)
+    want("fills", (picture.is_filled, len(picture.fills), [len(rings) for _, rings in picture.fills]), (True, 3, [1, 2, 1]))
+    check_fills(picture)
+    # A street off by itself is a ring without an area, and a dead end is gone along both ways.
+    want("the corners of a ring", len(picture.fills[0][1][0]), 7)
+    # Nothing is filled of a map that isn't sound, whichever its fault, and of one whose faces alone disagree all is.
+    for faulty in sorted(it for it in (EXAMPLES / "faults").iterdir() if re.fullmatch("G[1-6]", it.name)):
+        for words in ([], ["--faults"]):
+            status, _, err = run(program, "draw", *words, *(["--zero-cells"] if faulty.name == "G6" else []), "--out", folder / "map.svg", faulty)
+            picture = Picture(folder / "map.svg")
+            want(f"fills of {faulty.name}", (status, err, picture.is_filled, picture.fills), (0, b"", False, []))
+    for words in ([], ["--faults"], ["--faults", "--faces"]):
+        run(program, "draw", *words, "--out", folder / "map.svg", EXAMPLES / "faults" / "G7")
+        picture = Picture(folder / "map.svg")
+        want("fills of faces that disagree", (picture.is_filled, len(picture.fills) > 0), (True, True))
+
+
+def check_fills(picture):
+    """Whether each polygon's point is in its own fill alone, and what has a step in common has different colours."""
+    points = picture.dots("points")
+    inside = [[k for k, (_, rings) in enumerate(picture.fills) if is_in(rings, Fraction(x), Fraction(2 * y + 1, 2))] for x, y in points]
+    want("in which fills polygons' points lie", inside, [[k] for k in range(len(points))])
+    sides = {}
+    for k, (_, rings) in enumerate(picture.fills):
+        for ring in rings:
+            for step in zip(ring, ring[1:]):
+                sides.setdefault(step, set()).add(k)
+    beside = {(k, other) for (a, b), own in sides.items() for k in own for other in sides.get((b, a), ()) if k != other}
+    want("neighbours of one colour", [(k, other) for k, other in beside if picture.fills[k][0] == picture.fills[other][0]], [])
+    return beside
+
+
+def grid(folder, across, order):
+    """A grid of squares, whose polygons have these numbers, row by row, and their points stand in this order."""
+    lines, number = [], 0
+    for x in range(across + 1):
+        for y in range(across + 1):
+            for dx, dy in ((1, 0), (0, 1)):
+                if x + dx > across or y + dy > across:
+                    continue
+                left, right = ((x, y), (x, y - 1)) if dx else ((x - 1, y), (x, y))
+                number += 1
+                lines.append(f"chain {number} {10 * x},{10 * y} {10 * (x + dx)},{10 * (y + dy)}")
+                lines.append(f"sides {number} " + " ".join(f"A0001/{i * across + j + 1}" if 0 <= i < across and 0 <= j < across else "-" for i, j in (left, right)))
+    lines += [f"point A0001/{k + 1} {10 * (k // across) + 5},{10 * (k % across) + 5}" for k in order]
+    return made(folder, *lines)
+
+
+def coloured(program, folder):
+    """Each polygon has the first colour that no neighbour before it has, in the order of the type P records, and colours turn on by 137
+    degrees. Places by which four squares touch make no neighbours."""
+    across = 5
+    for order in (range(25), [*range(0, 25, 2), *range(1, 25, 2)], sorted(range(25), key=lambda k: k * 7 % 25)):
+        order = list(order)
+        picture = draw(program, folder, b"drawn chains=60\n", grid(folder, across, order))
+        beside, colours = check_fills(picture), []
+        steps = [(k, other) for k in range(25) for other in range(25) if abs(order[k] // across - order[other] // across) + abs(order[k] % across - order[other] % across) == 1]
+        want("neighbours", sorted(beside), sorted(steps))
+        for k in range(25):
+            taken = {colours[other] for other in range(k) if (k, other) in beside}
+            colours.append(next(colour for colour in range(25) if colour not in taken))
+        want("colours", [style for style, _ in picture.fills], [f"fill:hsl({137 * colour % 360},70%,88%)" for colour in colours])
+    # Of a place that lies in one square that one is filled, and what touches the picture's border.
+    records = grid(folder, across, list(range(25)))
+    for at, width, count in (("@25,25", "2", 1), ("@20,25", "2", 2), ("@20,20", "2", 4), ("@-40,-40", "10", 0)):
+        run(program, "draw", "--out", folder / "map.svg", "--at", at, "--width", width, records)
+        want(f"squares about {at}", len(Picture(folder / "map.svg").fills), count)
+
+
+def thin(program, folder):
+    """A polygon that is a third of a pixel wide or high is filled, and one that is smaller isn't: of 29,400 millionths, 10 are a third."""
+    for wide, count in ((10, 2), (9, 1)):
+        lines = ["chain 1 0,0 0,0", "shape 1 1 29400,0 29400,29400 0,29400", "sides 1 A0001/1 -", "point A0001/1 20000,20000"]
+        lines += ["chain 2 500,500 500,500", f"shape 2 1 {500 + wide},500 {500 + wide},{500 + wide} 500,{500 + wide}", "sides 2 A0001/2 A0001/1", "point A0001/2 504,504"]
+        run(program, "draw", "--out", folder / "map.svg", made(folder, *lines))
+        want(f"fills of {wide}", len(Picture(folder / "map.svg").fills), count)
 
 
 def escaped(program, folder):
@@ -340,7 +459,7 @@ def browser():
 
 def play_all(program=PROGRAM):
     """How many pictures are as they have to be, and how many aren't."""
-    parts = [whole, part, crossing, at_the_border, centred, seen, thirds, shortened, scales, crowded, faulty, many, escaped, refused]
+    parts = [whole, part, crossing, at_the_border, centred, seen, thirds, shortened, scales, crowded, faulty, many, touched, filled, coloured, thin, escaped, refused]
     shows = browser()
     if shows:
         parts.append(lambda program, folder: shown(shows, program, folder))

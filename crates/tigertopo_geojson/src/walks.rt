@@ -31,8 +31,8 @@ pub fn walk_polygon(map: &Map, walk: &[u32]) -> Option<u32>
     polygon_of(map, map.dart_left(walk[0]))
 }
 
-// The polygon on a side of the map.
-fn polygon_of(map: &Map, side: Side) -> Option<u32>
+/// The polygon on a side of the map.
+pub fn polygon_of(map: &Map, side: Side) -> Option<u32>
     requires { IsSideAmong (length map.now.polygons) side }
     ensures polygon { result ≡ polygon_on (Some side) }
     ensures among { IfSome result (λ p. p < length map.now.polygons) }

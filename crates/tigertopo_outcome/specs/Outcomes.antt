@@ -1,10 +1,10 @@
 -- What is printed of what came of a command, and with which exit status: 0 where it is done, 1 where the map has a fault, 2 where the
 -- certificate has one, 3 where a record is refused, 4 where it stopped otherwise, and 64 where the words are no use of a command or no
 -- file may be made.
-use Rattle.std.specs.Prelude.{ℕ, List, ◌++◌, Option, Some, None, codes, decimal}
+use Rattle.std.specs.Prelude.{ℕ, ◌==◌, if◌then◌else◌, List, [], ◌++◌, Option, Some, None, codes, decimal}
 use Rattle.tl_check_verdict.specs.declared.verdict.Verdict.{Verdict as TheVerdict}
 use Rattle.tl_check_verdict.specs.declared.verdict.Verdict.TheVariants.{Sound, MapFault, CertFault}
-use Rattle.tl_check_verdict.specs.Messages.{report_text, map_fault_text, cert_fault_text}
+use Rattle.tl_check_verdict.specs.Messages.{report_text, map_fault_text, cert_fault_text, touched_words}
 use Rattle.tl_cert_output.specs.declared.stop.Stop.{Stop}
 use Rattle.tl_cert_output.specs.declared.stop.Stop.TheVariants.{Record, Memory, Device, Budget}
 use Rattle.tigertopo_outcome.specs.declared.outcome.Outcome.{Outcome}
@@ -20,10 +20,14 @@ exported_text chains polygons None = codes "exported chains=" ++ (decimal chains
 exported_text chains polygons (Some rings) =
     codes "exported chains=" ++ (decimal chains ++ (codes " polygons=" ++ (decimal polygons ++ (codes " rings=" ++ decimal rings))))
 
--- how many chains are shown, and how many faults, where they are asked for
-abbrev pub drawn_text : ℕ → Option ℕ → List ℕ
-drawn_text chains None = codes "drawn chains=" ++ decimal chains
-drawn_text chains (Some faults) = codes "drawn chains=" ++ decimal chains ++ codes " faults=" ++ decimal faults
+-- how many polygons of the map are touched, behind other words, where some are
+abbrev pub touched_behind : ℕ → List ℕ
+touched_behind touched = if touched == 0 then [] else codes " " ++ touched_words touched
+
+-- how many chains are shown, and where they are asked for, how many faults, and how many polygons are touched
+abbrev pub drawn_text : ℕ → Option ℕ → (touched : ℕ) → List ℕ
+drawn_text chains None touched = codes "drawn chains=" ++ decimal chains
+drawn_text chains (Some faults) touched = codes "drawn chains=" ++ (decimal chains ++ (codes " faults=" ++ (decimal faults ++ touched_behind touched)))
 
 -- the status of an export: that of a fault where the map isn't sound
 abbrev pub exported_status : Option ℕ → ℕ
@@ -48,7 +52,7 @@ outcome_text (Verdict verdict) = verdict_text verdict
 outcome_text (Built report) = codes "built " ++ report_text report
 outcome_text (Converted counts) = counts_text counts.nodes counts.rounds counts.walks
 outcome_text (Exported exported) = exported_text exported.chains exported.polygons exported.rings
-outcome_text (Drawn drawn) = drawn_text drawn.chains drawn.faults
+outcome_text (Drawn drawn) = drawn_text drawn.chains drawn.faults drawn.touched
 
 -- the status of an outcome
 abbrev pub outcome_status : Outcome → ℕ

@@ -35,11 +35,12 @@ pub struct Exported {
     pub rings: Option<u64>,
 }
 
-/// How many chains a picture shows, and how many faults, where they are asked for.
+/// How many chains a picture shows, and where they are asked for, how many faults, and how many polygons of the map are touched.
 #[derive(Clone, Copy)]
 pub struct Drawn {
     pub chains: u32,
     pub faults: Option<u64>,
+    pub touched: u64,
 }
 
 impl Outcome {
@@ -128,11 +129,16 @@ impl fmt::Display for Drawn {
     ghost use Rattle.std.specs.Prelude.{Some};
     ghost use Rattle.tigertopo_outcome.specs.Outcomes.{drawn_text};
 
-    ghost output = { λ drawn. Some (drawn_text drawn.chains drawn.faults) };
+    ghost output = { λ drawn. Some (drawn_text drawn.chains drawn.faults drawn.touched) };
 
     fn fmt<W: fmt::Write>(&self, f: &mut fmt::Formatter<W>) -> fmt::Result {
         match self.faults {
-            Some(faults) => write!(f, "drawn chains={} faults={faults}", self.chains),
+            Some(faults) if self.touched == 0 => write!(f, "drawn chains={} faults={faults}", self.chains),
+            Some(faults) => write!(
+                f,
+                "drawn chains={} faults={faults} touched polygons={} not looked at",
+                self.chains, self.touched
+            ),
             None => write!(f, "drawn chains={}", self.chains),
         }
     }

@@ -5,16 +5,12 @@ use Rattle.std.specs.Prelude.{Bool, true, false, if◌then◌else◌, cond, not,
 use Rattle.std.proofs.lemmas.List.{drop_more, at_drop_all}
 use Rattle.std.proofs.lemmas.Bool.Decides.{nat_tests}
 use Rattle.std.proofs.lemmas.Option.{slice_get_within, get_or_from_slice_get}
-use Rattle.std.specs.Map.{lookup}
 use Rattle.tl_geom.specs.declared.point.Point.{Point}
 use Rattle.tl_map_county.specs.declared.sides.Side.{Side}
 use Rattle.tl_map_county.specs.TheMap.{MapChain, IsChain}
 use Rattle.tigertopo_svg.specs.declared.frame.Frame.{Frame}
 use Rattle.tigertopo_svg.specs.declared.walk.Stroke.{Stroke}
 use Rattle.tigertopo_svg.specs.Frames.{is_seen}
-use Rattle.tl_record_key.specs.declared.key.PolyKey.{PolyKey}
-use Rattle.tl_map_county.specs.declared.polygons.Polygon.{Polygon}
-use Rattle.tigertopo_svg.specs.Pictures.{is_key, point_of_key}
 use Rattle.tigertopo_svg.specs.Strokes.{is_passed, strokes_from, chain_strokes, Drawing, drawings, is_shown}
 
 -- a list from the place of one of it on
@@ -69,43 +65,6 @@ fold_next g xs n x count next whole is same before =
 
 pub fold_end : {A : Type 0} (g : ℕ → A → ℕ) (xs : List A) (n count whole : ℕ) → length xs ≤ n → fold g count (drop n xs) ≡ whole → count ≡ whole
 fold_end g xs n count whole past before = sym (at_drop_all (fold g count) xs n past) ∙ before
-
--- ---- the point of a key
-
--- the first polygon from a place on has the key
-pub found_here : (polygons : List Polygon) (n : ℕ) (polygon : Polygon) (key : PolyKey) → slice_get polygons n ≡ Some polygon → is_key polygon.key key ≡ true
-    → point_of_key (drop n polygons) key ≡ point_of_key polygons key → Some polygon.point ≡ point_of_key polygons key
-found_here polygons n polygon key is same before =
-    sym (ap (λ b. if b then Some polygon.point else point_of_key (drop (n + 1) polygons) key) same)
-    ∙ sym (ap (λ ps. point_of_key ps key) (from_place polygons n polygon is)) ∙ before
-
--- it hasn't
-pub found_behind : (polygons : List Polygon) (n : ℕ) (polygon : Polygon) (key : PolyKey) → slice_get polygons n ≡ Some polygon → is_key polygon.key key ≡ false
-    → point_of_key (drop n polygons) key ≡ point_of_key polygons key → point_of_key (drop (n + 1) polygons) key ≡ point_of_key polygons key
-found_behind polygons n polygon key is same before =
-    sym (ap (λ b. if b then Some polygon.point else point_of_key (drop (n + 1) polygons) key) same)
-    ∙ sym (ap (λ ps. point_of_key ps key) (from_place polygons n polygon is)) ∙ before
-
--- ---- points by their keys, from the last polygon to the first
-
--- before the first, the index has nothing
-pub keyed_none : (polygons : List Polygon) (entries : List (PolyKey × Point)) (n : ℕ) → entries ≡ [] → length polygons ≤ n
-    → (key : PolyKey) → lookup (is_key key) entries ≡ point_of_key (drop n polygons) key
-keyed_none polygons entries n none past key = ap (lookup (is_key key)) none ∙ sym (at_drop_all (λ ps. point_of_key ps key) polygons n past)
-
--- one more stands in the stead of those behind it with the same key
-pub keyed_more : (polygons : List Polygon) (old new : List (PolyKey × Point)) (n m : ℕ) (polygon : Polygon) → n + 1 ≡ m → slice_get polygons n ≡ Some polygon
-    → ((key : PolyKey) → lookup (is_key key) old ≡ point_of_key (drop m polygons) key)
-    → ((key : PolyKey) → lookup (is_key key) new ≡ cond (is_key polygon.key key) (Some polygon.point) (lookup (is_key key) old))
-    → (key : PolyKey) → lookup (is_key key) new ≡ point_of_key (drop n polygons) key
-keyed_more polygons old new n m polygon next is before more key =
-    more key ∙ ap (λ o. if is_key polygon.key key then Some polygon.point else o) (before key ∙ ap (λ k. point_of_key (drop k polygons) key) (sym next))
-    ∙ sym (ap (λ ps. point_of_key ps key) (from_place polygons n polygon is))
-
--- all are there
-pub keyed_all : (polygons : List Polygon) (entries : List (PolyKey × Point)) (n : ℕ) → n ≤ 0
-    → ((key : PolyKey) → lookup (is_key key) entries ≡ point_of_key (drop n polygons) key) → (key : PolyKey) → lookup (is_key key) entries ≡ point_of_key polygons key
-keyed_all polygons entries n first before key = before key ∙ ap (λ k. point_of_key (drop k polygons) key) (let e : n ≡ 0 = omega arith in e)
 
 -- ---- one where it is so
 

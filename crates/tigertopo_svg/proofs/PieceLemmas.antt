@@ -37,5 +37,5 @@ flat_next f xs i d within = ap (flat_map f) (drop_more xs i d within)
 pub flat_end : {A : Type 0} (f : A → List ℕ) (xs : List A) (i : ℕ) → length xs ≤ i → flat_map f (drop i xs) ≡ []
 flat_end f xs i past = ap (flat_map f) (drop_all i xs past)
 
-pub seven_pieces : (a b c d e f g : List ℕ) → (a ++ b ++ c) ++ (d ++ e ++ f ++ g) ≡ a ++ b ++ c ++ d ++ e ++ f ++ g
-seven_pieces a b c d e f g = simp append_assoc
+pub eight_pieces : (a b c d e f g h : List ℕ) → (a ++ b ++ c ++ d) ++ (e ++ f ++ g ++ h) ≡ a ++ b ++ c ++ d ++ e ++ f ++ g ++ h
+eight_pieces a b c d e f g h = simp append_assoc

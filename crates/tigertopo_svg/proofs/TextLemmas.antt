@@ -1,15 +1,19 @@
 -- Parts of a picture's text.
-use Rattle.std.proofs.Common.{◌≡◌, ℕ, ℤ, pos, ◌+ℤ◌, List, [], ◌++◌, ◌-◌, ◌<◌, length, get_or, codes, true, false, refl, sym, ap, ap₂, ◌∙◌, arith}
-use Rattle.std.specs.Prelude.{◌-ℤ◌, ◌==◌, decimal, not, if◌then◌else◌}
+use Rattle.std.proofs.Common.{◌≡◌, ℕ, ℤ, pos, ◌+ℤ◌, List, [], ◌++◌, ◌+◌, ◌-◌, ◌<◌, ◌≤◌, length, drop, Some, get_or, codes, true, false, refl, sym, ap, ap₂, ◌∙◌, arith}
+use Rattle.std.specs.Prelude.{◌-ℤ◌, ◌==◌, decimal, not, if◌then◌else◌, Option, slice_get, flat_map, zip}
+use Rattle.std.proofs.lemmas.List.{drop_all}
 use Rattle.std.specs.Option.{option_map_or}
 use Rattle.std.proofs.lemmas.Option.{slice_get-get_or}
 use Rattle.std.specs.Fmt.{signed_decimal}
 use Rattle.tl_geom.specs.declared.point.Point.{Point}
+use Rattle.tl_geom.specs.declared.rational.Rational.{Rational}
+use Rattle.tl_check_verdict.specs.declared.fault.MapFault.{MapFault}
+use Rattle.tigertopo_svg.proofs.DrawingLemmas.{from_place}
 use Rattle.tigertopo_svg.specs.declared.frame.Frame.{Frame}
 use Rattle.tigertopo_svg.specs.declared.frame.Spot.{Spot}
 use Rattle.tigertopo_svg.specs.declared.walk.Stroke.{Stroke}
 use Rattle.tigertopo_svg.specs.Frames.{spot_of, is_inside}
-use Rattle.tigertopo_svg.specs.Texts.{move_text, start_text, stroke_text, dot_text, dot_at, ends_text, circle_head, closer, closer_text, east_label, west_label}
+use Rattle.tigertopo_svg.specs.Texts.{move_text, start_text, stroke_text, dot_text, dot_at, ends_text, circle_head, closer, closer_text, east_label, west_label, fault_text, faults_part}
 
 -- a stroke that is put together
 pub stroke_parts : (s : Stroke) (start one two : List ℕ) (x y : ℤ) → start ≡ start_text s → one ≡ start ++ codes "l" ++ signed_decimal x → two ≡ one ++ codes " " ++ signed_decimal y
@@ -62,3 +66,17 @@ pub west_parts : (s : Spot) (x y : ℤ) (one two three : List ℕ) → one ≡ c
     → three ≡ two ++ codes "\">" → x ≡ s.x -ℤ pos 80 → y ≡ s.y +ℤ pos 45 → three ≡ west_label s
 unfolding west_label
 west_parts s x y one two three first second third west south = rw (third, second, first, west, south) refl
+
+-- the circle of a fault before those of the faults behind it
+pub faults_next : (f : Frame) (faults : List MapFault) (places : List (Option Rational)) (n : ℕ) (fault : MapFault) (place : Option Rational)
+    → slice_get faults n ≡ Some fault → slice_get places n ≡ Some place
+    → faults_part f (drop n faults) (drop n places) ≡ fault_text f fault place ++ faults_part f (drop (n + 1) faults) (drop (n + 1) places)
+unfolding faults_part
+faults_next f faults places n fault place is there =
+    ap₂ (λ xs ys. flat_map (λ (it : MapFault × Option Rational). fault_text f it.0 it.1) (zip xs ys)) (from_place faults n fault is) (from_place places n place there)
+
+-- no circle is behind the last
+pub faults_end : (f : Frame) (faults : List MapFault) (places : List (Option Rational)) (n : ℕ) → length faults ≤ n → faults_part f (drop n faults) (drop n places) ≡ []
+unfolding faults_part
+faults_end f faults places n past =
+    ap (λ xs. flat_map (λ (it : MapFault × Option Rational). fault_text f it.0 it.1) (zip xs (drop n places))) (drop_all n faults past)

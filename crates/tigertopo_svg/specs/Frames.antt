@@ -80,6 +80,10 @@ is_held f at = are_across f at at
 abbrev pub is_inside : Frame → Point → Bool
 is_inside f p = is_held f (position f p)
 
+-- do a rectangle and the picture meet
+abbrev pub meets : Frame → Rect → Bool
+meets f r = are_across f (position f (record { x = r.xmin; y = r.ymin })) (position f (record { x = r.xmax; y = r.ymax }))
+
 -- on which side of the line through two points a position lies: on it where this is 0
 abbrev pub lean : Frame → Point → Point → (x y : ℤ) → ℤ
 lean f p q x y =

@@ -3,3 +3,6 @@ pub mod Frames
 pub mod Strokes
 pub mod Pictures
 pub mod Texts
+pub mod Colours
+pub mod Fills
+pub mod Whole

@@ -1,8 +1,9 @@
 -- The text of a picture.
-use Rattle.std.specs.Prelude.{ℕ, ◌+◌, ◌*◌, ◌/◌, max, ◌==◌, nat_le, Bool, int_lt, ℤ, pos, ◌+ℤ◌, ◌-ℤ◌, if◌then◌else◌, not, List, [], ◌∷◌, ◌++◌, codes, decimal, take, drop, flat_map, slice_get, length, ◌-◌}
+use Rattle.std.specs.Prelude.{ℕ, ◌+◌, ◌*◌, ◌/◌, max, ◌==◌, nat_le, Bool, int_lt, ℤ, pos, ◌+ℤ◌, ◌-ℤ◌, if◌then◌else◌, not, List, [], ◌∷◌, ◌++◌, codes, decimal, Option, take, drop, flat_map, zip, slice_get, length, ◌-◌}
 use Rattle.std.specs.Option.{option_map_or}
 use Rattle.std.specs.Fmt.{signed_decimal}
 use Rattle.tl_geom.specs.declared.point.Point.{Point}
+use Rattle.tl_geom.specs.declared.rational.Rational.{Rational}
 use Rattle.tl_map_county.specs.declared.polygons.Polygon.{Polygon}
 use Rattle.tl_map_county.specs.TheMap.{TheMap}
 use Rattle.tl_check_verdict.specs.declared.fault.MapFault.{MapFault}
@@ -14,7 +15,7 @@ use Rattle.tigertopo_svg.specs.declared.picture.Picture.{Picture}
 use Rattle.tigertopo_svg.specs.declared.places.Mark.{Mark}
 use Rattle.tigertopo_svg.specs.Frames.{side, spot_at, spot_of, reach_east, reach_south, is_inside}
 use Rattle.tigertopo_svg.specs.Strokes.{Drawing, is_shown}
-use Rattle.tigertopo_svg.specs.Pictures.{drawn, fault_mark, is_mark_held}
+use Rattle.tigertopo_svg.specs.Pictures.{drawn, mark_if, is_mark_held}
 
 -- two numbers behind a text, with a blank between them
 abbrev pub pair_text : List ℕ → ℤ → ℤ → List ℕ
@@ -109,9 +110,9 @@ circle_text f mark fault =
 abbrev pub circle_at : Frame → MapFault → Mark → List ℕ
 circle_at f fault mark = if is_mark_held f mark then circle_text f mark fault else []
 
--- the same of a fault of a map
-abbrev pub fault_text : Frame → TheMap → MapFault → List ℕ
-fault_text f m fault = option_map_or (circle_at f fault) (fault_mark f m fault) []
+-- the same of a fault that lies there, if it has a place
+abbrev pub fault_text : Frame → MapFault → Option Rational → List ℕ
+fault_text f fault place = option_map_or (circle_at f fault) (mark_if f place) []
 
 -- how the file begins: what it shows, in tenths of a pixel, as wide as the window. Above the map are fifty pixels for what its marks mean
 unfoldable pub size_text : Frame → List ℕ
@@ -119,10 +120,10 @@ size_text f =
     codes "<svg xmlns=\"http://www.w3.org/2000/svg\" class=\"tigertopo\" viewBox=\"-100 -600 " ++ decimal (reach_east f / side f + 200)
     ++ codes " " ++ decimal (reach_south f / side f + 700) ++ codes "\" style=\"width:100%;height:auto\">\n"
 
--- how each part is drawn: chains dark and thin, nodes black, polygons' points blue, faults red, on white; in a narrow window what is
--- written is twice as large, in a wide one smaller
+-- how each part is drawn: chains dark and thin, nodes black, polygons' points blue, faults red, on white, and of a polygon what lies in an odd
+-- number of its rings; in a narrow window what is written is twice as large, in a wide one smaller
 unfoldable pub style_text : List ℕ
-style_text = codes "<style>path,circle{fill:none;vector-effect:non-scaling-stroke;stroke-linecap:round;stroke-linejoin:round}text{font:130px sans-serif;fill:#333;stroke:#fff;stroke-width:25px;paint-order:stroke}.chains,.chain{stroke:#333;stroke-width:1}.nodes,.node{stroke:#000;stroke-width:3.2}.points,.point{stroke:#07c;stroke-width:4}.scale{stroke:#333;stroke-width:1.5}circle,.fault{stroke:#d00;stroke-width:2;fill:#d00;fill-opacity:.2}.code{fill:#a00}@media(max-width:700px){text{font-size:240px}circle{r:95px}}@media(min-width:1500px){text{font-size:90px}circle{r:45px}}</style>\n<rect x=\"-100\" y=\"-600\" width=\"100%\" height=\"100%\" fill=\"#fff\"/>\n"
+style_text = codes "<style>path,circle{fill:none;vector-effect:non-scaling-stroke;stroke-linecap:round;stroke-linejoin:round}text{font:130px sans-serif;fill:#333;stroke:#fff;stroke-width:25px;paint-order:stroke}.chains,.chain{stroke:#333;stroke-width:1}.nodes,.node{stroke:#000;stroke-width:3.2}.points,.point{stroke:#07c;stroke-width:4}.scale{stroke:#333;stroke-width:1.5}circle,.fault{stroke:#d00;stroke-width:2;fill:#d00;fill-opacity:.2}.code{fill:#a00}.polygons path{fill-rule:evenodd}@media(max-width:700px){text{font-size:240px}circle{r:95px}}@media(min-width:1500px){text{font-size:90px}circle{r:45px}}</style>\n<rect x=\"-100\" y=\"-600\" width=\"100%\" height=\"100%\" fill=\"#fff\"/>\n"
 
 -- the lines of chains
 unfoldable pub chains_part : Picture → TheMap → List ℕ
@@ -139,9 +140,9 @@ points_part f m = codes "<path class=\"points\" d=\"" ++ flat_map (polygon_text 
 unfoldable pub marks_part : Picture → TheMap → List ℕ
 marks_part picture m = if picture.is_marked then nodes_part picture m ++ points_part picture.frame m else []
 
--- the circles of faults
-unfoldable pub faults_part : Frame → TheMap → List MapFault → List ℕ
-faults_part f m faults = flat_map (fault_text f m) faults
+-- the circles of faults, each at its place
+unfoldable pub faults_part : Frame → List MapFault → List (Option Rational) → List ℕ
+faults_part f faults places = flat_map (λ (it : MapFault × Option Rational). fault_text f it.0 it.1) (zip faults places)
 
 -- how long the line may be that shows a scale, in hundredths of a metre
 unfoldable pub scales : List ℕ
@@ -187,9 +188,3 @@ faults_key = codes "<path class=\"fault\" d=\"M4360 -430a60 60 0 1 0 120 0a60 60
 abbrev pub key_part : Picture → List MapFault → List ℕ
 key_part picture faults =
     chain_key ++ (if picture.is_marked then marks_key else []) ++ (if not (length faults == 0) then faults_key else []) ++ scale_part picture.frame
-
--- the picture of a map with these faults
-unfoldable pub picture_text : TheMap → Picture → List MapFault → List ℕ
-picture_text m picture faults =
-    size_text picture.frame ++ style_text ++ chains_part picture m ++ marks_part picture m
-    ++ faults_part picture.frame m faults ++ key_part picture faults ++ codes "</svg>\n"

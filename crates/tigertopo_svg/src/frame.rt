@@ -4,7 +4,7 @@ ghost use Rattle.std.specs.Prelude.{◌≡◌, ◌*◌, ◌<◌, ◌≤◌, ◌^
 ghost use Rattle.tigertopo_svg.specs.Frames.{cosine, breadth, height, side, way, position, spot_at};
 ghost use Rattle.tigertopo_svg.specs.Frames.{spot_of, east, south, reach_east, reach_south, first_corner, last_corner};
 ghost use Rattle.tigertopo_svg.specs.Frames.{is_across, are_across, is_held, is_inside, is_beside, is_seen};
-ghost use Rattle.tigertopo_svg.specs.Frames.{is_tiny, is_near, is_small, frame_about, fitted, frame_at};
+ghost use Rattle.tigertopo_svg.specs.Frames.{meets, is_tiny, is_near, is_small, frame_about, fitted, frame_at};
 
 use crate::bounds::bounds_of;
 use crate::lean::is_beside;
@@ -212,6 +212,21 @@ impl Frame {
         ensures { result ≡ is_seen self p q }
     {
         self.has_inside(p) || self.has_inside(q) || self.is_crossed(p, q)
+    }
+
+    /// Whether a rectangle and the picture meet.
+    pub fn meets(self, rect: Rect) -> bool
+        ensures { result ≡ meets self rect }
+    {
+        let first = Point {
+            x: rect.xmin,
+            y: rect.ymin,
+        };
+        let last = Point {
+            x: rect.xmax,
+            y: rect.ymax,
+        };
+        self.are_across(self.position(first), self.position(last))
     }
 
     // Whether one whose ends lie outside has.

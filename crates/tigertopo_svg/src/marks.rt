@@ -5,19 +5,18 @@ ghost use Rattle.tl_cert_output.specs.Writing.{line_of};
 ghost use Rattle.tl_cert_output.specs.Printing.{Prints};
 ghost use Rattle.tigertopo_svg.specs.Frames.{spot_at};
 ghost use Rattle.tigertopo_svg.specs.Strokes.{strokes_left};
-ghost use Rattle.tigertopo_svg.specs.Pictures.{drawn, ArePointsOf};
+ghost use Rattle.tigertopo_svg.specs.Pictures.{drawn};
 ghost use Rattle.tigertopo_svg.specs.Texts.{dot_text, ends_text, polygon_text, escaped_byte, circle_text, circle_at, fault_text, faults_part};
 
 use crate::chains::walk_along;
 use crate::frame::Frame;
-use crate::keyed::KeyedPoints;
 use crate::picture::Picture;
-use crate::places::{Mark, fault_mark};
+use crate::places::{Mark, mark_if};
 use crate::text::{circle_head, closer_text, dot_text, label_head};
 use crate::walk::Walk;
 use tl_cert_output::Printer;
 use tl_check_verdict::MapFault;
-use tl_geom::Point;
+use tl_geom::{Point, Rational};
 use tl_list_text::fault_line;
 use tl_map_county::Map;
 use tl_record::Sink;
@@ -70,38 +69,35 @@ pub fn print_points<S: Sink>(map: &Map, frame: Frame, printer: &mut Printer, out
     }
 }
 
-/// Prints the circles of the faults that lie in the picture.
+/// Prints the circles of the faults that lie in the picture, each at its place.
 pub fn print_faults<S: Sink>(
-    map: &Map,
     frame: Frame,
-    points: &KeyedPoints,
     faults: &[MapFault],
+    places: &[Option<Rational>],
     printer: &mut Printer,
     out: &mut S,
 )
-    requires { ArePointsOf map.now.polygons points.now }
+    requires { length places.now ≡ length faults.now }
     ensures { Prints S.contents S.failure_count (out.old, printer.old) (out.new, printer.new)
-        (faults_part frame map.now faults.now) }
+        (faults_part frame faults.now places.now) }
 {
-    for fault in faults {
-        print_fault(map, frame, points, fault, printer, out);
+    for number in 0..faults.len() {
+        print_fault(frame, &faults[number], places[number], printer, out);
     }
 }
 
-// Prints the circle of a fault, where it lies in the picture.
+// Prints the circle of a fault that lies there, where that is in the picture.
 fn print_fault<S: Sink>(
-    map: &Map,
     frame: Frame,
-    points: &KeyedPoints,
     fault: &MapFault,
+    place: Option<Rational>,
     printer: &mut Printer,
     out: &mut S,
 )
-    requires { ArePointsOf map.now.polygons points.now }
     ensures { Prints S.contents S.failure_count (out.old, printer.old) (out.new, printer.new)
-        (fault_text frame map.now fault.now) }
+        (fault_text frame fault.now place) }
 {
-    match fault_mark(frame, map, points, fault) {
+    match mark_if(frame, place) {
         Some(mark) => print_circle_at(frame, fault, mark, printer, out),
         None => {}
     }

@@ -1,13 +1,12 @@
 //! How a map is drawn.
 
 ghost use Rattle.std.specs.Prelude.{◌≡◌, nat_le};
-ghost use Rattle.tigertopo_svg.specs.Pictures.{stroke_count, point_count, is_marked, picture_of, chain_count, fault_count, ArePointsOf};
+ghost use Rattle.tigertopo_svg.specs.Pictures.{stroke_count, point_count, is_marked, picture_of, chain_count, fault_count};
 
 use crate::chains::{count_strokes, walk_along};
 use crate::frame::Frame;
-use crate::keyed::KeyedPoints;
-use crate::places::is_fault_inside;
-use tl_check_verdict::MapFault;
+use crate::places::is_place_inside;
+use tl_geom::Rational;
 use tl_map_county::Map;
 
 // How many strokes, and how many polygons' points, a picture has at most in which nodes and polygons' points are marked.
@@ -76,14 +75,13 @@ pub fn chain_count(picture: Picture, map: &Map) -> u32
     count
 }
 
-/// How many of these faults the picture shows.
-pub fn fault_count(frame: Frame, map: &Map, points: &KeyedPoints, faults: &[MapFault]) -> u64
-    requires { ArePointsOf map.now.polygons points.now }
-    ensures { result ≡ fault_count frame map.now faults.now }
+/// How many faults the picture shows, of which these are the places.
+pub fn fault_count(frame: Frame, places: &[Option<Rational>]) -> u64
+    ensures { result ≡ fault_count frame places.now }
 {
     let mut count = 0;
-    for fault in faults {
-        count += u64::from(is_fault_inside(frame, map, points, fault));
+    for place in places {
+        count += u64::from(is_place_inside(frame, *place));
     }
     count
 }

@@ -1,19 +1,11 @@
-//! Where faults lie.
+//! Where faults lie in a picture.
 
-ghost use Rattle.std.specs.Prelude.{◌≡◌, ◌<◌, ◌≤◌, ◌^◌, ◌*◌, pos, ◌+ℤ◌, ◌-ℤ◌, ◌<ℤ◌, option_map, unsigned_abs};
-ghost use Rattle.tl_geom.specs.Plane.{whole};
-ghost use Rattle.tl_map_county.specs.Darts.{dart_start};
-ghost use Rattle.tigertopo_svg.specs.Pictures.{coordinate, floor_of, polygon_of, place_of, part_of, beyond};
-ghost use Rattle.tigertopo_svg.specs.Pictures.{beyond_up, mark_at, mark_of, fault_mark, is_fault_inside, ArePointsOf};
+ghost use Rattle.std.specs.Prelude.{◌≡◌, ◌<◌, ◌≤◌, ◌^◌, ◌*◌, pos, ◌+ℤ◌, ◌-ℤ◌, ◌<ℤ◌, unsigned_abs};
+ghost use Rattle.tigertopo_svg.specs.Pictures.{coordinate, floor_of, part_of, beyond, beyond_up, mark_at, mark_of, mark_if};
+ghost use Rattle.tigertopo_svg.specs.Pictures.{is_place_inside};
 
 use crate::frame::{Frame, Position};
-use crate::keyed::KeyedPoints;
-use tl_check_faces::FaceFault;
-use tl_check_inside::Misplaced;
-use tl_check_verdict::MapFault;
 use tl_geom::{Point, Rational};
-use tl_map_county::Map;
-use tl_record_key::PolyKey;
 
 // The denominators of places that are drawn are below this, as those of all crossings of two segments are.
 const REACH: u128 = 1 << 96;
@@ -25,62 +17,23 @@ pub struct Mark {
     pub at: Position,
 }
 
-/// Whether a fault lies in the picture.
-pub fn is_fault_inside(frame: Frame, map: &Map, points: &KeyedPoints, fault: &MapFault) -> bool
-    requires { ArePointsOf map.now.polygons points.now }
-    ensures { result ≡ is_fault_inside frame map.now fault.now }
+/// Whether a place lies in the picture, if there is one.
+pub fn is_place_inside(frame: Frame, place: Option<Rational>) -> bool
+    ensures { result ≡ is_place_inside frame place }
 {
-    match fault_mark(frame, map, points, fault) {
+    match mark_if(frame, place) {
         Some(mark) => frame.holds(mark.at),
         None => false,
     }
 }
 
-/// Where a fault of a map lies in a picture.
-pub fn fault_mark(frame: Frame, map: &Map, points: &KeyedPoints, fault: &MapFault) -> Option<Mark>
-    requires { ArePointsOf map.now.polygons points.now }
-    ensures { result ≡ fault_mark frame map.now fault.now }
+/// Where a place lies in a picture, if there is one.
+pub fn mark_if(frame: Frame, place: Option<Rational>) -> Option<Mark>
+    ensures { result ≡ mark_if frame place }
 {
-    match place_of(map, points, fault) {
+    match place {
         Some(place) => mark_of(frame, place),
         None => None,
-    }
-}
-
-// Where a fault of a map lies.
-fn place_of(map: &Map, points: &KeyedPoints, fault: &MapFault) -> Option<Rational>
-    requires { ArePointsOf map.now.polygons points.now }
-    ensures { result ≡ place_of map.now fault.now }
-{
-    match fault {
-        MapFault::Records(_) => None,
-        MapFault::Meet(meet) => Some(meet.at),
-        MapFault::Side { node, .. } => Some(Rational::from(*node)),
-        MapFault::PolygonPoint(misplaced) => whole(points.find(map, polygon_of(*misplaced))),
-        MapFault::Cell(odds) => whole(start_of(map, odds.first)),
-        MapFault::Face(FaceFault::Facing { first, .. }) => Some(first.at),
-        MapFault::Face(FaceFault::Outward { face, .. }) => Some(face.at),
-    }
-}
-
-// A point, if there is one, as a place.
-fn whole(point: Option<Point>) -> Option<Rational>
-    ensures { result ≡ option_map whole point }
-{
-    match point {
-        Some(point) => Some(Rational::from(point)),
-        None => None,
-    }
-}
-
-// The point where a dart starts, where the map has the dart.
-fn start_of(map: &Map, dart: u32) -> Option<Point>
-    ensures { result ≡ dart_start map.now.chains dart }
-{
-    if dart < map.darts() {
-        Some(map.dart_start(dart))
-    } else {
-        None
     }
 }
 
@@ -190,16 +143,5 @@ fn coordinate(z: i128) -> Option<i32>
         Some(z as i32)
     } else {
         None
-    }
-}
-
-// The polygon whose point lies wrong.
-fn polygon_of(misplaced: Misplaced) -> PolyKey
-    ensures { result ≡ polygon_of misplaced }
-{
-    match misplaced {
-        Misplaced::OnChain { polygon, .. }
-        | Misplaced::Outside { polygon }
-        | Misplaced::InOther { polygon, .. } => polygon,
     }
 }

@@ -1,24 +1,28 @@
 //! Pictures on their way out.
 
-ghost use Rattle.std.specs.Prelude.{◌≡◌, ◌++◌, IfErr, codes, flat_map};
+ghost use Rattle.std.specs.Prelude.{◌≡◌, ◌++◌, IfErr, IfSome, codes, flat_map, length, option_map};
 ghost use Rattle.tl_cert_output.specs.declared.stop.Stop.TheVariants.{Device};
 ghost use Rattle.tl_cert_output.specs.Printing.{Prints};
 ghost use Rattle.tl_cert_output.specs.Texts.{PrintsText};
 ghost use Rattle.tigertopo_svg.specs.Strokes.{strokes_left};
-ghost use Rattle.tigertopo_svg.specs.Pictures.{drawn, ArePointsOf};
-ghost use Rattle.tigertopo_svg.specs.Texts.{stroke_text, drawing_text, size_text, style_text, picture_text};
+ghost use Rattle.tigertopo_svg.specs.Pictures.{drawn};
+ghost use Rattle.tigertopo_svg.specs.Texts.{stroke_text, drawing_text, size_text, style_text};
 ghost use Rattle.tigertopo_svg.specs.Texts.{chains_part, nodes_part, points_part, marks_part, faults_part, key_part};
+ghost use Rattle.tigertopo_svg.specs.Fills.{AreFillsOf, fills_part};
+ghost use Rattle.tigertopo_svg.specs.Whole.{picture_text};
 
 use crate::chains::walk_along;
+use crate::filled::print_fills;
+use crate::fills::Fills;
 use crate::frame::Frame;
 use crate::key::print_key;
-use crate::keyed::KeyedPoints;
 use crate::marks::{print_faults, print_nodes, print_points};
 use crate::picture::Picture;
 use crate::text::{size_text, stroke_text};
 use crate::walk::{Stroke, Walk};
 use tl_cert_output::{Printer, Stop};
 use tl_check_verdict::MapFault;
+use tl_geom::Rational;
 use tl_map_county::Map;
 use tl_record::Sink;
 
@@ -29,24 +33,29 @@ text{font:130px sans-serif;fill:#333;stroke:#fff;stroke-width:25px;paint-order:s
 .chains,.chain{stroke:#333;stroke-width:1}.nodes,.node{stroke:#000;stroke-width:3.2}\
 .points,.point{stroke:#07c;stroke-width:4}.scale{stroke:#333;stroke-width:1.5}\
 circle,.fault{stroke:#d00;stroke-width:2;fill:#d00;fill-opacity:.2}.code{fill:#a00}\
+.polygons path{fill-rule:evenodd}\
 @media(max-width:700px){text{font-size:240px}circle{r:95px}}\
 @media(min-width:1500px){text{font-size:90px}circle{r:45px}}</style>\n\
 <rect x=\"-100\" y=\"-600\" width=\"100%\" height=\"100%\" fill=\"#fff\"/>\n";
 
-/// Prints the picture of a map with these faults, by the points of its polygons. The error is that a write failed.
+/// Prints the picture of a map with these faults, which lie at these places, and its polygons filled where there is something to fill
+/// them by. The error is that a write failed.
 pub fn print_picture<S: Sink>(
     map: &Map,
     picture: Picture,
-    points: &KeyedPoints,
+    fills: Option<&Fills>,
     faults: &[MapFault],
+    places: &[Option<Rational>],
     out: &mut S,
 ) -> Result<(), Stop>
-    requires { ArePointsOf map.now.polygons points.now }
-    ensures prints { PrintsText S.contents S.failure_count out.old out.new (picture_text map.now picture faults.now) result }
+    requires places { length places.now ≡ length faults.now }
+    requires fills { IfSome fills (λ f. AreFillsOf map.now f.now) }
+    ensures prints { PrintsText S.contents S.failure_count out.old out.new
+        (picture_text map.now picture (option_map (λ f. f.now.filling) fills.entry) faults.now places.now) result }
     ensures stop { IfErr result (λ stop. stop ≡ Device) }
 {
     let mut printer = Printer::new();
-    print_whole(map, picture, points, faults, &mut printer, out);
+    print_whole(map, picture, fills, faults, places, &mut printer, out);
     printer.finish(out)
 }
 
@@ -54,27 +63,38 @@ pub fn print_picture<S: Sink>(
 fn print_whole<S: Sink>(
     map: &Map,
     picture: Picture,
-    points: &KeyedPoints,
+    fills: Option<&Fills>,
     faults: &[MapFault],
+    places: &[Option<Rational>],
     printer: &mut Printer,
     out: &mut S,
 )
-    requires { ArePointsOf map.now.polygons points.now }
+    requires places { length places.now ≡ length faults.now }
+    requires fills { IfSome fills (λ f. AreFillsOf map.now f.now) }
     ensures { Prints S.contents S.failure_count (out.old, printer.old) (out.new, printer.new)
-        (picture_text map.now picture faults.now) }
+        (picture_text map.now picture (option_map (λ f. f.now.filling) fills.entry) faults.now places.now) }
 {
-    print_front(map, picture, printer, out);
-    print_back(map, picture, points, faults, printer, out);
+    print_front(map, picture, fills, printer, out);
+    print_back(map, picture, faults, places, printer, out);
 }
 
-// Prints the beginning of the file, how each part is drawn, and the lines of chains.
-fn print_front<S: Sink>(map: &Map, picture: Picture, printer: &mut Printer, out: &mut S)
+// Prints the beginning of the file, how each part is drawn, the polygons that are filled, and the lines of chains.
+fn print_front<S: Sink>(
+    map: &Map,
+    picture: Picture,
+    fills: Option<&Fills>,
+    printer: &mut Printer,
+    out: &mut S,
+)
+    requires { IfSome fills (λ f. AreFillsOf map.now f.now) }
     ensures { Prints S.contents S.failure_count (out.old, printer.old) (out.new, printer.new)
-        (size_text picture.frame ++ style_text ++ chains_part picture map.now) }
+        (size_text picture.frame ++ style_text ++ fills_part picture.frame map.now (option_map (λ f. f.now.filling) fills.entry)
+        ++ chains_part picture map.now) }
 {
     let size = size_text(picture.frame);
     printer.add(size.as_str().as_bytes(), out);
     print_style(printer, out);
+    print_fills(map, picture.frame, fills, printer, out);
     print_chains(map, picture, printer, out);
 }
 
@@ -89,17 +109,17 @@ fn print_style<S: Sink>(printer: &mut Printer, out: &mut S)
 fn print_back<S: Sink>(
     map: &Map,
     picture: Picture,
-    points: &KeyedPoints,
     faults: &[MapFault],
+    places: &[Option<Rational>],
     printer: &mut Printer,
     out: &mut S,
 )
-    requires { ArePointsOf map.now.polygons points.now }
+    requires { length places.now ≡ length faults.now }
     ensures { Prints S.contents S.failure_count (out.old, printer.old) (out.new, printer.new)
-        (marks_part picture map.now ++ faults_part picture.frame map.now faults.now ++ key_part picture faults.now ++ codes "</svg>\n") }
+        (marks_part picture map.now ++ faults_part picture.frame faults.now places.now ++ key_part picture faults.now ++ codes "</svg>\n") }
 {
     print_marks(map, picture, printer, out);
-    print_faults(map, picture.frame, points, faults, printer, out);
+    print_faults(picture.frame, faults, places, printer, out);
     print_key(picture, faults, printer, out);
     printer.add(b"</svg>\n", out);
 }

@@ -3,6 +3,8 @@
 ghost use Rattle.std.specs.Prelude.{◌≡◌, ◌+◌, ◌≤◌, ◌++◌, pos, ◌+ℤ◌, ◌-ℤ◌, codes, length};
 ghost use Rattle.arrayvec.specs.ArrayString.{array_string_len};
 ghost use Rattle.tigertopo_svg.specs.Texts.{move_text, start_text, stroke_text, dot_text, size_text, circle_head};
+ghost use Rattle.tigertopo_svg.specs.Colours.{hue};
+ghost use Rattle.tigertopo_svg.specs.Fills.{fill_head};
 ghost use Rattle.tigertopo_svg.specs.Texts.{closer, closer_text, is_eastern, west_label, east_label, label_head};
 
 use crate::frame::{Frame, Spot};
@@ -33,6 +35,32 @@ fn push_move(text: &mut ArrayString<PART_ROOM>, spot: Spot)
 {
     push_number(text, "M", spot.x);
     push_number(text, " ", spot.y);
+}
+
+/// The command that goes to a place.
+pub fn move_text(spot: Spot) -> ArrayString<PART_ROOM>
+    ensures { result.bytes ≡ move_text spot }
+{
+    let mut text = ArrayString::new();
+    push_move(&mut text, spot);
+    text
+}
+
+/// How what has a colour begins.
+pub fn fill_head(colour: u32) -> ArrayString<PART_ROOM>
+    ensures { result.bytes ≡ fill_head colour }
+{
+    let mut text = ArrayString::new();
+    push_number(&mut text, "<path style=\"fill:hsl(", hue(colour));
+    text.push_str(",70%,88%)\" d=\"");
+    text
+}
+
+// The hue of a colour, in degrees.
+fn hue(colour: u32) -> u64
+    ensures { result ≡ hue colour }
+{
+    137 * u64::from(colour) % 360
 }
 
 // Where a stroke starts, if it begins anew.

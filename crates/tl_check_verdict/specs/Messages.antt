@@ -45,6 +45,10 @@ map_fault_text (Cell odds) = codes "map fault G6 Cell darts " ++ decimal odds.fi
     ++ codes " ids " ++ decimal odds.first_id ++ codes " " ++ decimal odds.second_id
 map_fault_text (Face fault) = face_fault_text fault
 
+-- how many polygons are touched by sides that don't agree: of these it isn't looked at whether points lie in them or outside
+abbrev pub touched_words : ℕ → List ℕ
+touched_words touched = codes "touched polygons=" ++ decimal touched ++ codes " not looked at"
+
 -- what is wrong with a tree, and at which index or node
 abbrev pub tree_text : TreeFault → List ℕ
 tree_text (UnknownIndex i) = codes "UnknownIndex " ++ decimal i

@@ -3,7 +3,7 @@ use Rattle.std.specs.Prelude.{ℕ, ◌==◌, if◌then◌else◌, List, [], ◌�
 use Rattle.tl_cert_output.specs.Writing.{line_of}
 use Rattle.tl_record.specs.declared.refusal.Refusal.{Refusal}
 use Rattle.tl_record.specs.Messages.{refusal_text}
-use Rattle.tl_check_verdict.specs.Messages.{map_fault_text, report_text}
+use Rattle.tl_check_verdict.specs.Messages.{map_fault_text, report_text, touched_words}
 use Rattle.tl_list_text.specs.declared.listing.Listing.{Listing}
 use Rattle.tl_list_text.specs.declared.listing.Listing.TheVariants.{Sound, Refused, Faults}
 
@@ -28,7 +28,7 @@ printed_text (Some most) count = codes " printed=" ++ decimal (min most count)
 
 -- how many polygons are touched, where some are
 abbrev pub touched_text : ℕ → List ℕ
-touched_text touched = if touched == 0 then [] else line_of (codes "touched polygons=" ++ decimal touched ++ codes " not looked at")
+touched_text touched = if touched == 0 then [] else line_of (touched_words touched)
 
 -- the last line: a word, how many there are, and where a number is given, how many of them are printed
 abbrev pub count_line : List ℕ → Option ℕ → ℕ → List ℕ

@@ -28,6 +28,9 @@ pub fn fault_places(
 ) -> Result<Vec<Option<Rational>>, AllocError>
     ensures { IfOk result (λ places. places.items ≡ map_list (fault_place (option_copied map.entry)) faults.now) }
 {
+    if faults.is_empty() {
+        return Ok(Vec::new(alloc));
+    }
     let points = index_points(alloc, hasher, map)?;
     let mut places = Vec::with_capacity(alloc, faults.len())?;
     for fault in faults {

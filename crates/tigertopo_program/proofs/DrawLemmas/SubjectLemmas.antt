@@ -31,7 +31,7 @@ use Rattle.tl_list.specs.Findings.{AreFindingsOf, IsMapIfAny}
 use Rattle.tigertopo_files.specs.World.{MayStop}
 use Rattle.tigertopo_outcome.specs.Records.{IsOfRecords, StopsRecords}
 use Rattle.tigertopo_program.specs.Draw.Subjects.{AreFaultsOf, AreToShow}
-use Rattle.tigertopo_program.specs.Draw.Keeping.{listed_faults, first_refused, first_fault, first_listed}
+use Rattle.tigertopo_program.specs.Draw.Keeping.{listed_faults, listed_touched, first_refused, first_fault, first_listed}
 
 first_is : (layout : Layout) (text : List ℕ) → slice_get (refusals_of layout text) 0 ≡ (records_of layout text).refusal
 first_is layout text = first_of_judged (judgements layout 0 (raw_lines text))
@@ -51,13 +51,15 @@ no_told : (all : AllRecords) (faults : List MapFault) (told : List RecordFault) 
 no_told all faults [] some are all_told none = some are
 no_told all faults (f ∷ rest) some are all_told none = none f (all_told.each 0 f (omega arith))
 
-shown_faults : (faces : Bool) (all : AllRecords) (m : TheMap) (faults : List MapFault) (touched : ℕ) → IsReadFrom all m → faults ≢ [] → AreFaults faces all faults touched → AreFaultsOf faces m faults
+shown_faults : (faces : Bool) (all : AllRecords) (m : TheMap) (faults : List MapFault) (touched : ℕ) → IsReadFrom all m → faults ≢ [] → AreFaults faces all faults touched
+    → AreFaultsOf faces m faults touched
 shown_faults faces all m faults touched is some (inl records) = absurd (no_told all faults records.0.told some records.0.are records.0.are_all is.no_fault)
-shown_faults faces all m faults touched is some (inr have) = inr (touched, subst (λ n. AreFaultsFor faces n faults touched) (same_map all have.map m have.is_read is) have.so)
+shown_faults faces all m faults touched is some (inr have) = inr (subst (λ n. AreFaultsFor faces n faults touched) (same_map all have.map m have.is_read is) have.so)
 
 -- what is listed of records that have a map is all faults of it
-shown_findings : (options : Options) (text : List ℕ) (listing : Listing) (m : TheMap) → IsListingOf options text listing → IsReadFrom (records_of (layout_with options) text) m → AreFaultsOf options.faces m (listed_faults listing)
-shown_findings options text (Sound report) m have is = inl (refl, subst (IsSoundFor options.faces) (same_map (records_of (layout_with options) text) have.map m have.is_read is) have.so.0)
+shown_findings : (options : Options) (text : List ℕ) (listing : Listing) (m : TheMap) → IsListingOf options text listing → IsReadFrom (records_of (layout_with options) text) m
+    → AreFaultsOf options.faces m (listed_faults listing) (listed_touched listing)
+shown_findings options text (Sound report) m have is = inl (refl, refl, subst (IsSoundFor options.faces) (same_map (records_of (layout_with options) text) have.map m have.is_read is) have.so.0)
 shown_findings options text (Refused list) m lists is = absurd (no_refused (layout_with options) text list.items lists.0 lists.1 is.no_refusal)
 shown_findings options text (Faults faults touched) m lists is = shown_faults options.faces (records_of (layout_with options) text) m faults.items touched is lists.0 lists.2
 
@@ -108,12 +110,14 @@ unknown_first layout (Faults faults touched) = unknown_faults layout faults.item
 
 -- ---- what is answered
 
-pub subject_found : (options : Options) (known : Option (List ℕ)) (found : Findings) (m : TheMap) (faults : List MapFault) → IfSome known (λ text. AreFindingsOf options text found) → found.map ≡ Some m
-    → faults ≡ listed_faults found.listing → IfSome known (λ text. IsReadFrom (records_of (layout_with options) text) m × AreToShow options.faces true m faults)
-subject_found options None found m faults is there same = tt
-subject_found options (Some text) found m faults is there same =
+pub subject_found : (options : Options) (known : Option (List ℕ)) (found : Findings) (m : TheMap) (faults : List MapFault) (touched : ℕ)
+    → IfSome known (λ text. AreFindingsOf options text found) → found.map ≡ Some m → faults ≡ listed_faults found.listing → touched ≡ listed_touched found.listing
+    → IfSome known (λ text. IsReadFrom (records_of (layout_with options) text) m × AreToShow options.faces true m faults touched)
+subject_found options None found m faults touched is there same as_many = tt
+subject_found options (Some text) found m faults touched is there same as_many =
     let drawn = subst (IsMapIfAny (records_of (layout_with options) text)) there is.drawn in
-    (drawn, subst (AreFaultsOf options.faces m) (sym same) (shown_findings options text found.listing m is.told drawn))
+    let shown : AreFaultsOf options.faces m (listed_faults found.listing) (listed_touched found.listing) = shown_findings options text found.listing m is.told drawn in
+    (drawn, rw (same, as_many) shown)
 
 pub subject_missing : (options : Options) (known : Option (List ℕ)) (found : Findings) → IfSome known (λ text. AreFindingsOf options text found) → found.map ≡ None
     → IsWhy (layout_with options) known (first_listed found.listing)
@@ -121,7 +125,8 @@ subject_missing options None found is none = unknown_first (layout_with options)
 subject_missing options (Some text) found is none = first_findings options text found.listing is.told (subst (IsMapIfAny (records_of (layout_with options) text)) none is.drawn)
 
 -- the map alone
-pub plain_subject : (options : Options) (known : Option (List ℕ)) (m : TheMap) (faults : List MapFault) → IfSome known (λ text. IsReadFrom (records_of (layout_with options) text) m) → faults ≡ []
-    → IfSome known (λ text. IsReadFrom (records_of (layout_with options) text) m × AreToShow options.faces false m faults)
-plain_subject options None m faults is none = tt
-plain_subject options (Some text) m faults is none = (is, none)
+pub plain_subject : (options : Options) (known : Option (List ℕ)) (m : TheMap) (faults : List MapFault) (touched : ℕ)
+    → IfSome known (λ text. IsReadFrom (records_of (layout_with options) text) m) → faults ≡ [] → touched ≡ 0
+    → IfSome known (λ text. IsReadFrom (records_of (layout_with options) text) m × AreToShow options.faces false m faults touched)
+plain_subject options None m faults touched is none as_none = tt
+plain_subject options (Some text) m faults touched is none as_none = (is, none, as_none)

@@ -1,7 +1,8 @@
 -- What is drawn, and what is answered then.
 --
 -- `w` is what became of files, and `known` the text of the records, where it is known.
-use Rattle.std.specs.Prelude.{◌≡◌, ◌⊎◌, ℕ, Bool, true, false, List, Option, Some, None, IfSome, ⊤}
+use Rattle.std.specs.Prelude.{◌≡◌, ◌⊎◌, ℕ, Bool, true, false, List, map, Option, Some, None, IfSome, ⊤}
+use Rattle.tl_geom.specs.declared.rational.Rational.{Rational}
 use Rattle.tl_record.specs.declared.options.Options.{Options}
 use Rattle.tl_record.specs.Layout.{layout_with}
 use Rattle.tl_record.specs.Records.{records_of}
@@ -12,11 +13,14 @@ use Rattle.tigertopo_files.specs.World.{World, Unmade}
 use Rattle.tl_cert_output.specs.Writing.{line_of}
 use Rattle.tigertopo_words.specs.declared.asked.View.{View}
 use Rattle.tl_check_verdict.specs.declared.fault.MapFault.{MapFault}
+use Rattle.tl_check_verdict.specs.Sound.{IsSound}
+use Rattle.tigertopo_faults.specs.Lines.Places.{fault_place}
 use Rattle.tigertopo_svg.specs.declared.frame.Frame.{Frame}
 use Rattle.tigertopo_svg.specs.declared.picture.Picture.{Picture}
 use Rattle.tigertopo_svg.specs.Frames.{fitted, frame_at}
 use Rattle.tigertopo_svg.specs.Pictures.{picture_of, chain_count, fault_count}
-use Rattle.tigertopo_svg.specs.Texts.{picture_text}
+use Rattle.tigertopo_svg.specs.Fills.{Filling, IsFillingOf}
+use Rattle.tigertopo_svg.specs.Whole.{picture_text}
 use Rattle.tigertopo_outcome.specs.declared.outcome.Drawn.{Drawn}
 use Rattle.tigertopo_outcome.specs.declared.outcome.Outcome.TheVariants.{Drawn as Drawing}
 use Rattle.tigertopo_outcome.specs.declared.said.Answer.{Answer}
@@ -35,14 +39,32 @@ frame_of (Some view) m = frame_at view.center view.width
 abbrev pub picture_by : Option View → TheMap → Picture
 picture_by view m = picture_of (frame_of view m) m
 
+-- where the faults of a map lie
+abbrev pub places_of : TheMap → List MapFault → List (Option Rational)
+places_of m faults = map (fault_place (Some m)) faults
+
+-- by this the polygons of a sound map are filled, and nothing is of one that isn't sound
+abbrev pub IsFilled : TheMap → Option Filling → Type 0
+IsFilled m None = ¬ IsSound m
+IsFilled m (Some filling) = IsSound m × IsFillingOf m filling
+
+-- the picture of a map with these faults, each at its place
+abbrev pub picture_with : TheMap → Picture → Option Filling → List MapFault → List ℕ
+picture_with m picture filling faults = picture_text m picture filling faults (places_of m faults)
+
 -- the number of faults that are shown, where they are asked for
 abbrev pub shown_count : Bool → Frame → TheMap → List MapFault → Option ℕ
 shown_count false f m faults = None
-shown_count true f m faults = Some (fault_count f m faults)
+shown_count true f m faults = Some (fault_count f (places_of m faults))
 
 -- how much a picture shows
 abbrev pub drawn_of : Picture → Bool → Subject → Drawn
-drawn_of picture shows subject = record { chains = chain_count picture subject.map; faults = shown_count shows picture.frame subject.map subject.faults.items }
+drawn_of picture shows subject =
+    record {
+      chains = chain_count picture subject.map;
+      faults = shown_count shows picture.frame subject.map subject.faults.items;
+      touched = subject.touched;
+    }
 
 -- what is wanted: a picture of this name, of the whole map or of a place in it, with faults or without
 pub record Wanted : Type 0 where
@@ -52,17 +74,22 @@ pub record Wanted : Type 0 where
 
 -- the picture of a map with these faults stands, and this is answered
 pub record IsDrawnOf (w : World) (wanted : Wanted) (subject : Subject) (answer : Answer Said) : Type 0 where
-  pub kept : StandsUnder w.after wanted.name (picture_text subject.map (picture_by wanted.view subject.map) subject.faults.items)
+  pub filling : Option Filling
+  pub filled : IsFilled subject.map filling
+  pub kept : StandsUnder w.after wanted.name (picture_with subject.map (picture_by wanted.view subject.map) filling subject.faults.items)
   pub is : answer ≡ answer_of (Drawing (drawn_of (picture_by wanted.view subject.map) wanted.shows subject))
 
 -- with the status 0 the line of what the picture shows: that of the map that the records draw, with the faults to show, which stands
 pub record TellsDrawn (w : World) (options : Options) (known : Option (List ℕ)) (wanted : Wanted) (status : ℕ) (text : List ℕ) : Type 0 where
   pub map : TheMap
   pub faults : List MapFault
-  pub drawn : IfSome known (λ held. IsReadFrom (records_of (layout_with options) held) map × AreToShow options.faces wanted.shows map faults)
-  pub kept : StandsUnder w.after wanted.name (picture_text map (picture_by wanted.view map) faults)
+  pub touched : ℕ
+  pub drawn : IfSome known (λ held. IsReadFrom (records_of (layout_with options) held) map × AreToShow options.faces wanted.shows map faults touched)
+  pub filling : Option Filling
+  pub filled : IsFilled map filling
+  pub kept : StandsUnder w.after wanted.name (picture_with map (picture_by wanted.view map) filling faults)
   pub is : status ≡ 0
-  pub line : text ≡ line_of (drawn_text (chain_count (picture_by wanted.view map) map) (shown_count wanted.shows (picture_by wanted.view map).frame map faults))
+  pub line : text ≡ line_of (drawn_text (chain_count (picture_by wanted.view map) map) (shown_count wanted.shows (picture_by wanted.view map).frame map faults) touched)
 
 -- what `draw` answers: that, or the fault of the records, and then no file was made
 abbrev pub DrawAnswers : World → Options → (known : Option (List ℕ)) → Wanted → ℕ → List ℕ → Type 0

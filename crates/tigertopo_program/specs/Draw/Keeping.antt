@@ -1,5 +1,5 @@
 -- Kept on the way: what of a listing is drawn or told. No public contract cites this file.
-use Rattle.std.specs.Prelude.{List, [], ◌∷◌, Result, Ok, Err}
+use Rattle.std.specs.Prelude.{ℕ, List, [], ◌∷◌, Result, Ok, Err}
 use Rattle.tl_record.specs.declared.refusal.Refusal.{Refusal}
 use Rattle.tl_cert_output.specs.declared.stop.Stop.{Stop}
 use Rattle.tl_cert_output.specs.declared.stop.Stop.TheVariants as stop
@@ -13,6 +13,12 @@ abbrev pub listed_faults : Listing → List MapFault
 listed_faults (Sound report) = []
 listed_faults (Refused list) = []
 listed_faults (Faults faults touched) = faults.items
+
+-- how many polygons they touch
+abbrev pub listed_touched : Listing → ℕ
+listed_touched (Sound report) = 0
+listed_touched (Refused list) = 0
+listed_touched (Faults faults touched) = touched
 
 -- the first of refusals
 abbrev pub first_refused : List Refusal → Stop

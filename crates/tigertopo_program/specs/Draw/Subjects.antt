@@ -11,17 +11,19 @@ use Rattle.tl_list_text.specs.MapFaults.{AreFaultsFor}
 use Rattle.tigertopo_outcome.specs.Records.{IsOfRecords}
 use Rattle.tigertopo_program.specs.declared.draw.subject.Subject.{Subject}
 
--- these are all faults of a map, and there are none where it keeps what is asked of it; `faces` says whether faces are asked for
-abbrev pub AreFaultsOf : (faces : Bool) → TheMap → List MapFault → Type 0
-AreFaultsOf faces m faults = ((faults ≡ []) × IsSoundFor faces m) ⊎ ((touched : ℕ) × AreFaultsFor faces m faults touched)
+-- these are all faults of a map, which touch so many polygons, and there are none where it keeps what is asked of it; `faces` says whether
+-- faces are asked for
+abbrev pub AreFaultsOf : (faces : Bool) → TheMap → List MapFault → (touched : ℕ) → Type 0
+AreFaultsOf faces m faults touched = ((faults ≡ []) × (touched ≡ 0) × IsSoundFor faces m) ⊎ AreFaultsFor faces m faults touched
 
 -- the faults that a picture is to show: all faults of the map, or none where they aren't asked for
-abbrev pub AreToShow : (faces : Bool) → Bool → TheMap → List MapFault → Type 0
-AreToShow faces false m faults = faults ≡ []
-AreToShow faces true m faults = AreFaultsOf faces m faults
+abbrev pub AreToShow : (faces : Bool) → Bool → TheMap → List MapFault → (touched : ℕ) → Type 0
+AreToShow faces false m faults touched = (faults ≡ []) × (touched ≡ 0)
+AreToShow faces true m faults touched = AreFaultsOf faces m faults touched
 
 -- what is drawn of records: their map with the faults to show, or the fault of records that have none
 abbrev pub IsSubjectOf : Options → Option (List ℕ) → Bool → Result Subject MapFault → Type 0
 IsSubjectOf options known shows (Ok subject) =
-    IfSome known (λ text. IsReadFrom (records_of (layout_with options) text) subject.map × AreToShow options.faces shows subject.map subject.faults.items)
+    IfSome known (λ text. IsReadFrom (records_of (layout_with options) text) subject.map
+    × AreToShow options.faces shows subject.map subject.faults.items subject.touched)
 IsSubjectOf options known shows (Err fault) = IsOfRecords (layout_with options) known (λ fault. ⊤) fault

@@ -1,6 +1,7 @@
 //! Pictures that are made over files: each takes its name when it is whole.
 
-ghost use Rattle.std.specs.Prelude.{◌≡◌, [], Some, map, string_bytes};
+ghost use Rattle.std.specs.Prelude.{◌≡◌, [], Some, IfErr, IfOk, IfSome, length, map, option_map, string_bytes};
+ghost use Rattle.tl_build.specs.Auditing.{IsMemoryStop};
 ghost use Rattle.tl_record.specs.Layout.{layout_with};
 ghost use Rattle.tigertopo_files.specs.Files.{IsFree};
 ghost use Rattle.tigertopo_files.specs.World.{Does, world};
@@ -8,47 +9,49 @@ ghost use Rattle.tigertopo_files.specs.declared.beginning.FileKind.TheVariants.{
 ghost use Rattle.tigertopo_outcome.specs.Answers.{IsSaid};
 ghost use Rattle.tigertopo_files.specs.Reading.{text_under};
 ghost use Rattle.tigertopo_outcome.specs.Records.{StopsNever, StopsRecords};
-ghost use Rattle.tigertopo_svg.specs.Pictures.{ArePointsOf};
-ghost use Rattle.tigertopo_svg.specs.Texts.{picture_text};
-ghost use Rattle.tigertopo_program.specs.Draw.Drawing.{DrawAnswers, IsDrawnOf, drawn_of, picture_by};
+ghost use Rattle.tigertopo_svg.specs.Fills.{AreFillsOf};
+ghost use Rattle.tigertopo_svg.specs.Whole.{picture_text};
+ghost use Rattle.tigertopo_program.specs.Draw.Drawing.{DrawAnswers, IsDrawnOf, IsFilled, drawn_of, picture_by, places_of};
 
 use crate::draw::subject::{Subject, SubjectOf};
 use std::alloc::Global;
 use std::hash::RandomState;
+use tigertopo_faults::lines::fault_places;
 use tigertopo_files::{FileKind, FileSystem, make_file};
 use tigertopo_outcome::outcome::{Drawn, Outcome};
 use tigertopo_outcome::reading::over_records;
 use tigertopo_outcome::said::{Answer, Said};
-use tigertopo_svg::{
-    Frame, KeyedPoints, Picture, chain_count, fault_count, picture_of, print_picture,
-};
+use tigertopo_svg::{Fills, Frame, Picture, chain_count, fault_count, picture_of, print_picture};
 use tigertopo_words::View;
+use tl_build::find_walks;
 use tl_cert_output::{Stop, Text};
 use tl_check_verdict::MapFault;
+use tl_geom::Rational;
 use tl_map_county::Map;
 use tl_record::{Options, Sink};
 
-// A picture of a map with faults, as a text.
+// A picture of a map with faults, which lie at these places, and its polygons filled where it is sound, as a text.
 #[derive(Clone, Copy)]
 struct PictureText<'a> {
     map: &'a Map,
     picture: Picture,
-    points: &'a KeyedPoints,
+    fills: Option<&'a Fills>,
     faults: &'a [MapFault],
+    places: &'a [Option<Rational>],
 }
 
 impl Text for PictureText<'_> {
-    ghost text = { λ text. picture_text text.map.now text.picture text.faults.now };
+    ghost text = { λ text. picture_text text.map.now text.picture (option_map (λ f. f.now.filling) text.fills) text.faults.now text.places.now };
 
-    ghost is_ready = { λ text. ArePointsOf text.map.now.polygons text.points.now };
+    ghost is_ready = { λ text. (length text.places.now ≡ length text.faults.now) × IfSome text.fills (λ f. AreFillsOf text.map.now f.now) };
 
     fn print<S: Sink>(&self, _alloc: Global, out: &mut S) -> Result<(), Stop> {
-        print_picture(self.map, self.picture, self.points, self.faults, out)
+        print_picture(self.map, self.picture, self.fills, self.faults, self.places, out)
     }
 }
 
-/// Draws the map of the records of these files, fitted to it or the place that is given, and its faults where they are to be shown, into
-/// a new file of the name `made`, which it may take, and answers how much the picture shows. The file takes its name when it is whole.
+/// Draws the map of the records of these files, fitted to it or the place that is given, its polygons filled where it is sound, and its
+/// faults where they are to be shown, into a new file of the name `made`, which it may take, and answers how much the picture shows. The file takes its name when it is whole.
 pub fn draw<F: FileSystem>(
     files: &mut F,
     alloc: Global,
@@ -101,16 +104,38 @@ fn draw_subject<F: FileSystem>(
         Does w [] (Some (string_bytes made.now))
         (IsDrawnOf w (record { name = string_bytes made.now; view = view; shows = shows_faults }) subject.now) StopsNever result }
 {
-    let points = KeyedPoints::new(alloc, hasher, &subject.map, subject.faults.as_slice())?;
+    let fills = fills_of(alloc, &subject.map)?;
+    let places = fault_places(
+        alloc,
+        hasher,
+        Some(&subject.map),
+        subject.faults.as_slice(),
+    )?;
     let picture = picture_by(view, &subject.map);
     let text = PictureText {
         map: &subject.map,
         picture,
-        points: &points,
+        fills: fills.as_ref(),
         faults: subject.faults.as_slice(),
+        places: places.as_slice(),
     };
     make_file(files, alloc, made.as_str(), names, FileKind::Picture, &text)?;
-    Ok(Answer::of(Outcome::Drawn(drawn_of(picture, &points, shows_faults, subject))))
+    Ok(Answer::of(Outcome::Drawn(drawn_of(picture, places.as_slice(), shows_faults, subject))))
+}
+
+// What the polygons of a map are filled by, if it is sound.
+fn fills_of(alloc: Global, map: &Map) -> Result<Option<Fills>, Stop>
+    ensures filled { IfOk result (λ found. IsFilled map.now (option_map (λ f. f.filling) found)) }
+    ensures fills { IfOk result (λ found. IfSome found (AreFillsOf map.now)) }
+    ensures stops { IfErr result IsMemoryStop }
+{
+    match find_walks(alloc, map)? {
+        Some(walks) => match Fills::new(alloc, map, walks) {
+            Ok(fills) => Ok(Some(fills)),
+            Err(_) => Err(Stop::Memory),
+        },
+        None => Ok(None),
+    }
 }
 
 // How a map is drawn: about a place, or fitted to it.
@@ -124,21 +149,25 @@ fn picture_by(view: Option<View>, map: &Map) -> Picture
     picture_of(frame, map)
 }
 
-// How much a picture shows.
-fn drawn_of(picture: Picture, points: &KeyedPoints, shows_faults: bool, subject: &Subject) -> Drawn
-    requires { ArePointsOf subject.now.map.polygons points.now }
+// How much a picture shows of a map whose faults lie at these places.
+fn drawn_of(
+    picture: Picture,
+    places: &[Option<Rational>],
+    shows_faults: bool,
+    subject: &Subject,
+) -> Drawn
+    requires { places.now ≡ places_of subject.now.map subject.now.faults.items }
     ensures { result ≡ drawn_of picture shows_faults subject.now }
 {
     let chains = chain_count(picture, &subject.map);
     let faults = if shows_faults {
-        Some(fault_count(
-            picture.frame,
-            &subject.map,
-            points,
-            subject.faults.as_slice(),
-        ))
+        Some(fault_count(picture.frame, places))
     } else {
         None
     };
-    Drawn { chains, faults }
+    Drawn {
+        chains,
+        faults,
+        touched: subject.touched,
+    }
 }

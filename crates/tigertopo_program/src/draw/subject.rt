@@ -7,7 +7,7 @@ ghost use Rattle.tl_list.specs.Findings.{AreFindingsOf};
 ghost use Rattle.tigertopo_files.specs.World.{MayStop};
 ghost use Rattle.tl_cert_output.specs.declared.stop.Stop.TheVariants.{Device};
 ghost use Rattle.tigertopo_outcome.specs.Records.{StopsRecords};
-ghost use Rattle.tigertopo_program.specs.Draw.Keeping.{listed_faults, first_refused, first_fault, first_listed};
+ghost use Rattle.tigertopo_program.specs.Draw.Keeping.{listed_faults, listed_touched, first_refused, first_fault, first_listed};
 ghost use Rattle.tigertopo_program.specs.Draw.Subjects.{IsSubjectOf};
 
 use std::alloc::Global;
@@ -21,11 +21,12 @@ use tl_map::read_map_with;
 use tl_map_county::Map;
 use tl_record::{Options, Refusal, Source};
 
-/// A map, and the faults of it that are to be shown.
+/// A map, the faults of it that are to be shown, and how many polygons they touch.
 #[derive(Drop)]
 pub struct Subject {
     pub map: Map,
     pub faults: Vec<MapFault>,
+    pub touched: u64,
 }
 
 /// The map of the records, and where they are to be shown all its faults, or the fault of records that have none, as a question.
@@ -56,6 +57,7 @@ impl Question for SubjectOf {
             Ok(map) => Ok(Ok(Subject {
                 map,
                 faults: Vec::new(alloc),
+                touched: 0,
             })),
             Err(stop) => Ok(Err(fault_of_records(stop)?)),
         }
@@ -74,6 +76,7 @@ fn subject_of(alloc: Global, found: Findings) -> Result<Result<Subject, MapFault
     match map {
         Some(map) => Ok(Ok(Subject {
             map,
+            touched: touched_of(&listing),
             faults: faults_of(alloc, listing),
         })),
         None => Ok(Err(first_of(&listing)?)),
@@ -87,6 +90,16 @@ fn faults_of(alloc: Global, listing: Listing) -> Vec<MapFault>
     match listing {
         Listing::Faults { faults, .. } => faults,
         Listing::Sound(_) | Listing::Refused(_) => Vec::new(alloc),
+    }
+}
+
+// How many polygons they touch.
+fn touched_of(listing: &Listing) -> u64
+    ensures { result ≡ listed_touched listing.now }
+{
+    match listing {
+        Listing::Faults { touched, .. } => *touched,
+        Listing::Sound(_) | Listing::Refused(_) => 0,
     }
 }
 

@@ -1,19 +1,19 @@
-use Rattle.std.proofs.Common.{◌+◌, arith, refl}
+use Rattle.std.proofs.Common.{◌+◌, arith, refl, Option}
 use Rattle.std.specs.Prelude.{cond}
 use Rattle.std.proofs.lemmas.Option.{slice_get_read}
-use Rattle.tl_check_verdict.specs.declared.fault.MapFault.{MapFault}
-use Rattle.tigertopo_svg.specs.Pictures.{is_fault_inside}
+use Rattle.tl_geom.specs.declared.rational.Rational.{Rational}
+use Rattle.tigertopo_svg.specs.Pictures.{is_place_inside}
 use Rattle.tigertopo_svg.proofs.DrawingLemmas.{fold_next, fold_end, one_if, at_most_one}
 use Rattle.tigertopo_svg.proofs.picture.fault_count.Goals as goal
 
-pub loop-fault-preserved : goal.loop-fault-preserved
-loop-fault-preserved c = record {
-  counted = fold_next (λ a (fault : MapFault). a + cond (is_fault_inside c.args.frame c.args.map.now fault) 1 0) c.args.faults.now c.loop-fault.fault-index c.fault-item.result _ _ _
-      (slice_get_read c.args.faults.now _ _ _ refl c.loop-fault-test.true c.fault-item.is) (one_if _ _ _ c.loop-fault.count c.from-count.ensures c.is_fault_inside.ensures) c.loop-fault.invariant.counted;
+pub loop-place-preserved : goal.loop-place-preserved
+loop-place-preserved c = record {
+  counted = fold_next (λ a (place : Option Rational). a + cond (is_place_inside c.args.frame place) 1 0) c.args.places.now c.loop-place.place-index c.place-item.result _ _ _
+      (slice_get_read c.args.places.now _ _ _ refl c.loop-place-test.true c.place-item.is) (one_if _ _ _ c.loop-place.count c.from-count.ensures c.is_place_inside.ensures) c.loop-place.invariant.counted;
   bound = omega (arith, at_most_one _ _ c.from-count.ensures);
 }
 
 pub returns : goal.returns
 returns c =
-    fold_end (λ a (fault : MapFault). a + cond (is_fault_inside c.args.frame c.args.map.now fault) 1 0) c.args.faults.now c.loop-fault.fault-index _ _
-    c.loop-fault-test.false c.loop-fault.invariant.counted
+    fold_end (λ a (place : Option Rational). a + cond (is_place_inside c.args.frame place) 1 0) c.args.places.now c.loop-place.place-index _ _
+    c.loop-place-test.false c.loop-place.invariant.counted

@@ -4,4 +4,6 @@ use Rattle.tigertopo_svg.proofs.print.print_front.Goals as goal
 
 pub returns : goal.returns
 returns g c =
-    both (both (as_text c.add.ensures (c.as_bytes.ensures.value ∙ c.as_str.ensures.value ∙ c.size_text-size.ensures)) c.print_style.ensures) c.print_chains.ensures
+    both
+    (both (both (as_text c.add.ensures (c.as_bytes.ensures.value ∙ c.as_str.ensures.value ∙ c.size_text-size.ensures)) c.print_style.ensures) c.print_fills.ensures)
+    c.print_chains.ensures

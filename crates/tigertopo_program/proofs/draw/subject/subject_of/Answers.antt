@@ -7,7 +7,7 @@ use Rattle.tigertopo_program.proofs.DrawLemmas.SubjectLemmas.{IsWhy, subject_fou
 use Rattle.tigertopo_program.proofs.draw.subject.subject_of.Goals as goal
 
 pub returns-in-Some-clause-found : goal.returns-in-Some-clause-found
-returns-in-Some-clause-found c = λ options known found. subject_found options known c.args.found c.in-Some.map _ found c.in-Some.is c.faults_of.ensures
+returns-in-Some-clause-found c = λ options known found. subject_found options known c.args.found c.in-Some.map _ _ found c.in-Some.is c.faults_of.ensures c.touched_of.ensures
 
 pub returns-in_ok-first_of-in-None-clause-found : goal.returns-in_ok-first_of-in-None-clause-found
 returns-in_ok-first_of-in-None-clause-found c = λ options known found.

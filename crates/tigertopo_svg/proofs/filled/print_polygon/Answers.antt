@@ -1,0 +1,28 @@
+use Rattle.std.proofs.Common.{◌∙◌, sym}
+use Rattle.tl_cert_output.proofs.PrinterLemmas.{as_text, nothing}
+use Rattle.tigertopo_geojson.specs.Groups.{GoesThrough}
+use Rattle.tigertopo_svg.specs.Fills.{rings_of}
+use Rattle.tigertopo_svg.proofs.FillLemmas.{fill_there, fill_none}
+use Rattle.tigertopo_svg.proofs.filled.print_polygon.Goals as goal
+
+pub returns-then-is_filled : goal.returns-then-is_filled
+returns-then-is_filled g c =
+    let chains = c.args.map.now.chains in
+    let filling = c.args.fills.now.filling in
+    let ns = rings_of chains filling.walks c.args.polygon in
+    let each = c.requires.fills.rings.each c.args.polygon c.requires.polygon in
+    let goes : GoesThrough c.rings-2.result.now.next c.first-first.result ns = rw (c.rings-2.ensures, c.first-first.ensures, c.rings.ensures) each in
+    let here : GoesThrough c.rings-then-is_filled.result.now.next c.first-first.result ns = rw (c.rings-then-is_filled.ensures, c.first-first.ensures, c.rings.ensures) each in
+    let around = rw c.walks.ensures at (c.around_walks-rect.ensures ns goes) in
+    as_text (rw c.walks-then-is_filled.ensures at (c.print_fill.ensures ns here))
+    (fill_there c.args.frame chains filling c.args.polygon c.around_walks-rect.result around c.colour.result c.colour.ensures (sym c.is_filled.ensures ∙ c.if-is_filled.true))
+
+pub returns-else-is_filled : goal.returns-else-is_filled
+returns-else-is_filled g c =
+    let chains = c.args.map.now.chains in
+    let filling = c.args.fills.now.filling in
+    let ns = rings_of chains filling.walks c.args.polygon in
+    let goes : GoesThrough c.rings-2.result.now.next c.first-first.result ns =
+        rw (c.rings-2.ensures, c.first-first.ensures, c.rings.ensures) (c.requires.fills.rings.each c.args.polygon c.requires.polygon) in
+    let around = rw c.walks.ensures at (c.around_walks-rect.ensures ns goes) in
+    as_text (nothing _ _) (fill_none c.args.frame chains filling c.args.polygon c.around_walks-rect.result around (sym c.is_filled.ensures ∙ c.if-is_filled.false))
