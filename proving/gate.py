@@ -27,6 +27,7 @@ import made_files
 import memory
 import mended
 import packaged
+import parts as maps_in_parts
 import pictures
 import progress
 import promises
@@ -74,6 +75,7 @@ def parts():
         ("examples", examples.play_all),
         ("many counties", counties.play_all),
         ("faces of maps", faced.play_all),
+        ("maps in parts", maps_in_parts.play_all),
         ("files made over others", made_files.play_all),
         ("pictures", pictures.play_all),
         ("manual page, completions and programs of the libraries", installed.play_all),

@@ -40,6 +40,11 @@ pub fn parts_and_the_border_are_enough()
         AreProper joined.chains → IsSoundWithFaces joined ↔ (AreSoundWithFaces parts × IsSoundWithFaces border) }
 {}
 
+/// Any chains of a map can be told with their sides by any names. So each map can be cut into parts, and has a border between them.
+pub fn any_chains_can_be_told()
+    ensures { (names : Side → Side) (told : MapChain → Bool) (chains : List MapChain) → (others : List MapChain) × AreTold names told chains others }
+{}
+
 /// Where some chains of a map are told with their sides by other names, they count what all chains count by these names, if each chain
 /// that is left out has one name on both sides.
 pub fn told_chains_count_as_all()
