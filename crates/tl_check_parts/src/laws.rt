@@ -15,7 +15,7 @@ ghost use Rattle.tl_check_faces.specs.Truth.{AreFacesTrue, AreSidesTrue};
 ghost use Rattle.tl_check_parts.specs.Told.{AreTold};
 ghost use Rattle.tl_check_parts.specs.Homes.{Homes, is_named};
 ghost use Rattle.tl_check_parts.specs.Joined.{IsJoined, IsBorder};
-ghost use Rattle.tl_check_parts.specs.Borders.{AreBordersOf, of_borders, AreRising};
+ghost use Rattle.tl_check_parts.specs.Borders.{IsBorderOf, AreBordersOf, of_borders, AreRising};
 ghost use Rattle.tl_check_parts.specs.Lines.{DoPolygonsStay};
 ghost use Rattle.tl_check_parts.specs.Sound.{IsSoundWithFaces, AreSoundWithFaces};
 
@@ -38,6 +38,12 @@ pub fn joined_borders_are_the_border()
 pub fn parts_and_the_border_are_enough()
     ensures { (homes : Homes) (parts : List TheMap) (joined border : TheMap) → IsJoined homes parts joined → IsBorder homes joined border →
         AreProper joined.chains → IsSoundWithFaces joined ↔ (AreSoundWithFaces parts × IsSoundWithFaces border) }
+{}
+
+/// A border of the border between parts is one of the joined map. So a state's border can be taken from its counties' borders, and a nation
+/// be decided in steps: counties, the joined borders of each state's counties, and the joined borders of states.
+pub fn a_border_of_the_border_is_one_of_the_map()
+    ensures { (homes : Homes) (joined border own : TheMap) → IsBorder homes joined border → IsBorderOf border own → IsBorderOf joined own }
 {}
 
 /// Any chains of a map can be told with their sides by any names. So each map can be cut into parts, and has a border between them.
