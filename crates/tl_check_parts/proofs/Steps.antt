@@ -1,7 +1,7 @@
 -- The border of the border between parts is a border of the joined map.
-use Rattle.std.proofs.Common.{◌≡◌, inl, inr, ⊎_elim, ℕ, ◌<◌, Bool, true, false, ◌||◌, Some, List, [], ◌∷◌, length, take, get_or, slice_get, refl, sym, ap, subst, ◌∙◌, arith}
+use Rattle.std.proofs.Common.{◌≡◌, inl, inr, ⊎_elim, ◌<◌, Bool, true, false, ◌||◌, Some, List, [], ◌∷◌, length, take, slice_get, refl, sym, ap, subst, ◌∙◌, arith}
 use Rattle.std.proofs.lemmas.Bool.{false≢true}
-use Rattle.std.proofs.lemmas.Option.{slice_get-get_or, slice_get_within}
+use Rattle.std.proofs.lemmas.Option.{slice_get_within}
 use Rattle.tl_map_county.specs.declared.polygons.Polygon as polygons
 use Rattle.tl_map_county.specs.declared.sides.Side.{Side}
 use Rattle.tl_map_county.specs.declared.sides.Side.TheVariants.{Outside, Polygon}
