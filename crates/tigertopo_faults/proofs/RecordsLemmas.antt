@@ -1,4 +1,5 @@
-pub mod LinesLemmas
+pub mod KeptLemmas
 pub mod ReadingLemmas
 pub mod WalkLemmas
+pub mod WalkedLemmas
 pub mod SegmentLemmas

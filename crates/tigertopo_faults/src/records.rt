@@ -2,9 +2,10 @@
 //!
 //! [`subjects_of`] says what a fault speaks of: the records of a TLID and of some types, of a polygon's key, of a LAND. A
 //! county's text is read a second time for them, once for all faults: [`record_lines`] gives the [`RecordLines`] that hold
-//! each such record with its line's number. Of the text nothing is kept but what the faults speak of. [`segment_lines`] picks the records
-//! that hold the ends of one segment of a chain.
+//! each such record with its line's number. Of the text nothing is kept but what the faults speak of, and which of these
+//! records hold the ends of a chain's segments: [`RecordLines::ends_of`] gives those of one.
 
+mod kept;
 mod line;
 mod lines;
 mod read;
@@ -16,5 +17,5 @@ mod wanted;
 pub use line::{Part, RecordLine, SegmentEnds};
 pub use lines::RecordLines;
 pub use read::record_lines;
-pub use segment::{segment_lines, segment_within};
+pub use segment::segment_within;
 pub use subject::{Subject, Subjects, subjects_of, tlid_of};

@@ -17,14 +17,16 @@ use Rattle.tl_map_county.specs.TheMap.{MapChain}
 use Rattle.tl_check_verdict.specs.declared.fault.MapFault.{MapFault}
 use Rattle.tigertopo_faults.specs.declared.records.subject.Subject.{Subject}
 use Rattle.tigertopo_faults.specs.declared.records.line.RecordLine.{RecordLine}
+use Rattle.tigertopo_faults.specs.declared.records.kept.KeptLines.{KeptLines}
 use Rattle.tigertopo_faults.specs.declared.records.lines.RecordLines.{RecordLines}
 use Rattle.tigertopo_faults.specs.Records.SpokenOf.{Subjects, is_about, line_of, lines_about, subjects_of}
 use Rattle.tigertopo_faults.specs.Records.Naming.{same_subject}
-use Rattle.tigertopo_faults.specs.Records.Keeping.{held, is_wanted, Notes}
+use Rattle.tigertopo_faults.specs.Records.Kept.{kept_of, is_wanted, Notes}
+use Rattle.tigertopo_faults.specs.Records.Keeping.{held}
 use Rattle.tigertopo_faults.specs.Records.Wanting.{HasFirst, HasAll}
 use Rattle.tigertopo_faults.specs.Records.Finding.{HoldsLines, HoldsAll}
 use Rattle.tigertopo_faults.specs.Records.Reading.{KeptSoFar, KeptAll}
-use Rattle.tigertopo_faults.proofs.RecordsLemmas.LinesLemmas.{at_number, subject_refl}
+use Rattle.tigertopo_faults.proofs.RecordsLemmas.KeptLemmas.{at_number, subject_refl}
 
 -- ---- no line
 
@@ -103,7 +105,7 @@ none_failed Reading old new entry tells = tells
 none_failed Ended old new entry tells = tells
 none_failed (Stopped stop) old new entry tells = tells
 
-pub kept_none : (empty : RecordLines) (known : Option Records) → ((s : Subject) → held empty s ≡ []) → KeptSoFar empty known known empty
+pub kept_none : (empty : KeptLines) (known : Option Records) → ((s : Subject) → kept_of empty s ≡ []) → KeptSoFar empty known known empty
 kept_none empty None none = tt
 kept_none empty (Some all) none = (all, refl, λ s wanted. rw (none s) refl)
 
@@ -114,7 +116,7 @@ lines_step entry rest s =
       | inr fails ↦ rw fails refl
     ]
 
-pub kept_more : (empty : RecordLines) (known now new : Option Records) (skipped line : ℕ) (r : Record) (old grown : RecordLines) → Gives now new skipped (Ok (Some (line, r)))
+pub kept_more : (empty : KeptLines) (known now new : Option Records) (skipped line : ℕ) (r : Record) (old grown : KeptLines) → Gives now new skipped (Ok (Some (line, r)))
     → Notes old grown (line, r) → ((s : Subject) → is_wanted old s ≡ is_wanted empty s) → KeptSoFar empty known now old → KeptSoFar empty known new grown
 kept_more empty None now new skipped line r old grown gives notes wanted so_far = tt
 kept_more empty (Some all) None new skipped line r old grown gives notes wanted so_far = absurd (let wrong = so_far.1 in cc)
@@ -125,46 +127,46 @@ kept_more empty (Some all) (Some rest) new skipped line r old grown gives notes 
       λ s is_one.
           let entries : so_far.0.entries ≡ (line, r) ∷ gives.0.entries = ap (λ (x : Records). x.entries) (sym same ∙ gives.2) in
           ap (λ (l : List RecordLine). l ++ lines_about gives.0.entries s) (notes.lines s (wanted s ∙ is_one))
-          ∙ append_assoc (held old s) (if is_about s r then line_of (line, r) ∷ [] else []) (lines_about gives.0.entries s)
-          ∙ ap (λ (l : List RecordLine). held old s ++ l) (sym (lines_step (line, r) gives.0.entries s))
-          ∙ ap (λ (l : List (ℕ × Record)). held old s ++ lines_about l s) (sym entries)
+          ∙ append_assoc (kept_of old s) (if is_about s r then line_of (line, r) ∷ [] else []) (lines_about gives.0.entries s)
+          ∙ ap (λ (l : List RecordLine). kept_of old s ++ l) (sym (lines_step (line, r) gives.0.entries s))
+          ∙ ap (λ (l : List (ℕ × Record)). kept_of old s ++ lines_about l s) (sym entries)
           ∙ so_far.2 s is_one,
     )
 
-pub kept_at_end : (empty : RecordLines) (known now new : Option Records) (skipped : ℕ) (kept : RecordLines) → Gives now new skipped (Ok None) → KeptSoFar empty known now kept → KeptAll empty known kept
+pub kept_at_end : (empty : KeptLines) (known now new : Option Records) (skipped : ℕ) (kept : KeptLines) → Gives now new skipped (Ok None) → KeptSoFar empty known now kept → KeptAll empty known kept
 kept_at_end empty None now new skipped kept gives so_far = tt
 kept_at_end empty (Some all) None new skipped kept gives so_far = absurd (let wrong = so_far.1 in cc)
 kept_at_end empty (Some all) (Some rest) new skipped kept gives so_far = λ s wanted.
     let same : rest ≡ so_far.0 = let is = so_far.1 in cc in
     let none : so_far.0.entries ≡ [] = ap (λ (x : Records). x.entries) (sym same ∙ gives) in
-    sym (append-nil (held kept s)) ∙ ap (λ (l : List (ℕ × Record)). held kept s ++ lines_about l s) (sym none) ∙ so_far.2 s wanted
+    sym (append-nil (kept_of kept s)) ∙ ap (λ (l : List (ℕ × Record)). kept_of kept s ++ lines_about l s) (sym none) ∙ so_far.2 s wanted
 
-pub kept_at_stop : (empty : RecordLines) (known now new : Option Records) (skipped line : ℕ) (cause : Cause) (kept : RecordLines) → Gives now new skipped (Err (Refused line cause)) → KeptSoFar empty known now kept
+pub kept_at_stop : (empty : KeptLines) (known now new : Option Records) (skipped line : ℕ) (cause : Cause) (kept : KeptLines) → Gives now new skipped (Err (Refused line cause)) → KeptSoFar empty known now kept
     → KeptAll empty known kept
 kept_at_stop empty None now new skipped line cause kept gives so_far = tt
 kept_at_stop empty (Some all) None new skipped line cause kept gives so_far = absurd (let wrong = so_far.1 in cc)
 kept_at_stop empty (Some all) (Some rest) new skipped line cause kept gives so_far = λ s wanted.
     let same : rest ≡ so_far.0 = let is = so_far.1 in cc in
     let none : so_far.0.entries ≡ [] = ap (λ (x : Records). x.entries) (sym same ∙ gives) in
-    sym (append-nil (held kept s)) ∙ ap (λ (l : List (ℕ × Record)). held kept s ++ lines_about l s) (sym none) ∙ so_far.2 s wanted
+    sym (append-nil (kept_of kept s)) ∙ ap (λ (l : List (ℕ × Record)). kept_of kept s ++ lines_about l s) (sym none) ∙ so_far.2 s wanted
 
 -- of all faults
-holds_all : (layout : Layout) (chains : List MapChain) (faults : List MapFault) (keys : List Subject) (empty kept : RecordLines) (known : Option (List ℕ)) (all : Option Records)
-    → all ≡ option_map (records_of layout) known → HasAll chains faults keys → ((s : Subject) → Contains keys s → is_wanted empty s ≡ true) → KeptAll empty all kept
-    → IfSome known (λ text. HoldsAll chains faults (records_of layout text).entries kept)
-holds_all layout chains faults keys empty kept None all is has wanted whole = tt
-holds_all layout chains faults keys empty kept (Some text) all is has wanted whole = λ k fault there.
-    let lines = rw is at whole in (
-      one (subjects_of chains fault).0 (λ s same. lines s (wanted s (has k fault there s (inl same)))),
-      one (subjects_of chains fault).1 (λ s same. lines s (wanted s (has k fault there s (inr same)))),
+pub then_all : (layout : Layout) (chains : List MapChain) (faults : List MapFault) (keys : List Subject) (empty kept : KeptLines) (lines : RecordLines) (known : Option (List ℕ)) (all : Option Records)
+    → all ≡ option_map (records_of layout) known → lines.kept ≡ kept → HasAll chains faults keys → ((s : Subject) → Contains keys s → is_wanted empty s ≡ true) → KeptAll empty all kept
+    → IfSome known (λ text. HoldsAll chains faults (records_of layout text).entries lines)
+then_all layout chains faults keys empty kept lines None all is same has wanted whole = tt
+then_all layout chains faults keys empty kept lines (Some text) all is same has wanted whole = λ k fault there.
+    let its = rw is at whole in (
+      one (subjects_of chains fault).0 (λ s spoken. ap (λ (l : KeptLines). kept_of l s) same ∙ its s (wanted s (has k fault there s (inl spoken)))),
+      one (subjects_of chains fault).1 (λ s spoken. ap (λ (l : KeptLines). kept_of l s) same ∙ its s (wanted s (has k fault there s (inr spoken)))),
     )
   where
-    one : (subject : Option Subject) → ((s : Subject) → subject ≡ Some s → held kept s ≡ lines_about (records_of layout text).entries s) → HoldsLines (records_of layout text).entries kept subject
+    one : (subject : Option Subject) → ((s : Subject) → subject ≡ Some s → held lines s ≡ lines_about (records_of layout text).entries s) → HoldsLines (records_of layout text).entries lines subject
     one None each = tt
     one (Some s) each = each s refl
 
-pub then_all : {E : Type 0} (result : Result RecordLines E) (layout : Layout) (chains : List MapChain) (faults : List MapFault) (keys : List Subject) (empty : RecordLines) (known : Option (List ℕ)) (all : Option Records)
-    → all ≡ option_map (records_of layout) known → HasAll chains faults keys → ((s : Subject) → Contains keys s → is_wanted empty s ≡ true) → IfOk result (KeptAll empty all)
-    → IfOk result (λ kept. IfSome known (λ text. HoldsAll chains faults (records_of layout text).entries kept))
-then_all (Ok kept) layout chains faults keys empty known all is has wanted whole = holds_all layout chains faults keys empty kept known all is has wanted whole
-then_all (Err stop) layout chains faults keys empty known all is has wanted whole = tt
+-- no lines at all
+pub then_none : {E : Type 0} (result : Result RecordLines E) (kept : KeptLines) → IfOk result (λ lines. lines.kept ≡ kept) → ((s : Subject) → kept_of kept s ≡ [])
+    → IfOk result (λ lines. (s : Subject) → held lines s ≡ [])
+then_none (Ok lines) kept same none = λ s. ap (λ (l : KeptLines). kept_of l s) same ∙ none s
+then_none (Err stop) kept same none = tt

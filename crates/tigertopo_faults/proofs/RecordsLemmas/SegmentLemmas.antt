@@ -53,18 +53,22 @@ module _ (chains : List MapChain) where
   pub within_is : (s c k n : ℕ) → IsSegmentOf chains s c k → k ≡ n → segment_within chains s ≡ Some n
   within_is s c k n at same = ap (option_map (λ (place : ℕ × ℕ). place.1)) (place_is chains s c k at) ∙ ap Some same
 
-  -- so many before it are of its chain, and the one before these isn't
-  pub others_before : (s c d k j n : ℕ) → n < s → n ≤ k → IsSegmentOf chains s c k → IsSegmentOf chains (s - n - 1) d j → (d ≡ c → ⊥) → k ≡ n
-  others_before s c d k j n some least at before other = elim (cases_Bool (nat_lt n k)) [
-    | inl more ↦
-        let below = ltb-true n k more in
+  -- no fewer segments of its chain come before it than the one so many before it is of that chain
+  pub no_fewer : (s c k j many : ℕ) → many ≤ s → IsSegmentOf chains s c k → IsSegmentOf chains (s - many) c j → many ≤ k
+  no_fewer s c k j many within at before = let one = at.number in let two = before.number in omega (arith, within, one, two)
+
+  -- fewer, where that one is of another
+  pub fewer : (s c d k j many : ℕ) → 0 < many → many ≤ s → IsSegmentOf chains s c k → IsSegmentOf chains (s - many) d j → (d ≡ c → ⊥) → k ≤ many - 1
+  fewer s c d k j many some within at before other = elim (cases_Bool (nat_lt k many)) [
+    | inl less ↦ let below = ltb-true k many less in omega (arith, below)
+    | inr past ↦
+        let most = ltb-false k many past in
         let number = at.number in
         let place = at.place in
-        let its : IsSegmentOf chains (s - n - 1) c (k - n - 1) = record { chain = at.chain; is = at.is; place = omega (arith, place, below); number = omega (arith, number, below) } in
-        absurd (other (one_chain (d, j) (c, k - n - 1) (sym (place_is chains (s - n - 1) d j before) ∙ place_is chains (s - n - 1) c (k - n - 1) its)))
-    | inr last ↦ let past = ltb-false n k last in omega (arith, past, least)
+        let its : IsSegmentOf chains (s - many) c (k - many) = record { chain = at.chain; is = at.is; place = omega (arith, place, most); number = omega (arith, number, most, within) } in
+        absurd (other (one_chain (d, j) (c, k - many) (sym (place_is chains (s - many) d j before) ∙ place_is chains (s - many) c (k - many) its)))
   ]
 
-  -- all before it are
-  pub all_before : (s c k n : ℕ) → s ≤ n → n ≤ k → IsSegmentOf chains s c k → k ≡ n
-  all_before s c k n all least at = let number = at.number in omega (arith, number, all, least)
+  -- no more than come before it at all
+  pub at_most_own : (s c k : ℕ) → IsSegmentOf chains s c k → k ≤ s
+  at_most_own s c k at = let number = at.number in omega (arith, number)

@@ -1,5 +1,5 @@
 -- What is printed of faults with the records that they speak of.
-use Rattle.std.specs.Prelude.{ℕ, ◌+◌, Bool, List, [], ◌∷◌, ◌++◌, Option, None, Some, codes, decimal, length, take, slice_get, if◌then◌else◌}
+use Rattle.std.specs.Prelude.{ℕ, ◌+◌, List, [], ◌∷◌, ◌++◌, Option, None, Some, codes, decimal, length, take, slice_get, if◌then◌else◌}
 use Rattle.std.specs.Option.{option_map_or}
 use Rattle.tl_geom.specs.declared.rational.Rational.{Rational}
 use Rattle.tl_record_key.specs.KeyText.{key_text}

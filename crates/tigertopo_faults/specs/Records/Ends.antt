@@ -1,6 +1,5 @@
 -- Which records of a chain hold the ends of one of its segments. `lines` are the records of types 1 and 2 of the chain.
-use Rattle.std.specs.Prelude.{ℕ, zero, suc, ◌+◌, ◌-◌, ◌==◌, nat_lt, List, [], ◌∷◌, ◌++◌, length, Option, None, Some, option_map, if◌then◌else◌}
-use Rattle.std.specs.List.{flat_map}
+use Rattle.std.specs.Prelude.{ℕ, zero, suc, ◌+◌, ◌-◌, ◌==◌, min, nat_lt, List, [], ◌∷◌, ◌++◌, length, Option, None, Some, option_map, slice_get, if◌then◌else◌}
 use Rattle.tl_geom.specs.declared.point.Point.{Point}
 use Rattle.tl_record.specs.declared.record.Record.{Record}
 use Rattle.tl_record.specs.declared.record.Record.TheVariants.{Chain, Shape}
@@ -10,6 +9,7 @@ use Rattle.tigertopo_faults.specs.declared.records.line.RecordLine.{RecordLine}
 use Rattle.tigertopo_faults.specs.declared.records.line.Part.{Part}
 use Rattle.tigertopo_faults.specs.declared.records.line.Part.TheVariants.{Start, Pair, End}
 use Rattle.tigertopo_faults.specs.declared.records.walk.HeldPoint.{HeldPoint}
+use Rattle.tigertopo_faults.specs.declared.records.walk.HeldSegment.{HeldSegment}
 
 -- the number of a segment's chain, and the segment's number within it, both counted from 0
 abbrev pub segment_place : List MapChain → ℕ → Option (ℕ × ℕ)
@@ -21,72 +21,76 @@ segment_place (chain ∷ rest) s =
 abbrev pub segment_within : List MapChain → ℕ → Option ℕ
 segment_within chains s = option_map (λ (place : ℕ × ℕ). place.1) (segment_place chains s)
 
--- where a type 1 record has its chain start, and where it has it end
-abbrev pub start_in : RecordLine → Record → List HeldPoint
-start_in line (Chain tlid from to) = record { line = line; part = Start; point = from } ∷ []
-start_in line other = []
+-- where a type 1 record at this place has its chain start, and where it has it end
+abbrev pub start_in : ℕ → Record → List HeldPoint
+start_in place (Chain tlid from to) = record { place = place; part = Start; point = from } ∷ []
+start_in place other = []
 
-abbrev pub end_in : RecordLine → Record → List HeldPoint
-end_in line (Chain tlid from to) = record { line = line; part = End; point = to } ∷ []
-end_in line other = []
+abbrev pub end_in : ℕ → Record → List HeldPoint
+end_in place (Chain tlid from to) = record { place = place; part = End; point = to } ∷ []
+end_in place other = []
 
 -- the pair with this number, where it is used
-abbrev pub pair_held : RecordLine → ℕ → Option Point → List HeldPoint
-pair_held line number None = []
-pair_held line number (Some p) = record { line = line; part = Pair number; point = p } ∷ []
+abbrev pub pair_held : ℕ → ℕ → Option Point → List HeldPoint
+pair_held place number None = []
+pair_held place number (Some p) = record { place = place; part = Pair number; point = p } ∷ []
 
 -- the used ones of these pairs, of which the first has this number
-abbrev pub pairs_held : RecordLine → ℕ → List (Option Point) → List HeldPoint
-pairs_held line number [] = []
-pairs_held line number (pair ∷ pairs) = pair_held line number pair ++ pairs_held line (number + 1) pairs
+abbrev pub pairs_held : ℕ → ℕ → List (Option Point) → List HeldPoint
+pairs_held place number [] = []
+pairs_held place number (pair ∷ pairs) = pair_held place number pair ++ pairs_held place (number + 1) pairs
 
 -- the used pairs of a type 2 record with RTSQ n, numbered from 1
-abbrev pub pairs_in : ℕ → RecordLine → Record → List HeldPoint
-pairs_in n line (Shape tlid rtsq pairs) = if rtsq == n then pairs_held line 1 pairs else []
-pairs_in n line other = []
+abbrev pub pairs_in : ℕ → ℕ → Record → List HeldPoint
+pairs_in n place (Shape tlid rtsq pairs) = if rtsq == n then pairs_held place 1 pairs else []
+pairs_in n place other = []
 
--- the start, the used pairs of RTSQ n, and the end of the chain of these records
-abbrev pub starts_held : List RecordLine → List HeldPoint
-starts_held lines = flat_map (λ line. start_in line line.holds) lines
-
-abbrev pub pairs_at : ℕ → List RecordLine → List HeldPoint
-pairs_at n lines = flat_map (λ line. pairs_in n line line.holds) lines
-
-abbrev pub ends_held : List RecordLine → List HeldPoint
-ends_held lines = flat_map (λ line. end_in line line.holds) lines
+-- what is held of each of these records, of which the first has this place
+abbrev pub held_from : (ℕ → Record → List HeldPoint) → ℕ → List RecordLine → List HeldPoint
+held_from points place [] = []
+held_from points place (line ∷ rest) = points place line.holds ++ held_from points (place + 1) rest
 
 -- the used pairs by rising RTSQ: of so many of them, of which the first is this one
 abbrev pub pairs_from : List RecordLine → ℕ → ℕ → List HeldPoint
 pairs_from lines zero first = []
-pairs_from lines (suc more) first = pairs_at first lines ++ pairs_from lines more (first + 1)
+pairs_from lines (suc more) first = held_from (pairs_in first) 0 lines ++ pairs_from lines more (first + 1)
 
--- the points of the chain, from its start to its end, each with the record that holds it
+-- the points of the chain, from its start to its end, each with where it is held; an RTSQ has three digits
 abbrev pub points_held : List RecordLine → List HeldPoint
-points_held lines = starts_held lines ++ (pairs_from lines (length lines) 1 ++ ends_held lines)
+points_held lines = held_from start_in 0 lines ++ (pairs_from lines (min (length lines) 999) 1 ++ held_from end_in 0 lines)
 
--- the ends of the segment with this number from here on, behind this point if there is one; a run of equal neighbours is one point
-abbrev pub ends_from : Option HeldPoint → ℕ → List HeldPoint → Option (HeldPoint × HeldPoint)
-ends_from before k [] = None
-ends_from None k (point ∷ rest) = ends_from (Some point) k rest
-ends_from (Some before) zero (point ∷ rest) = if same_point before.point point.point then ends_from (Some point) zero rest else Some (before, point)
-ends_from (Some before) (suc k) (point ∷ rest) = if same_point before.point point.point then ends_from (Some point) (suc k) rest else ends_from (Some point) k rest
+-- the segments from here on, behind this point if there is one; a run of equal neighbours is one point
+abbrev pub segments_from : Option HeldPoint → List HeldPoint → List HeldSegment
+segments_from before [] = []
+segments_from None (point ∷ rest) = segments_from (Some point) rest
+segments_from (Some before) (point ∷ rest) =
+    if same_point before.point point.point then segments_from (Some point) rest else record { from = before; to = point } ∷ segments_from (Some point) rest
 
--- the ends of the chain's segment with this number
-abbrev pub segment_ends : List RecordLine → ℕ → Option (HeldPoint × HeldPoint)
-segment_ends lines k = ends_from None k (points_held lines)
+-- the chain's segments, from its start to its end
+abbrev pub segments_held : List RecordLine → List HeldSegment
+segments_held lines = segments_from None (points_held lines)
 
--- a record as one that holds the one end of segment k, or both
-abbrev pub holding : ℕ → HeldPoint → Option Part → RecordLine
-holding k point other = record point.line { ends = Some (record { segment = k; part = point.part; other = other }) }
+-- the record that holds one end of segment k, as one that does; or both, where the other end is given
+abbrev pub holding : List RecordLine → ℕ → HeldPoint → Option Part → Option RecordLine
+holding lines k point other =
+    option_map (λ (line : RecordLine). record line { ends = Some (record { segment = k; part = point.part; other = other }) }) (slice_get lines point.place)
 
--- the records of two ends, in the order of their lines; where both are one record, that one
-abbrev pub ends_lines : ℕ → Option (HeldPoint × HeldPoint) → List RecordLine
-ends_lines k None = []
-ends_lines k (Some (a, b)) =
-    if a.line.line == b.line.line then holding k a (Some b.part) ∷ []
-    else (if nat_lt a.line.line b.line.line then holding k a None ∷ holding k b None ∷ [] else holding k b None ∷ holding k a None ∷ [])
+-- those of two records that there are
+abbrev pub in_order : Option RecordLine → Option RecordLine → List RecordLine
+in_order None None = []
+in_order None (Some b) = b ∷ []
+in_order (Some a) None = a ∷ []
+in_order (Some a) (Some b) = a ∷ b ∷ []
+
+-- the records of a segment's ends, in their order; where both are one record, that one
+abbrev pub ends_lines : List RecordLine → ℕ → Option HeldSegment → List RecordLine
+ends_lines lines k None = []
+ends_lines lines k (Some segment) =
+    if segment.from.place == segment.to.place then in_order (holding lines k segment.from (Some segment.to.part)) None
+    else (if nat_lt segment.from.place segment.to.place then in_order (holding lines k segment.from None) (holding lines k segment.to None)
+    else in_order (holding lines k segment.to None) (holding lines k segment.from None))
 
 -- the records that hold the ends of the segment with this number, where there is one
 abbrev pub segment_lines : List RecordLine → Option ℕ → List RecordLine
 segment_lines lines None = []
-segment_lines lines (Some k) = ends_lines k (segment_ends lines k)
+segment_lines lines (Some k) = ends_lines lines k (slice_get (segments_held lines) k)

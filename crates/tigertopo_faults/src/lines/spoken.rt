@@ -5,7 +5,7 @@ ghost use Rattle.tigertopo_faults.specs.Records.SpokenOf.{chains_of};
 ghost use Rattle.tigertopo_faults.specs.Records.Keeping.{held};
 ghost use Rattle.tigertopo_faults.specs.Lines.Texts.{lines_for, segment_spoken};
 
-use crate::records::{RecordLine, RecordLines, Subject, segment_lines, segment_within};
+use crate::records::{RecordLine, RecordLines, Subject, segment_within};
 use arrayvec::ArrayVec;
 use tl_map_county::Map;
 
@@ -18,10 +18,7 @@ pub fn segment_spoken(
 ) -> ArrayVec<RecordLine, 2>
     ensures { result.items ≡ segment_spoken (chains_of (option_copied drawn.entry)) (held lines.now) tlid segment }
 {
-    segment_lines(
-        lines.about(&Subject::Drawn(tlid)),
-        segment_within(drawn, segment),
-    )
+    lines.ends_of(tlid, segment_within(drawn, segment))
 }
 
 /// The lines about a subject, where there is one.

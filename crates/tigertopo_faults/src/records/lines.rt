@@ -1,89 +1,98 @@
 //! The lines of the records that faults speak of.
 
-ghost use Rattle.std.specs.Prelude.{◌≡◌, length};
+ghost use Rattle.std.specs.Prelude.{◌≡◌, IfOk, map, slice_get};
+ghost use Rattle.tigertopo_faults.specs.Records.Kept.{walked, all_walked};
 
+use crate::records::kept::KeptLines;
 use crate::records::line::RecordLine;
-use crate::records::subject::{Subject, Subjects, subjects_naming, subjects_of};
+use crate::records::segment::ends_lines;
+use crate::records::subject::Subject;
+use crate::records::walk::{HeldSegment, held_segments};
+use arrayvec::ArrayVec;
 use indexmap::IndexSet;
 use std::alloc::{AllocError, Global};
 use std::hash::RandomState;
-use tl_check_verdict::MapFault;
-use tl_map_county::Map;
-use tl_record::Record;
 
 /// The records that some faults speak of, with their lines, each under all subjects that name it.
 #[derive(Drop)]
 pub struct RecordLines {
-    subjects: IndexSet<Subject, RandomState>,
-    // The lines of each subject, in the order of the subjects.
-    lines: Vec<Vec<RecordLine>>,
-    ghost paired: { length lines.items ≡ length subjects.keys },
+    kept: KeptLines,
+    // The segments of the chain that each subject draws, in the order of the subjects.
+    segments: Vec<Vec<HeldSegment>>,
+    ghost walked: { map (λ its. its.items) segments.items ≡ all_walked kept.subjects.keys kept.lines.items },
 }
 
 impl RecordLines {
-    ghost use Rattle.std.specs.Prelude.{◌≡◌, [], true, Contains, IfOk, OnOk};
+    ghost use Rattle.std.specs.Prelude.{◌≡◌, [], IfOk};
     ghost use Rattle.tigertopo_faults.specs.declared.records.subject.Subject.{Subject as SubjectOf};
-    ghost use Rattle.tigertopo_faults.specs.Records.Keeping.{held, is_wanted, Grows, Notes};
+    ghost use Rattle.tigertopo_faults.specs.declared.records.subject.Subject.TheVariants.{Drawn as DrawnOf};
+    ghost use Rattle.tigertopo_faults.specs.Records.Ends.{segment_lines};
+    ghost use Rattle.tigertopo_faults.specs.Records.Keeping.{held};
 
-    /// No line, of any of these subjects.
-    pub(crate) fn new(
-        alloc: Global,
-        subjects: IndexSet<Subject, RandomState>,
-    ) -> Result<RecordLines, AllocError>
-        ensures wanted { IfOk result (λ lines. (s : SubjectOf) → Contains subjects.keys s → is_wanted lines s ≡ true) }
-        ensures empty { IfOk result (λ lines. (s : SubjectOf) → held lines s ≡ []) }
+    /// The lines that were kept, and the segments of the chains that they draw.
+    pub(crate) fn of(alloc: Global, kept: KeptLines) -> Result<RecordLines, AllocError>
+        ensures { IfOk result (λ lines. lines.kept ≡ kept) }
     {
-        let mut lines = Vec::with_capacity(alloc, subjects.len())?;
-        for _ in 0..subjects.len() {
-            lines.push(Vec::new(alloc))?;
+        let mut segments = Vec::with_capacity(alloc, kept.len())?;
+        for number in 0..kept.len() {
+            let its = drawn_segments(alloc, kept.subject(number), kept.at(number))?;
+            segments.push(its)?;
         }
-        Ok(RecordLines { subjects, lines })
+        Ok(RecordLines { kept, segments })
     }
 
     /// No line of any subject.
     pub fn none(alloc: Global, hasher: RandomState) -> Result<RecordLines, AllocError>
         ensures { IfOk result (λ lines. (s : SubjectOf) → held lines s ≡ []) }
     {
-        RecordLines::new(alloc, IndexSet::with_hasher(alloc, hasher))
+        let kept = KeptLines::new(alloc, IndexSet::with_hasher(alloc, hasher))?;
+        RecordLines::of(alloc, kept)
     }
 
     /// The records that a subject names, in the order of the text. Of a subject that no fault speaks of there are none.
     pub fn about(&self, subject: &Subject) -> &[RecordLine]
         ensures { result.now ≡ held self.now subject.now }
     {
-        match self.subjects.get_index_of(subject) {
-            Some(number) if number < self.lines.len() => self.lines[number].as_slice(),
-            _ => &[],
-        }
+        self.kept.about(subject)
     }
 
-    // Adds a line to those of a subject, if it is wanted.
-    fn add(&mut self, subject: Option<Subject>, line: RecordLine) -> Result<(), AllocError>
-        ensures { OnOk result (Grows self.old self.new subject line) }
+    /// The records that hold the ends of a segment of the chain with this TLID, in the order of their lines, where there is one.
+    /// The segment's number counts from 0 within the chain.
+    pub fn ends_of(&self, tlid: u64, segment: Option<u32>) -> ArrayVec<RecordLine, 2>
+        ensures { result.items ≡ segment_lines (held self.now (DrawnOf tlid)) segment }
     {
-        let Some(subject) = subject else {
-            return Ok(());
+        let Some(segment) = segment else {
+            return ArrayVec::new();
         };
-        match self.subjects.get_index_of(&subject) {
-            Some(number) if number < self.lines.len() => {
-                self.lines[number].push(line)?;
-                Ok(())
-            }
-            _ => Ok(()),
+        match self.kept.number_of(&Subject::Drawn(tlid)) {
+            Some(number) if number < self.segments.len() => ends_lines(
+                self.kept.at(number),
+                segment,
+                segment_at(self.segments[number].as_slice(), segment),
+            ),
+            _ => ArrayVec::new(),
         }
     }
+}
 
-    // Adds a record's line to those of each wanted subject that names it.
-    pub(crate) fn note(&mut self, line: u64, holds: Record) -> Result<(), AllocError>
-        ensures { OnOk result (Notes self.old self.new (line, holds)) }
-    {
-        let (narrow, wide) = subjects_naming(&holds);
-        let line = RecordLine {
-            line,
-            holds,
-            ends: None,
-        };
-        self.add(narrow, line)?;
-        self.add(wide, line)
+// The segments of the chain that a subject draws, if it is one that does; these are its lines.
+fn drawn_segments(
+    alloc: Global,
+    subject: Subject,
+    lines: &[RecordLine],
+) -> Result<Vec<HeldSegment>, AllocError>
+    ensures { IfOk result (λ segments. segments.items ≡ walked subject lines.now) }
+{
+    match subject {
+        Subject::Drawn(_) => held_segments(alloc, lines),
+        _ => Ok(Vec::new(alloc)),
     }
+}
+
+// The segment with this number, counted from 0, where there is one.
+fn segment_at(segments: &[HeldSegment], number: u32) -> Option<HeldSegment>
+    ensures { result ≡ slice_get segments.now number }
+{
+    let segment = segments.get(number as usize)?;
+    Some(*segment)
 }

@@ -2,7 +2,7 @@
 
 ghost use Rattle.std.specs.Prelude.{◌≡◌, [], IfOk, IfErr, IfSome, option_copied, ⊤};
 ghost use Rattle.tigertopo_faults.specs.declared.records.subject.Subject.{Subject as SubjectOf};
-ghost use Rattle.tigertopo_faults.specs.Records.Keeping.{held};
+ghost use Rattle.tigertopo_faults.specs.Records.Kept.{kept_of};
 ghost use Rattle.tl_record.specs.declared.reader.Standing.TheVariants.{Reading};
 ghost use Rattle.tl_record.specs.Layout.{layout_with};
 ghost use Rattle.tl_record.specs.Records.{records_of};
@@ -12,6 +12,7 @@ ghost use Rattle.tigertopo_faults.specs.Records.Finding.{HoldsAll};
 ghost use Rattle.tl_cert_output.specs.Stops.{StopsFor, TellsDevice};
 ghost use Rattle.tigertopo_faults.specs.Records.Reading.{KeptAll};
 
+use crate::records::kept::KeptLines;
 use crate::records::lines::RecordLines;
 use crate::records::wanted::wanted_subjects;
 use std::alloc::Global;
@@ -40,18 +41,17 @@ pub fn record_lines<R: Source>(
     ensures failures { TellsDevice (R.failure_count records.old) (R.failure_count records.new) result }
 {
     let subjects = wanted_subjects(alloc, hasher, map, faults)?;
-    let lines = RecordLines::new(alloc, subjects)?;
+    let empty = KeptLines::new(alloc, subjects)?;
     let mut reader = RecordReader::with(records, options);
-    read_into(&mut reader, lines)
+    let kept = read_into(&mut reader, empty)?;
+    let lines = RecordLines::of(alloc, kept)?;
+    Ok(lines)
 }
 
 // Keeps the lines of all records that a reader has to give.
-fn read_into<R: Source>(
-    reader: &mut RecordReader<R>,
-    empty: RecordLines,
-) -> Result<RecordLines, Stop>
+fn read_into<R: Source>(reader: &mut RecordReader<R>, empty: KeptLines) -> Result<KeptLines, Stop>
     requires standing { standing_of reader.old ≡ Reading }
-    requires empty { (s : SubjectOf) → held empty s ≡ [] }
+    requires empty { (s : SubjectOf) → kept_of empty s ≡ [] }
     ensures lines { IfOk result (KeptAll empty (outcome R.remaining reader.old)) }
     ensures stops { IfErr result (StopsFor ⊤) }
     ensures failures { TellsDevice (R.failure_count (source_of reader.old))

@@ -3,55 +3,69 @@
 ghost use Rattle.std.specs.Prelude.{◌≡◌, ◌<◌, ℕ, option_copied, length};
 ghost use Rattle.tl_map_county.specs.Segments.{segments_before};
 ghost use Rattle.tigertopo_faults.specs.Records.SpokenOf.{chains_of};
-ghost use Rattle.tigertopo_faults.specs.Records.Ends.{segment_within, segment_lines, holding, ends_lines};
+ghost use Rattle.tigertopo_faults.specs.Records.Ends.{segment_within, holding, in_order, ends_lines};
 
 use crate::records::line::{Part, RecordLine, SegmentEnds};
-use crate::records::walk::{HeldPoint, segment_ends};
+use crate::records::walk::{HeldPoint, HeldSegment};
 use arrayvec::ArrayVec;
 use tl_map_county::Map;
 
-/// The records that hold the ends of a chain's segment, in the order of their lines, where there is one: of the records of
-/// types 1 and 2 of the chain. The segment's number counts from 0 within the chain.
-pub fn segment_lines(lines: &[RecordLine], segment: Option<u32>) -> ArrayVec<RecordLine, 2>
-    ensures { result.items ≡ segment_lines lines.now segment }
+/// The records of a segment's ends, in their order, where there is one: of the records of types 1 and 2 of its chain. The
+/// segment's number counts from 0 within the chain.
+pub(crate) fn ends_lines(
+    lines: &[RecordLine],
+    number: u32,
+    segment: Option<HeldSegment>,
+) -> ArrayVec<RecordLine, 2>
+    ensures { result.items ≡ ends_lines lines.now number segment }
 {
-    match segment {
-        Some(segment) => ends_lines(segment, segment_ends(lines, segment)),
-        None => ArrayVec::new(),
+    let Some(HeldSegment { from, to }) = segment else {
+        return ArrayVec::new();
+    };
+    if from.place == to.place {
+        return in_order(holding(lines, number, from, Some(to.part)), None);
+    }
+    let first = holding(lines, number, from, None);
+    let last = holding(lines, number, to, None);
+    if from.place < to.place {
+        in_order(first, last)
+    } else {
+        in_order(last, first)
     }
 }
 
-// The records of two ends, in the order of their lines.
-fn ends_lines(segment: u32, ends: Option<(HeldPoint, HeldPoint)>) -> ArrayVec<RecordLine, 2>
-    ensures { result.items ≡ ends_lines segment ends }
+// Those of two records that there are.
+fn in_order(first: Option<RecordLine>, second: Option<RecordLine>) -> ArrayVec<RecordLine, 2>
+    ensures { result.items ≡ in_order first second }
 {
     let mut lines = ArrayVec::new();
-    if let Some((a, b)) = ends {
-        if a.line.line == b.line.line {
-            lines.push(holding(segment, a, Some(b.part)));
-        } else if a.line.line < b.line.line {
-            lines.push(holding(segment, a, None));
-            lines.push(holding(segment, b, None));
-        } else {
-            lines.push(holding(segment, b, None));
-            lines.push(holding(segment, a, None));
-        }
+    if let Some(line) = first {
+        lines.push(line);
+    }
+    if let Some(line) = second {
+        lines.push(line);
     }
     lines
 }
 
-// A record as one that holds an end of the segment, or both.
-fn holding(segment: u32, point: HeldPoint, other: Option<Part>) -> RecordLine
-    ensures { result ≡ holding segment point other }
+// The record that holds one end of a segment, as one that does; or both, where the other end is given.
+fn holding(
+    lines: &[RecordLine],
+    number: u32,
+    point: HeldPoint,
+    other: Option<Part>,
+) -> Option<RecordLine>
+    ensures { result ≡ holding lines.now number point other }
 {
-    RecordLine {
+    let line = lines.get(point.place)?;
+    Some(RecordLine {
         ends: Some(SegmentEnds {
-            segment,
+            segment: number,
             part: point.part,
             other,
         }),
-        ..point.line
-    }
+        ..*line
+    })
 }
 
 /// The number of a segment within its chain, counted from 0; its own number counts from 0 through all chains of the map.
@@ -64,15 +78,21 @@ pub fn segment_within(map: Option<&Map>, segment: u32) -> Option<u32>
     }
 }
 
-// The same of a segment that the map has: how many before it are of its chain.
+// The same of a segment that the map has: how many before it are of its chain, which are those that lie next before it.
 fn number_within(map: &Map, segment: u32) -> u32
     requires { segment < segments_before map.now.chains (length map.now.chains) }
     ensures { segment_within map.now.chains segment ≡ Some result }
 {
     let chain = map.segment_chain(segment);
-    let mut number = 0;
-    while number < segment && map.segment_chain(segment - number - 1) == chain {
-        number += 1;
+    let mut fewest = 0;
+    let mut most = segment;
+    while fewest < most {
+        let many = most - (most - fewest) / 2;
+        if map.segment_chain(segment - many) == chain {
+            fewest = many;
+        } else {
+            most = many - 1;
+        }
     }
-    number
+    fewest
 }

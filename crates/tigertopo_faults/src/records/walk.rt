@@ -1,33 +1,47 @@
-//! The ends of a chain's segment, as its points are gone through.
+//! The segments of a chain, as its points are gone through.
 
-ghost use Rattle.std.specs.Prelude.{◌≡◌};
-ghost use Rattle.tigertopo_faults.specs.Records.Ends.{segment_ends};
+ghost use Rattle.std.specs.Prelude.{◌≡◌, IfOk};
+ghost use Rattle.tigertopo_faults.specs.Records.Ends.{segments_held};
 
 use crate::records::line::{Part, RecordLine};
+use std::alloc::{AllocError, Global};
 use tl_geom::Point;
 use tl_record::{PAIRS, Record};
 
-/// A point of a chain, with the record that holds it.
+/// A point of a chain, and where it is held.
 #[derive(Clone, Copy, Debug)]
 pub struct HeldPoint {
-    pub line: RecordLine,
+    /// The place of its record among those of the chain, counted from 0.
+    pub place: usize,
     pub part: Part,
     pub point: Point,
 }
 
-/// The ends of the segment with this number, counted from 0, of the chain that these records of types 1 and 2 draw.
-pub(crate) fn segment_ends(lines: &[RecordLine], segment: u32) -> Option<(HeldPoint, HeldPoint)>
-    ensures { result ≡ segment_ends lines.now segment }
+/// A segment of a chain, by its ends.
+#[derive(Clone, Copy, Debug)]
+pub struct HeldSegment {
+    pub from: HeldPoint,
+    pub to: HeldPoint,
+}
+
+// The last number that a type 2 record may have: its RTSQ has three digits.
+const LAST_NUMBER: usize = 999;
+
+/// The segments of the chain that these records of types 1 and 2 draw, from its start to its end.
+pub(crate) fn held_segments(
+    alloc: Global,
+    lines: &[RecordLine],
+) -> Result<Vec<HeldSegment>, AllocError>
+    ensures { IfOk result (λ segments. segments.items ≡ segments_held lines.now) }
 {
     let mut walk = Walk {
         before: None,
-        left: segment,
-        found: None,
+        segments: Vec::new(alloc),
     };
-    walk.pass_starts(lines);
-    walk.pass_pairs(lines);
-    walk.pass_ends(lines);
-    walk.found
+    walk.pass_starts(lines)?;
+    walk.pass_pairs(lines)?;
+    walk.pass_ends(lines)?;
+    Ok(walk.segments)
 }
 
 // A walk along a chain, from its start.
@@ -35,129 +49,138 @@ pub(crate) fn segment_ends(lines: &[RecordLine], segment: u32) -> Option<(HeldPo
 struct Walk {
     // The point where it is.
     before: Option<HeldPoint>,
-    // How many segments come before the one that is looked for.
-    left: u32,
-    // Its ends.
-    found: Option<(HeldPoint, HeldPoint)>,
+    // The segments behind it.
+    segments: Vec<HeldSegment>,
 }
 
 impl Walk {
-    ghost use Rattle.std.specs.Prelude.{◌≡◌, ◌++◌, ◌∷◌, List, length};
+    ghost use Rattle.std.specs.Prelude.{◌≡◌, ◌++◌, ◌∷◌, List, OnOk, length, min};
     ghost use Rattle.tigertopo_faults.specs.declared.records.walk.HeldPoint.{HeldPoint as HeldPointOf};
-    ghost use Rattle.tigertopo_faults.specs.Records.Ends.{start_in, starts_held, pair_held, pairs_held, pairs_in, pairs_at, pairs_from, end_in, ends_held};
+    ghost use Rattle.tigertopo_faults.specs.Records.Ends.{held_from, start_in, pair_held, pairs_held, pairs_in, pairs_from, end_in};
     ghost use Rattle.tigertopo_faults.specs.Records.Walking.{going};
 
     // Goes on to a point.
-    fn pass(&mut self, point: HeldPoint)
-        ensures { (rest : List HeldPointOf) → going self.new rest ≡ going self.old (point ∷ rest) }
+    fn pass(&mut self, point: HeldPoint) -> Result<(), AllocError>
+        ensures { OnOk result ((rest : List HeldPointOf) → going self.new rest ≡ going self.old (point ∷ rest)) }
     {
-        if self.found.is_some() {
-            return;
-        }
         if let Some(before) = self.before {
             if before.point != point.point {
-                if self.left == 0 {
-                    self.found = Some((before, point));
-                    return;
-                }
-                self.left -= 1;
+                self.segments.push(HeldSegment {
+                    from: before,
+                    to: point,
+                })?;
             }
         }
         self.before = Some(point);
+        Ok(())
     }
 
     // Goes on to where the chain starts.
-    fn pass_starts(&mut self, lines: &[RecordLine])
-        ensures { (rest : List HeldPointOf) → going self.new rest ≡ going self.old (starts_held lines.now ++ rest) }
+    fn pass_starts(&mut self, lines: &[RecordLine]) -> Result<(), AllocError>
+        ensures { OnOk result ((rest : List HeldPointOf) → going self.new rest ≡ going self.old (held_from start_in 0 lines.now ++ rest)) }
     {
-        for line in lines {
-            self.pass_start(line);
+        for place in 0..lines.len() {
+            self.pass_start(place, &lines[place])?;
         }
+        Ok(())
     }
 
     // Goes on to where a record has its chain start, if it is of type 1.
-    fn pass_start(&mut self, line: &RecordLine)
-        ensures { (rest : List HeldPointOf) → going self.new rest ≡ going self.old (start_in line.now line.now.holds ++ rest) }
+    fn pass_start(&mut self, place: usize, line: &RecordLine) -> Result<(), AllocError>
+        ensures { OnOk result ((rest : List HeldPointOf) → going self.new rest ≡ going self.old (start_in place line.now.holds ++ rest)) }
     {
         if let Record::Chain { from, .. } = line.holds {
             self.pass(HeldPoint {
-                line: *line,
+                place,
                 part: Part::Start,
                 point: from,
-            });
+            })?;
         }
+        Ok(())
     }
 
     // Goes on along all pairs, by rising RTSQ.
-    fn pass_pairs(&mut self, lines: &[RecordLine])
-        ensures { (rest : List HeldPointOf) → going self.new rest ≡ going self.old (pairs_from lines.now (length lines.now) 1 ++ rest) }
+    fn pass_pairs(&mut self, lines: &[RecordLine]) -> Result<(), AllocError>
+        ensures { OnOk result ((rest : List HeldPointOf) → going self.new rest ≡ going self.old (pairs_from lines.now (min (length lines.now) 999) 1 ++ rest)) }
     {
-        for place in 0..lines.len() {
-            self.pass_pairs_at(lines, place + 1);
+        for number in 0..lines.len().min(LAST_NUMBER) {
+            self.pass_pairs_at(lines, number + 1)?;
         }
+        Ok(())
     }
 
     // Goes on along the pairs with this RTSQ.
-    fn pass_pairs_at(&mut self, lines: &[RecordLine], number: usize)
-        ensures { (rest : List HeldPointOf) → going self.new rest ≡ going self.old (pairs_at number lines.now ++ rest) }
+    fn pass_pairs_at(&mut self, lines: &[RecordLine], number: usize) -> Result<(), AllocError>
+        ensures { OnOk result ((rest : List HeldPointOf) → going self.new rest ≡ going self.old (held_from (pairs_in number) 0 lines.now ++ rest)) }
     {
-        for line in lines {
-            self.pass_pairs_in(line, number);
+        for place in 0..lines.len() {
+            self.pass_pairs_in(place, &lines[place], number)?;
         }
+        Ok(())
     }
 
     // Goes on along the pairs of a record, if it is of type 2 and has this RTSQ.
-    fn pass_pairs_in(&mut self, line: &RecordLine, number: usize)
-        ensures { (rest : List HeldPointOf) → going self.new rest ≡ going self.old (pairs_in number line.now line.now.holds ++ rest) }
+    fn pass_pairs_in(
+        &mut self,
+        place: usize,
+        line: &RecordLine,
+        number: usize,
+    ) -> Result<(), AllocError>
+        ensures { OnOk result ((rest : List HeldPointOf) → going self.new rest ≡ going self.old (pairs_in number place line.now.holds ++ rest)) }
     {
         if let Record::Shape { rtsq, pairs, .. } = &line.holds {
             if usize::from(*rtsq) == number {
-                self.pass_each(line, pairs);
+                self.pass_each(place, pairs)?;
             }
         }
+        Ok(())
     }
 
     // Goes on along the pairs of a record.
-    fn pass_each(&mut self, line: &RecordLine, pairs: &[Option<Point>; PAIRS])
-        ensures { (rest : List HeldPointOf) → going self.new rest ≡ going self.old (pairs_held line.now 1 pairs.now ++ rest) }
+    fn pass_each(&mut self, place: usize, pairs: &[Option<Point>; PAIRS]) -> Result<(), AllocError>
+        ensures { OnOk result ((rest : List HeldPointOf) → going self.new rest ≡ going self.old (pairs_held place 1 pairs.now ++ rest)) }
     {
-        for place in 0..PAIRS {
-            self.pass_pair(line, place as u8 + 1, pairs[place]);
+        for pair in 0..PAIRS {
+            self.pass_pair(place, pair as u8 + 1, pairs[pair])?;
         }
+        Ok(())
     }
 
     // Goes on to a pair, if it is used.
-    fn pass_pair(&mut self, line: &RecordLine, number: u8, pair: Option<Point>)
-        ensures { (rest : List HeldPointOf) → going self.new rest ≡ going self.old (pair_held line.now number pair ++ rest) }
+    fn pass_pair(&mut self, place: usize, number: u8, pair: Option<Point>) -> Result<(), AllocError>
+        ensures { OnOk result ((rest : List HeldPointOf) → going self.new rest ≡ going self.old (pair_held place number pair ++ rest)) }
     {
         if let Some(point) = pair {
             self.pass(HeldPoint {
-                line: *line,
+                place,
                 part: Part::Pair(number),
                 point,
-            });
+            })?;
         }
+        Ok(())
     }
 
     // Goes on to where the chain ends.
-    fn pass_ends(&mut self, lines: &[RecordLine])
-        ensures { (rest : List HeldPointOf) → going self.new rest ≡ going self.old (ends_held lines.now ++ rest) }
+    fn pass_ends(&mut self, lines: &[RecordLine]) -> Result<(), AllocError>
+        ensures { OnOk result ((rest : List HeldPointOf) → going self.new rest ≡ going self.old (held_from end_in 0 lines.now ++ rest)) }
     {
-        for line in lines {
-            self.pass_end(line);
+        for place in 0..lines.len() {
+            self.pass_end(place, &lines[place])?;
         }
+        Ok(())
     }
 
     // Goes on to where a record has its chain end, if it is of type 1.
-    fn pass_end(&mut self, line: &RecordLine)
-        ensures { (rest : List HeldPointOf) → going self.new rest ≡ going self.old (end_in line.now line.now.holds ++ rest) }
+    fn pass_end(&mut self, place: usize, line: &RecordLine) -> Result<(), AllocError>
+        ensures { OnOk result ((rest : List HeldPointOf) → going self.new rest ≡ going self.old (end_in place line.now.holds ++ rest)) }
     {
         if let Record::Chain { to, .. } = line.holds {
             self.pass(HeldPoint {
-                line: *line,
+                place,
                 part: Part::End,
                 point: to,
-            });
+            })?;
         }
+        Ok(())
     }
 }

@@ -3,7 +3,7 @@ use Rattle.tl_record.specs.declared.judge.TheConstants.{MAX_LINES}
 use Rattle.tl_record.specs.declared.reader.Standing.TheVariants.{Reading, Ended}
 use Rattle.tl_record.specs.Reader.{source_of, lines_of, skipped_of, standing_of, outcome}
 use Rattle.tigertopo_faults.specs.declared.records.subject.Subject.{Subject}
-use Rattle.tigertopo_faults.specs.Records.Keeping.{is_wanted}
+use Rattle.tigertopo_faults.specs.Records.Kept.{is_wanted}
 use Rattle.tigertopo_faults.specs.Records.Reading.{KeptSoFar}
 use Rattle.tigertopo_faults.proofs.records.read.read_into.Given as goal
 

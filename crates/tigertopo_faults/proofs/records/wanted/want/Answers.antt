@@ -1,5 +1,5 @@
 use Rattle.std.proofs.Common.{sym, ◌∙◌}
-use Rattle.tigertopo_faults.proofs.RecordsLemmas.LinesLemmas.{inserted}
+use Rattle.tigertopo_faults.proofs.RecordsLemmas.KeptLemmas.{inserted}
 use Rattle.tigertopo_faults.proofs.records.wanted.want.Goals as goal
 
 pub returns-in_ok-insert-clause-added : goal.returns-in_ok-insert-clause-added

@@ -1,6 +1,13 @@
+use Rattle.std.proofs.Common.{◌<◌, arith, length, min}
+use Rattle.tigertopo_faults.specs.Records.Ends.{pairs_from}
 use Rattle.tigertopo_faults.proofs.RecordsLemmas.WalkLemmas.{goes_number}
 use Rattle.tigertopo_faults.proofs.records.walk.Walk.pass_pairs.Goals as goal
 
-pub loop-place-preserved : goal.loop-place-preserved
-loop-place-preserved c =
-    goes_number c.args.lines.now c.loop-place.place c.args.self.now c.loop-place.self c.pass_pairs_at.new.self c.loop-place-test.true c.loop-place.invariant c.pass_pairs_at.ensures
+pub loop-number-preserved : goal.loop-number-preserved
+loop-number-preserved c =
+    let lines = c.args.lines.now in
+    let count = min (length lines) 999 in
+    let below = c.loop-number-test.true in
+    let end = c.min-number-end.ensures in
+    let within : c.loop-number.number < count = omega (arith, below, end) in
+    goes_number lines count c.loop-number.number (pairs_from lines count 1) c.args.self.now c.loop-number.self c.pass_pairs_at.new.self within c.loop-number.invariant c.in_ok-pass_pairs_at.ensures

@@ -1,6 +1,6 @@
 use Rattle.std.proofs.Common.{refl, arith}
-use Rattle.tigertopo_faults.proofs.RecordsLemmas.LinesLemmas.{derived_index, grown}
-use Rattle.tigertopo_faults.proofs.records.lines.RecordLines.add.Goals as goal
+use Rattle.tigertopo_faults.proofs.RecordsLemmas.KeptLemmas.{derived_index, grown}
+use Rattle.tigertopo_faults.proofs.records.kept.KeptLines.add.Goals as goal
 
 pub returns-in_ok-push-in-Some-get_index_of : goal.returns-in_ok-push-in-Some-get_index_of
 returns-in_ok-push-in-Some-get_index_of c =

@@ -16,9 +16,9 @@ use Rattle.tigertopo_faults.specs.declared.records.subject.Subject.{Subject}
 use Rattle.tigertopo_faults.specs.declared.records.subject.Subject.TheVariants as subject
 use Rattle.tigertopo_faults.specs.contracts.records.subject.SubjectPartialEq.TheImpl.{eq-value}
 use Rattle.tigertopo_faults.specs.declared.records.line.RecordLine.{RecordLine}
-use Rattle.tigertopo_faults.specs.declared.records.lines.RecordLines.{RecordLines}
+use Rattle.tigertopo_faults.specs.declared.records.kept.KeptLines.{KeptLines}
 use Rattle.tigertopo_faults.specs.Records.SpokenOf.{Subjects, is_about, line_of}
-use Rattle.tigertopo_faults.specs.Records.Keeping.{held, Grows, Notes}
+use Rattle.tigertopo_faults.specs.Records.Kept.{kept_of, Grows, Notes}
 use Rattle.tigertopo_faults.specs.Records.Naming.{subjects_naming, same_subject, is_subject}
 
 both_true : (a b : Bool) → (a && b) ≡ true → (a ≡ true) × (b ≡ true)
@@ -37,7 +37,7 @@ key_refl : (k : PolyKey) → same_key k k ≡ true
 key_refl k = rw (nat_list_eq_equiv.refl k.cenid) (eq-eqb k.polyid k.polyid refl)
 
 -- subjects that are the same are equal
-subject_is : (s t : Subject) → same_subject s t ≡ true → s ≡ t
+pub subject_is : (s t : Subject) → same_subject s t ≡ true → s ≡ t
 subject_is (subject.Chain t) (subject.Chain u) same = ap subject.Chain (eqb-true t u same)
 subject_is (subject.Chain t) (subject.Shape u) same = absurd (let wrong = same in cc)
 subject_is (subject.Chain t) (subject.Drawn u) same = absurd (let wrong = same in cc)
@@ -255,18 +255,18 @@ grown keys lists t s i old pushed line of_t within at is wanted =
         rw (got_other lists i j pushed apart, append-nil) refl
 
 -- a record is noted under both of its subjects
-noted : (old mid new : RecordLines) (subjects : Subjects) (number : ℕ) (r : Record) → subjects ≡ subjects_naming r → Grows old mid subjects.0 (line_of (number, r))
+noted : (old mid new : KeptLines) (subjects : Subjects) (number : ℕ) (r : Record) → subjects ≡ subjects_naming r → Grows old mid subjects.0 (line_of (number, r))
     → Grows mid new subjects.1 (line_of (number, r)) → Notes old new (number, r)
 noted old mid new subjects number r is one two =
     let line : RecordLine = line_of (number, r) in record {
       wanted = λ s. two.wanted s ∙ one.wanted s;
       lines = λ s wanted.
           two.lines s (one.wanted s ∙ wanted) ∙ ap (λ (l : List RecordLine). l ++ (if is_subject subjects.1 s then line ∷ [] else [])) (one.lines s wanted)
-          ∙ append_assoc (held old s) (if is_subject subjects.0 s then line ∷ [] else []) (if is_subject subjects.1 s then line ∷ [] else [])
-          ∙ ap (λ (l : List RecordLine). held old s ++ l) (rw is (named_once r s line));
+          ∙ append_assoc (kept_of old s) (if is_subject subjects.0 s then line ∷ [] else []) (if is_subject subjects.1 s then line ∷ [] else [])
+          ∙ ap (λ (l : List RecordLine). kept_of old s ++ l) (rw is (named_once r s line));
     }
 
-pub noted_then : {E : Type 0} (old mid new : RecordLines) (subjects : Subjects) (number : ℕ) (r : Record) (done : Result (Unit {0}) E) → subjects ≡ subjects_naming r
+pub noted_then : {E : Type 0} (old mid new : KeptLines) (subjects : Subjects) (number : ℕ) (r : Record) (done : Result (Unit {0}) E) → subjects ≡ subjects_naming r
     → Grows old mid subjects.0 (line_of (number, r)) → OnOk done (Grows mid new subjects.1 (line_of (number, r))) → OnOk done (Notes old new (number, r))
 noted_then old mid new subjects number r (Ok done) is one two = noted old mid new subjects number r is one two
 noted_then old mid new subjects number r (Err stop) is one two = tt

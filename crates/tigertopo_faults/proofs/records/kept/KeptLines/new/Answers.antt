@@ -1,5 +1,5 @@
 use Rattle.tigertopo_faults.proofs.RecordsLemmas.ReadingLemmas.{numbered, holds_none}
-use Rattle.tigertopo_faults.proofs.records.lines.RecordLines.new.Goals as goal
+use Rattle.tigertopo_faults.proofs.records.kept.KeptLines.new.Goals as goal
 
 pub returns-clause-wanted : goal.returns-clause-wanted
 returns-clause-wanted c = λ s has. numbered c.args.subjects.keys s has

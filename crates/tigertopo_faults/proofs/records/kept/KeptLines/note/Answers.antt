@@ -1,5 +1,5 @@
-use Rattle.tigertopo_faults.proofs.RecordsLemmas.LinesLemmas.{noted_then}
-use Rattle.tigertopo_faults.proofs.records.lines.RecordLines.note.Goals as goal
+use Rattle.tigertopo_faults.proofs.RecordsLemmas.KeptLemmas.{noted_then}
+use Rattle.tigertopo_faults.proofs.records.kept.KeptLines.note.Goals as goal
 
 pub returns : goal.returns
 returns c =

@@ -1,6 +1,6 @@
 use Rattle.std.proofs.Common.{◌≡◌, length}
 use Rattle.tigertopo_faults.proofs.RecordsLemmas.ReadingLemmas.{AreEmpty}
-use Rattle.tigertopo_faults.proofs.records.lines.RecordLines.new.Given as goal
+use Rattle.tigertopo_faults.proofs.records.kept.KeptLines.new.Given as goal
 
 abbrev pub invariant-loop : goal.invariant-loop
 invariant-loop l = record {
