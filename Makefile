@@ -56,6 +56,7 @@ certificates: build
 judge: build
 	python3 tests/judge/judged.py
 	python3 tests/judge/faced.py
+	python3 tests/judge/parts.py
 
 full-size: build
 	python3 tests/size/full_size.py

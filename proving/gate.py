@@ -28,6 +28,7 @@ import memory
 import mended
 import objects
 import packaged
+import parts as maps_in_parts
 import pictures
 import progress
 import promises
@@ -75,6 +76,7 @@ def parts():
         ("examples", examples.play_all),
         ("many counties", counties.play_all),
         ("faces of maps", faced.play_all),
+        ("maps in parts", maps_in_parts.play_all),
         ("files made over others", made_files.play_all),
         ("pictures", pictures.play_all),
         ("manual page, completions and programs of the libraries", installed.play_all),

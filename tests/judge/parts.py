@@ -7,7 +7,7 @@ Written from the definitions in `tl_check_parts/specs` alone. Drawn maps are cut
 the seams. A part has the chains that name one of its polygons, each with its own sides, and of those that name none those that are
 told by it. The border has the chains whose sides aren't both of one part, on which each part is one polygon. Then the map has to be
 sound with faces that agree exactly where each part is, and the border is. And joining gives back what was cut: the parts' chains by
-their TLIDs the map's, and those of the parts' own borders the border's.
+their TLIDs the map's, and those of the parts' own borders the border's, whose own border is the map's.
 """
 
 import random
@@ -24,7 +24,7 @@ import draw
 import faces
 import judge
 
-CASES = 2500
+CASES = 1200
 # What may be done to a map before it is cut, beside what is done at its seams.
 SPOILING = [
     draw.exchange_sides,
@@ -225,6 +225,8 @@ def complaint_of(cut, seen):
         return "the parts don't join to the map"
     if not are_one(joined(border_of(part, number) for number, part in cut.parts.items()), cut.border):
         return "the borders of the parts don't join to the border"
+    if border_of(cut.border, 0).chains != border_of(cut.whole, 0).chains:
+        return "the border of the border is not the map's"
     parts, border, whole = all(map(is_sound, cut.parts.values())), is_sound(cut.border), is_sound(cut.whole)
     seen[f"parts {'sound' if parts else 'unsound'}, border {'sound' if border else 'unsound'}"] += 1
     if whole != (parts and border):

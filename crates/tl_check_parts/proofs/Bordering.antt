@@ -1,5 +1,5 @@
 -- The joined borders of all parts are the border of the joined map.
-use Rattle.std.proofs.Common.{◌≡◌, ℕ, ◌<◌, Bool, true, false, ◌||◌, Some, List, [], length, get_or, slice_get, refl, sym, ap, subst, ◌∙◌, arith}
+use Rattle.std.proofs.Common.{◌≡◌, ℕ, ◌<◌, Bool, true, false, ◌||◌, Some, List, [], ◌∷◌, length, take, get_or, slice_get, refl, sym, ap, subst, ◌∙◌, arith}
 use Rattle.std.specs.Prelude.{◌==◌, if◌then◌else◌}
 use Rattle.std.proofs.lemmas.Bool.{false≢true, eqb-true, eq-eqb}
 use Rattle.std.proofs.lemmas.Option.{slice_get-get_or, slice_get_within}
@@ -10,7 +10,7 @@ use Rattle.tl_map_county.specs.TheMap.{TheMap, MapChain}
 use Rattle.tl_check_parts.specs.Told.{IsNamed, AreTold}
 use Rattle.tl_check_parts.specs.Homes.{Homes, is_of, is_blank, own, tells, name, is_border, IsOfParts, IsTold}
 use Rattle.tl_check_parts.specs.Joined.{IsJoined, IsBorder, IsPolygonOf, IsFromPart, IsPointOfPart}
-use Rattle.tl_check_parts.specs.Borders.{as_one, has_blank, IsFirstPoint, IsBorderOf, AreBordersOf, of_borders, AreRising}
+use Rattle.tl_check_parts.specs.Borders.{as_one, has_blank, IsPointWithin, IsBorderOf, AreBordersOf, of_borders, AreRising}
 use Rattle.tl_check_parts.proofs.Told.{place, StandsAt, there, IsToldAs, told_as}
 use Rattle.tl_check_parts.proofs.Names.{tells_left, tells_right, not_both, IsToldBy, some_part}
 use Rattle.tl_check_parts.proofs.Matching.{one_of_tlid, IsFound, IsSource, told_by}
@@ -265,16 +265,42 @@ module _ (homes : Homes) (parts borders : List TheMap) (joined border : TheMap) 
       lt : k < length parts
       lt = above k (slice_get_within borders k f.part f.is)
 
-      by_place : (first : polygons.Polygon) → polygon.point ≡ first.point → IsPolygonOf homes joined k 0 first → IsPointOfPart homes joined k polygon
-      by_place first e q = record { place = q.place; other = first; is = q.is; part = q.part; point = e }
+      by_place : (p : ℕ) (other : polygons.Polygon) → polygon.point ≡ other.point → IsPolygonOf homes joined k p other → IsPointOfPart homes joined k polygon
+      by_place p other e q = record { place = q.place; other = other; is = q.is; part = q.part; point = e }
 
       by_first : IsBorderOf (at parts k) f.part → IsPointOfPart homes joined k polygon
       by_first b =
-          let first : IsFirstPoint (at parts k) polygon = b.points polygon f.polygon_is in
-          by_place first.first first.point (is_joined.known k 0 (at parts k) first.first (at_is parts k lt) first.is)
+          let w : IsPointWithin (at parts k) polygon = b.points polygon f.polygon_is in
+          by_place w.place w.other w.point (is_joined.known k w.place (at parts k) w.other (at_is parts k lt) w.is)
+
+  -- a part that has a polygon has one in its border, and so in the joined borders
+  all_there : (p : ℕ) (polygon : polygons.Polygon) → IsFromPart homes parts p polygon → homes.part p < length border.polygons
+  all_there p polygon f = by_border (own_borders.each (homes.part p) f.part (at borders (homes.part p)) f.is (at_is borders (homes.part p) (below (homes.part p) lt)))
+    where
+      lt : homes.part p < length parts
+      lt = slice_get_within parts (homes.part p) f.part f.is
+
+      some : 0 < length f.part.polygons
+      some = let h = slice_get_within f.part.polygons (homes.number p) polygon f.polygon_is in omega (arith, h)
+
+      one_taken : (ps : List polygons.Polygon) → 0 < length ps → 0 < length (take 1 ps)
+      one_taken [] h = h
+      one_taken (q ∷ ps) h = omega arith
+
+      there_is : (first : polygons.Polygon) → IsPolygonOf (of_borders homes) border (homes.part p) 0 first → homes.part p < length border.polygons
+      there_is first q = subst (λ z. z < length border.polygons) q.part (slice_get_within border.polygons q.place first q.is)
+
+      by_border : IsBorderOf f.part (at borders (homes.part p)) → homes.part p < length border.polygons
+      by_border b =
+          let many : 0 < length (at borders (homes.part p)).polygons = subst (λ n. 0 < n) (sym b.many) (one_taken f.part.polygons some) in
+          let first : polygons.Polygon = get_or (at borders (homes.part p)).polygons 0 polygon in
+          there_is first
+          (is_border_joined.known (homes.part p) 0 (at borders (homes.part p)) first (at_is borders (homes.part p) (below (homes.part p) lt))
+          (slice_get-get_or (at borders (homes.part p)).polygons 0 polygon many))
 
   pub joined_borders : IsBorder homes joined border
   joined_borders = record {
     chains = told_by (name homes) (is_border homes) joined.chains border.chains rising border_rising found source;
     points = λ k polygon is. point_of k polygon (is_border_joined.no_other k polygon is);
+    all = λ p polygon is. all_there p polygon (is_joined.no_other p polygon is);
   }

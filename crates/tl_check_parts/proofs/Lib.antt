@@ -24,3 +24,4 @@ pub mod Placing
 pub mod Enough
 pub mod Matching
 pub mod Bordering
+pub mod Steps

@@ -1,5 +1,5 @@
 -- Where the chains that are told stand among all.
-use Rattle.std.proofs.Common.{◌≡◌, ⊎_elim, ℕ, zero, suc, Bool, true, false, Some, List, [], ◌∷◌, refl, sym, ap, subst, ◌∙◌, arith}
+use Rattle.std.proofs.Common.{inl, inr, ◌≡◌, ⊎_elim, ℕ, zero, suc, Bool, true, false, Some, List, [], ◌∷◌, refl, sym, ap, subst, ◌∙◌, arith}
 use Rattle.std.specs.Prelude.{slice_get, if◌then◌else◌}
 use Rattle.std.proofs.lemmas.Bool.{false≢true}
 use Rattle.tl_geom.specs.declared.rational.Rational.{Rational}
@@ -12,6 +12,22 @@ use Rattle.tl_check_faces.specs.Facing.{IsOff}
 use Rattle.tl_check_faces.specs.Clear.{IsOffBoundary}
 use Rattle.tl_check_faces.specs.Crossings.Headings.{AreProper}
 use Rattle.tl_check_parts.specs.Told.{IsNamed, AreTold}
+
+-- some chains of any map can be told so
+pub can_be_told : (names : Side → Side) (told : MapChain → Bool) (chains : List MapChain) → (others : List MapChain) × AreTold names told chains others
+can_be_told names told [] = ([], refl)
+can_be_told names told (c ∷ chains) = go (told c) refl (can_be_told names told chains)
+  where
+    named : MapChain
+    named = record { tlid = c.tlid; points = c.points; left = names c.left; right = names c.right; start_cell = c.start_cell; end_cell = c.end_cell }
+
+    left_out : (others : List MapChain) → told c ≡ false → AreTold names told chains others → AreTold names told (c ∷ chains) others
+    left_out [] e are = (e, are)
+    left_out (o ∷ others) e are = inr (e, are)
+
+    go : (b : Bool) → told c ≡ b → (others : List MapChain) × AreTold names told chains others → (others : List MapChain) × AreTold names told (c ∷ chains) others
+    go true e (others, are) = (named ∷ others, inl (e, (record { tlid = refl; points = refl; left = refl; right = refl }, are)))
+    go false e (others, are) = (others, left_out others e are)
 
 module _ (names : Side → Side) (told : MapChain → Bool) where
   -- the place among all chains of the one that is told at a place

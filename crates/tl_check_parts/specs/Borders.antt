@@ -16,18 +16,19 @@ as_one (Polygon p) = Polygon 0
 abbrev pub has_blank : MapChain → Bool
 has_blank c = is_blank c.left || is_blank c.right
 
--- the point is that of the part's first polygon
-pub record IsFirstPoint (part : TheMap) (polygon : polygons.Polygon) : Type 0 where
-  pub first : polygons.Polygon
-  pub is : slice_get part.polygons 0 ≡ Some first
-  pub point : polygon.point ≡ first.point
+-- the point is that of a polygon of the part
+pub record IsPointWithin (part : TheMap) (polygon : polygons.Polygon) : Type 0 where
+  pub place : ℕ
+  pub other : polygons.Polygon
+  pub is : slice_get part.polygons place ≡ Some other
+  pub point : polygon.point ≡ other.point
 
 -- the border of a part: its chains that name a polygon on one side at most, on which the part is one polygon; and that polygon, with the
--- point of the part's first, if there is one
+-- point of any of the part's, if there is one
 pub record IsBorderOf (part border : TheMap) : Type 0 where
   pub chains : AreTold as_one has_blank part.chains border.chains
   pub many : length border.polygons ≡ length (take 1 part.polygons)
-  pub points : (polygon : polygons.Polygon) → slice_get border.polygons 0 ≡ Some polygon → IsFirstPoint part polygon
+  pub points : (polygon : polygons.Polygon) → slice_get border.polygons 0 ≡ Some polygon → IsPointWithin part polygon
 
 -- there is one of each part
 pub record AreBordersOf (parts borders : List TheMap) : Type 0 where

@@ -1,5 +1,5 @@
 -- Joined maps and their borders.
-use Rattle.std.specs.Prelude.{◌≡◌, ℕ, Some, List, length, slice_get}
+use Rattle.std.specs.Prelude.{◌≡◌, ℕ, ◌<◌, Some, List, length, slice_get}
 use Rattle.tl_map_county.specs.declared.polygons.Polygon.{Polygon}
 use Rattle.tl_map_county.specs.TheMap.{TheMap, MapChain}
 use Rattle.tl_check_parts.specs.Told.{AreTold}
@@ -36,7 +36,9 @@ pub record IsPointOfPart (homes : Homes) (joined : TheMap) (k : ℕ) (polygon : 
   pub part : homes.part place ≡ k
   pub point : polygon.point ≡ other.point
 
--- the border between the parts: the chains whose sides aren't both of one part, on which each part is one polygon
+-- the border between the parts: the chains whose sides aren't both of one part, on which each part is one polygon; and these polygons, each
+-- with the point of any of the part's
 pub record IsBorder (homes : Homes) (joined border : TheMap) : Type 0 where
   pub chains : AreTold (name homes) (is_border homes) joined.chains border.chains
   pub points : (k : ℕ) (polygon : Polygon) → slice_get border.polygons k ≡ Some polygon → IsPointOfPart homes joined k polygon
+  pub all : (p : ℕ) (polygon : Polygon) → slice_get joined.polygons p ≡ Some polygon → homes.part p < length border.polygons

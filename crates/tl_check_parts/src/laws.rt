@@ -1,21 +1,23 @@
 //! Laws of the definitions, each the contract of a function that does nothing.
 
-ghost use Rattle.std.specs.Prelude.{◌≡◌, ◌↔◌, ℕ, ℤ, pos, Bool, false, Some, List, slice_get, if◌then◌else◌};
+ghost use Rattle.std.specs.Prelude.{◌≡◌, ◌↔◌, ℕ, ℤ, pos, Bool, true, false, Some, List, slice_get, if◌then◌else◌};
 ghost use Rattle.tl_geom.specs.declared.rational.Rational.{Rational};
 ghost use Rattle.tl_map_county.specs.declared.sides.Side.{Side};
 ghost use Rattle.tl_map_county.specs.declared.sides.Side.TheVariants.{Outside};
 ghost use Rattle.tl_map_county.specs.TheMap.{TheMap, MapChain};
 ghost use Rattle.tl_check_planar.specs.Planar.{IsPlanar, IsOnChain};
 ghost use Rattle.tl_check_sides.specs.Sides.{SidesAgree, IsClosed};
+ghost use Rattle.tl_check_sides.specs.Cells.Cells.{CellsAgree};
 ghost use Rattle.tl_check_inside.specs.Inside.{is_polygon};
 ghost use Rattle.tl_check_faces.specs.Crossings.Headings.{AreProper};
 ghost use Rattle.tl_check_faces.specs.Rays.{IsCountAt};
 ghost use Rattle.tl_check_faces.specs.Clear.{IsOffBoundary};
 ghost use Rattle.tl_check_faces.specs.Truth.{AreFacesTrue, AreSidesTrue};
+ghost use Rattle.tl_check_verdict.specs.Sound.{IsSoundFor};
 ghost use Rattle.tl_check_parts.specs.Told.{AreTold};
 ghost use Rattle.tl_check_parts.specs.Homes.{Homes, is_named};
 ghost use Rattle.tl_check_parts.specs.Joined.{IsJoined, IsBorder};
-ghost use Rattle.tl_check_parts.specs.Borders.{AreBordersOf, of_borders, AreRising};
+ghost use Rattle.tl_check_parts.specs.Borders.{IsBorderOf, AreBordersOf, of_borders, AreRising};
 ghost use Rattle.tl_check_parts.specs.Lines.{DoPolygonsStay};
 ghost use Rattle.tl_check_parts.specs.Sound.{IsSoundWithFaces, AreSoundWithFaces};
 
@@ -38,6 +40,22 @@ pub fn joined_borders_are_the_border()
 pub fn parts_and_the_border_are_enough()
     ensures { (homes : Homes) (parts : List TheMap) (joined border : TheMap) → IsJoined homes parts joined → IsBorder homes joined border →
         AreProper joined.chains → IsSoundWithFaces joined ↔ (AreSoundWithFaces parts × IsSoundWithFaces border) }
+{}
+
+/// A border of the border between parts is one of the joined map. So a state's border can be taken from its counties' borders, and a nation
+/// be decided in steps: counties, the joined borders of each state's counties, and the joined borders of states.
+pub fn a_border_of_the_border_is_one_of_the_map()
+    ensures { (homes : Homes) (joined border own : TheMap) → IsBorder homes joined border → IsBorderOf border own → IsBorderOf joined own }
+{}
+
+/// Any chains of a map can be told with their sides by any names. So each map can be cut into parts, and has a border between them.
+pub fn any_chains_can_be_told()
+    ensures { (names : Side → Side) (told : MapChain → Bool) (chains : List MapChain) → (others : List MapChain) × AreTold names told chains others }
+{}
+
+/// What is asked here of each map is what `audit` asks with `--faces`, where zero-cell ids agree, as where none are read.
+pub fn it_is_what_is_asked_with_faces()
+    ensures { (m : TheMap) → CellsAgree m.chains → IsSoundFor true m ↔ IsSoundWithFaces m }
 {}
 
 /// Where some chains of a map are told with their sides by other names, they count what all chains count by these names, if each chain
