@@ -77,16 +77,10 @@ class Picture:
 
 
 def rings_of(steps):
-    """The rings of a path, each as its corners; a ring that isn't closed before its `z` is wrong."""
-    rings = []
-    for ring in re.findall(r"M[^Mz]*z", steps):
-        first, *others = [tuple(map(int, it)) for it in re.findall(r"[Ml](-?\d+) (-?\d+)", ring)]
-        corners = [first]
-        for dx, dy in others:
-            corners.append((corners[-1][0] + dx, corners[-1][1] + dy))
-        want("where a ring ends", corners[-1], first)
-        rings.append(corners)
-    want("what a path has beside rings", re.sub(r"M-?\d+ -?\d+(l-?\d+ -?\d+)*z", "", steps), "")
+    """The rings of a path, each as its corners; a ring that doesn't end where it began is wrong."""
+    rings = [[tuple(map(int, it)) for it in re.findall(r"[ML](-?\d+) (-?\d+)", ring)] for ring in re.findall(r"M[^Mz]*z", steps)]
+    want("where rings end", [ring[-1] for ring in rings], [ring[0] for ring in rings])
+    want("what a path has beside rings", re.sub(r"M-?\d+ -?\d+(L-?\d+ -?\d+)*z", "", steps), "")
     return rings
 
 

@@ -10,9 +10,8 @@ use Rattle.tl_map_county.specs.TheMap.{MapChain, IsChain}
 use Rattle.tl_map_county.specs.Darts.{directed, is_along, dart_start}
 use Rattle.tigertopo_svg.specs.declared.frame.Frame.{Frame}
 use Rattle.tigertopo_svg.specs.declared.frame.Spot.{Spot}
-use Rattle.tigertopo_svg.specs.declared.walk.Stroke.{Stroke}
 use Rattle.tigertopo_svg.specs.Frames.{spot_of, no_points}
-use Rattle.tigertopo_svg.specs.Texts.{move_text, stroke_text}
+use Rattle.tigertopo_svg.specs.Texts.{pair_text, move_text}
 use Rattle.tigertopo_svg.specs.Fills.{Filling, is_spot, step_text, steps_text, line_text, ring_start, around_darts, around_walks, rings_of, is_filled, fill_text, polygon_fill, fills_below}
 use Rattle.tigertopo_svg.proofs.DrawingLemmas.{from_place}
 
@@ -45,7 +44,7 @@ pub line_end : (f : Frame) (along : Bool) (ps : List Point) (place : ℕ) → le
 line_end f along ps place past = single f (drop (place - 1) (directed along ps)) (omega (arith, length-drop (place - 1) (directed along ps), directed_long along ps))
 
 -- a step that is written, and one that isn't
-pub step_there : (from to : Spot) → is_spot from to ≡ false → stroke_text (record { from = from; to = to; begins = false }) ≡ step_text from to
+pub step_there : (from to : Spot) → is_spot from to ≡ false → pair_text (codes "L") to.x to.y ≡ step_text from to
 unfolding step_text
 step_there from to other = rw other refl
 

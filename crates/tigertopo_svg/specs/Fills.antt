@@ -13,7 +13,7 @@ use Rattle.tigertopo_geojson.specs.Groups.{places, Linked, AreGroups}
 use Rattle.tigertopo_svg.specs.declared.frame.Frame.{Frame}
 use Rattle.tigertopo_svg.specs.declared.frame.Spot.{Spot}
 use Rattle.tigertopo_svg.specs.Frames.{spot_of, meets, is_small, around_points, no_points}
-use Rattle.tigertopo_svg.specs.Texts.{stroke_text, move_text}
+use Rattle.tigertopo_svg.specs.Texts.{pair_text, move_text}
 use Rattle.tigertopo_svg.specs.Colours.{AreColours, hue}
 
 -- what polygons are filled by: the map's walks, and each polygon's colour
@@ -65,7 +65,7 @@ is_spot a b = int_eq a.x b.x && int_eq a.y b.y
 
 -- the way from one place of a picture to another, if it is another
 unfoldable pub step_text : (from to : Spot) → List ℕ
-step_text from to = if is_spot from to then [] else stroke_text (record { from = from; to = to; begins = false })
+step_text from to = if is_spot from to then [] else pair_text (codes "L") to.x to.y
 
 -- the way from a point along others
 abbrev pub steps_text : Frame → Point → List Point → List ℕ

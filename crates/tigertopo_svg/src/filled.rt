@@ -9,14 +9,13 @@ ghost use Rattle.tigertopo_geojson.specs.Groups.{GoesThrough};
 ghost use Rattle.tigertopo_svg.specs.Frames.{no_points};
 ghost use Rattle.tigertopo_svg.specs.Colours.{hue};
 ghost use Rattle.tigertopo_svg.specs.Fills.{AreFillsOf, rings_of, around_dart, around_darts, around_walks, is_filled};
-ghost use Rattle.tigertopo_svg.specs.Fills.{is_spot, step_text, line_text, dart_text, ring_start, ring_text, fill_head, fill_text, polygon_fill, fills_below};
+ghost use Rattle.tigertopo_svg.specs.Fills.{is_spot, step_text, line_text as way_text, dart_text, ring_start, ring_text, fill_head, fill_text, polygon_fill, fills_below};
 ghost use Rattle.tigertopo_svg.specs.Fills.{all_fills, fills_part};
 
 use crate::bounds::around;
 use crate::fills::Fills;
 use crate::frame::{Frame, Spot};
-use crate::text::{fill_head, move_text, stroke_text};
-use crate::walk::Stroke;
+use crate::text::{fill_head, line_text, move_text};
 use tigertopo_geojson::{Groups, point_at, walk_at};
 use tl_cert_output::Printer;
 use tl_geom::{Point, Rect};
@@ -264,7 +263,7 @@ fn print_line<S: Sink>(
     out: &mut S,
 )
     ensures { Prints S.contents S.failure_count (out.old, printer.old) (out.new, printer.new)
-        (line_text frame (directed is_along points.now)) }
+        (way_text frame (directed is_along points.now)) }
 {
     for place in 1..points.len() {
         let from = frame.spot(point_at(points, is_along, place - 1));
@@ -278,11 +277,7 @@ fn print_step<S: Sink>(from: Spot, to: Spot, printer: &mut Printer, out: &mut S)
     ensures { Prints S.contents S.failure_count (out.old, printer.old) (out.new, printer.new) (step_text from to) }
 {
     if !is_spot(from, to) {
-        let text = stroke_text(Stroke {
-            from,
-            to,
-            begins: false,
-        });
+        let text = line_text(to);
         printer.add(text.as_str().as_bytes(), out);
     }
 }

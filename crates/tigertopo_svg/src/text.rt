@@ -2,7 +2,7 @@
 
 ghost use Rattle.std.specs.Prelude.{◌≡◌, ◌+◌, ◌≤◌, ◌++◌, pos, ◌+ℤ◌, ◌-ℤ◌, codes, length};
 ghost use Rattle.arrayvec.specs.ArrayString.{array_string_len};
-ghost use Rattle.tigertopo_svg.specs.Texts.{move_text, start_text, stroke_text, dot_text, size_text, circle_head};
+ghost use Rattle.tigertopo_svg.specs.Texts.{pair_text, move_text, start_text, stroke_text, dot_text, size_text, circle_head};
 ghost use Rattle.tigertopo_svg.specs.Colours.{hue};
 ghost use Rattle.tigertopo_svg.specs.Fills.{fill_head};
 ghost use Rattle.tigertopo_svg.specs.Texts.{closer, closer_text, is_eastern, west_label, east_label, label_head};
@@ -43,6 +43,16 @@ pub fn move_text(spot: Spot) -> ArrayString<PART_ROOM>
 {
     let mut text = ArrayString::new();
     push_move(&mut text, spot);
+    text
+}
+
+/// The command that draws a line to a place.
+pub fn line_text(spot: Spot) -> ArrayString<PART_ROOM>
+    ensures { result.bytes ≡ pair_text (codes "L") spot.x spot.y }
+{
+    let mut text = ArrayString::new();
+    push_number(&mut text, "L", spot.x);
+    push_number(&mut text, " ", spot.y);
     text
 }
 

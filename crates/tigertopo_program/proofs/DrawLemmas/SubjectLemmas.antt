@@ -129,4 +129,4 @@ pub plain_subject : (options : Options) (known : Option (List ℕ)) (m : TheMap)
     → IfSome known (λ text. IsReadFrom (records_of (layout_with options) text) m) → faults ≡ [] → touched ≡ 0
     → IfSome known (λ text. IsReadFrom (records_of (layout_with options) text) m × AreToShow options.faces false m faults touched)
 plain_subject options None m faults touched is none as_none = tt
-plain_subject options (Some text) m faults touched is none as_none = (is, none, as_none)
+plain_subject options (Some text) m faults touched is none as_none = (is, (none, as_none))
