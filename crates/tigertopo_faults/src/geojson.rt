@@ -15,8 +15,7 @@ mod text;
 mod words;
 
 pub(crate) use fault::{print_names, print_spoken};
-pub(crate) use place::{print_position, print_signed};
-pub(crate) use words::{print_words, rest_of};
-
 pub use faults::print_faults;
+pub(crate) use place::{print_position, print_signed};
 pub use text::FaultsText;
+pub(crate) use words::{print_words, rest_of};

@@ -157,10 +157,7 @@ fn listed_report(alloc: Global, form: Form, report: Report) -> Result<Listed, Al
         }),
         Form::Objects => {
             let object = sound_object(&report);
-            Ok(Listed::Lines(Vec::from_slice(
-                alloc,
-                object.as_str().as_bytes(),
-            )?))
+            Ok(Listed::Lines(Vec::from_slice(alloc, object.as_str().as_bytes())?))
         }
     }
 }

@@ -42,7 +42,11 @@ fn numbered(byte: u8) -> ArrayVec<u8, 6>
 fn byte_character(byte: u8) -> ArrayVec<u8, 6>
     ensures { result.items ≡ byte_character byte }
 {
-    if byte < 127 { json_byte(byte) } else { numbered(byte) }
+    if byte < 127 {
+        json_byte(byte)
+    } else {
+        numbered(byte)
+    }
 }
 
 /// Adds a text as a string.

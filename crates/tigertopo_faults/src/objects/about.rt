@@ -68,7 +68,13 @@ fn limit_word<'a>(what: Limited) -> &'a [u8]
 fn print_darts<S: Sink>(one: u32, other: u32, printer: &mut Printer, out: &mut S)
     ensures { Prints S.contents S.failure_count (out.old, printer.old) (out.new, printer.new) (pair_text (codes ",\"darts\":") one other) }
 {
-    print_pair(b",\"darts\":", u64::from(one), u64::from(other), printer, out);
+    print_pair(
+        b",\"darts\":",
+        u64::from(one),
+        u64::from(other),
+        printer,
+        out,
+    );
 }
 
 // Prints two numbers behind this name.

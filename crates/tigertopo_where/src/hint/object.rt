@@ -15,11 +15,7 @@ use tl_cert_output::refusal_line;
 use tl_record::{Cause, Columns, Options};
 
 /// Adds the beginning of the object of a refused line.
-pub fn push_refused_object(
-    text: &mut Vec<u8>,
-    number: u64,
-    cause: Cause,
-) -> Result<(), AllocError>
+pub fn push_refused_object(text: &mut Vec<u8>, number: u64, cause: Cause) -> Result<(), AllocError>
     ensures { OnOk result (text.new.items ≡ text.old.items ++ refused_object number cause) }
 {
     let line = refusal_line(number, cause);
