@@ -48,6 +48,9 @@ RUNS = [
     ["audit", "--all", "--faces", EXAMPLES / "faults" / "G7"],
     ["audit", "--all", "--where", EXAMPLES / "faults" / "town"],
     ["audit", "--all", "--where", EXAMPLES / "faults" / "L2"],
+    ["audit", "--json", EXAMPLES / "county"],
+    ["audit", "--all", "--json", EXAMPLES / "faults" / "town"],
+    ["audit", "--all", "--json", EXAMPLES / "faults" / "L2"],
     ["audit", "--geojson", MADE, EXAMPLES / "county"],
     ["audit", "--geojson", MADE, EXAMPLES / "faults" / "M9"],
     ["audit", "--all", "--where", "--geojson", MADE, EXAMPLES / "faults" / "town"],
@@ -225,7 +228,7 @@ def play_pipes(count, program, folder):
         text = file.read_bytes()
         listed = answer_to(program, folder, ["audit", "--all", file])[0]
         ask = {"cwd": folder, "input": text, "capture_output": True}
-        for words in (["--all", "--where"], ["--where"], ["--all", "--where", "skipped"]):
+        for words in (["--all", "--where"], ["--where"], ["--json"], ["--all", "--json"], ["--all", "--where", "skipped"]):
             done = subprocess.run([program, "audit", *words, file], **ask)
             wanted = (done.returncode, *(it.replace(bytes(file), b"/dev/stdin") for it in (done.stdout, done.stderr)))
             done = subprocess.run([program, "audit", *words, "/dev/stdin"], **ask)
