@@ -133,7 +133,11 @@ impl fmt::Display for Drawn {
 
     fn fmt<W: fmt::Write>(&self, f: &mut fmt::Formatter<W>) -> fmt::Result {
         match self.faults {
-            Some(faults) if self.touched == 0 => write!(f, "drawn chains={} faults={faults}", self.chains),
+            Some(faults) if self.touched == 0 => write!(
+                f,
+                "drawn chains={} faults={faults}",
+                self.chains
+            ),
             Some(faults) => write!(
                 f,
                 "drawn chains={} faults={faults} touched polygons={} not looked at",

@@ -104,7 +104,7 @@ pub all_places : (M : ℕ → Type 0) (g n : ℕ) (groups : List (Option ℕ)) �
 all_places M g n [] holds = tt
 all_places M g n (group ∷ rest) holds =
     let behind : AllByRecursion M (places_from g (suc n) rest) =
-        all_places M g (suc n) rest (λ k within is. subst M (let e : n + suc k ≡ suc n + k = omega arith in e) (holds (suc k) (let h : k < length rest = within in omega arith) is)) in
+    all_places M g (suc n) rest (λ k within is. subst M (let e : n + suc k ≡ suc n + k = omega arith in e) (holds (suc k) (let h : k < length rest = within in omega arith) is)) in
     with_first M n (places_from g (suc n) rest) (is_group g group)
     (λ own. subst M (let e : n + 0 ≡ n = omega arith in e) (holds 0 (omega arith) (is_own g group own))) behind
 
@@ -163,8 +163,8 @@ all_taken chains lefts colours p marks are coloured all c taken =
     let d = taken.beside.dart in
     let within : d < 2 * length chains = dart_within chains d p taken.beside.left in
     let marked : Marks chains colours p marks d =
-        subst (Marks chains colours p marks) (let e : 0 + d ≡ d = omega arith in e)
-        (each_place (Marks chains colours p marks) p 0 lefts all d (omega (arith, within, are.all)) (are.each d within ∙ taken.beside.left)) in
+    subst (Marks chains colours p marks) (let e : 0 + d ≡ d = omega arith in e)
+    (each_place (Marks chains colours p marks) p 0 lefts all d (omega (arith, within, are.all)) (are.each d within ∙ taken.beside.left)) in
     marked c (record { other = taken.other; beside = taken.beside.right; known = omega (arith, taken.lower, coloured); has = taken.has })
 
 -- ---- one polygon more
@@ -268,10 +268,10 @@ one_marked chains p colours before marks more kept so long marked taken bound ad
     let all = so.are.all in
     let sizes = kept_long p colour marks kept bound added.kept_are in
     let free : ¬ IsTaken chains colours p colour = λ was.
-        let other : was.other < length colours = omega (arith, was.lower, all) in
-        let known = so.known was.other other in
-        let has = was.has in
-        added.free (omega (arith, known, has, long)) (marked colour was) in
+    let other : was.other < length colours = omega (arith, was.lower, all) in
+    let known = so.known was.other other in
+    let has = was.has in
+    added.free (omega (arith, known, has, long)) (marked colour was) in
     let least : (c : ℕ) → c < colour → IsTaken chains colours p c = λ c less. taken c (omega (arith, less, sizes.2, sizes.1)) (added.first c less) in
     record {
       are = subst (AreColours chains (p + 1)) (sym added.more_is) (one_coloured chains p colour colours so.are free least);

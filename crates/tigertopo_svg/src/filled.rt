@@ -41,13 +41,7 @@ pub fn print_fills<S: Sink>(
 }
 
 // Prints them.
-fn print_all<S: Sink>(
-    map: &Map,
-    frame: Frame,
-    fills: &Fills,
-    printer: &mut Printer,
-    out: &mut S,
-)
+fn print_all<S: Sink>(map: &Map, frame: Frame, fills: &Fills, printer: &mut Printer, out: &mut S)
     requires { AreFillsOf map.now fills.now }
     ensures { Prints S.contents S.failure_count (out.old, printer.old) (out.new, printer.new)
         (all_fills frame map.now fills.now.filling) }
@@ -211,13 +205,7 @@ fn print_ring<S: Sink>(
 }
 
 // Prints the ring of a walk.
-fn print_walk<S: Sink>(
-    map: &Map,
-    frame: Frame,
-    walk: &[u32],
-    printer: &mut Printer,
-    out: &mut S,
-)
+fn print_walk<S: Sink>(map: &Map, frame: Frame, walk: &[u32], printer: &mut Printer, out: &mut S)
     requires some { 0 < length walk.now }
     requires darts { (k : ℕ) → k < length walk.now → slice_index walk.now k < 2 * length map.now.chains }
     ensures { Prints S.contents S.failure_count (out.old, printer.old) (out.new, printer.new)
@@ -230,13 +218,7 @@ fn print_walk<S: Sink>(
 }
 
 // Prints the way along darts.
-fn print_darts<S: Sink>(
-    map: &Map,
-    frame: Frame,
-    walk: &[u32],
-    printer: &mut Printer,
-    out: &mut S,
-)
+fn print_darts<S: Sink>(map: &Map, frame: Frame, walk: &[u32], printer: &mut Printer, out: &mut S)
     requires { (k : ℕ) → k < length walk.now → slice_index walk.now k < 2 * length map.now.chains }
     ensures { Prints S.contents S.failure_count (out.old, printer.old) (out.new, printer.new)
         (flat_map (dart_text frame map.now.chains) walk.now) }
@@ -251,7 +233,13 @@ fn print_dart<S: Sink>(map: &Map, frame: Frame, dart: u32, printer: &mut Printer
     ensures { Prints S.contents S.failure_count (out.old, printer.old) (out.new, printer.new)
         (dart_text frame map.now.chains dart) }
 {
-    print_line(frame, map.chain(dart / 2).points, dart % 2 == 0, printer, out);
+    print_line(
+        frame,
+        map.chain(dart / 2).points,
+        dart % 2 == 0,
+        printer,
+        out,
+    );
 }
 
 // Prints the way along the points of a chain, from the first or from the last one.

@@ -72,11 +72,7 @@ impl Fills {
 }
 
 // The polygon on the left of each walk.
-fn polygons_of(
-    alloc: Global,
-    map: &Map,
-    walks: &[Vec<u32>],
-) -> Result<Vec<Option<u32>>, AllocError>
+fn polygons_of(alloc: Global, map: &Map, walks: &[Vec<u32>]) -> Result<Vec<Option<u32>>, AllocError>
     requires { AreWalks map.now.chains (map_list (λ w. w.items) walks.now) }
     ensures { IfOk result (λ list. list.items ≡ map_list (polygon_of_walk map.now.chains) (map_list (λ w. w.items) walks.now)) }
 {

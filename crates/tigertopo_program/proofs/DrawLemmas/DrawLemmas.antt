@@ -24,15 +24,17 @@ module _ (w : World) (options : Options) (known : Option (List ℕ)) (wanted : W
       → StandsUnder w.after wanted.name (picture_with subject.map (picture_by wanted.view subject.map) filling subject.faults.items)
       → answer ≡ answer_of (Drawing (drawn_of (picture_by wanted.view subject.map) wanted.shows subject)) → IsSaid (DrawAnswers w options known wanted) answer
   says_drawn subject drawn answer filling filled kept is =
-      subst (IsSaid (DrawAnswers w options known wanted)) (sym is)
-      (inl (record {
-        map = subject.map;
-        faults = subject.faults.items;
-        touched = subject.touched;
-        drawn = drawn;
-        filling = filling;
-        filled = filled;
-        kept = kept;
-        is = refl;
-        line = refl;
-      }), tt)
+      subst (IsSaid (DrawAnswers w options known wanted)) (sym is) (
+        inl (record {
+          map = subject.map;
+          faults = subject.faults.items;
+          touched = subject.touched;
+          drawn = drawn;
+          filling = filling;
+          filled = filled;
+          kept = kept;
+          is = refl;
+          line = refl;
+        }),
+        tt,
+      )

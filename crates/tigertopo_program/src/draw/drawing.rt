@@ -46,7 +46,14 @@ impl Text for PictureText<'_> {
     ghost is_ready = { λ text. (length text.places.now ≡ length text.faults.now) × IfSome text.fills (λ f. AreFillsOf text.map.now f.now) };
 
     fn print<S: Sink>(&self, _alloc: Global, out: &mut S) -> Result<(), Stop> {
-        print_picture(self.map, self.picture, self.fills, self.faults, self.places, out)
+        print_picture(
+            self.map,
+            self.picture,
+            self.fills,
+            self.faults,
+            self.places,
+            out,
+        )
     }
 }
 
@@ -105,12 +112,7 @@ fn draw_subject<F: FileSystem>(
         (IsDrawnOf w (record { name = string_bytes made.now; view = view; shows = shows_faults }) subject.now) StopsNever result }
 {
     let fills = fills_of(alloc, &subject.map)?;
-    let places = fault_places(
-        alloc,
-        hasher,
-        Some(&subject.map),
-        subject.faults.as_slice(),
-    )?;
+    let places = fault_places(alloc, hasher, Some(&subject.map), subject.faults.as_slice())?;
     let picture = picture_by(view, &subject.map);
     let text = PictureText {
         map: &subject.map,

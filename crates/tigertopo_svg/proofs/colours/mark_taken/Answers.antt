@@ -26,8 +26,8 @@ loop-at-preserved c =
     let lefts = c.requires.darts.0 in
     let within : at < length next = omega (arith, c.loop-at-test.true, c.items.ensures) in
     let left : left_polygon chains at ≡ Some p =
-        passed_here (Marks chains colours p old) next (λ d. left_polygon chains d ≡ Some p) at (places p lefts) within (c.loop-at.invariant.way lefts c.requires.darts.1 c.requires.darts.2)
-        (darts_left chains lefts p c.requires.darts.1) in
+    passed_here (Marks chains colours p old) next (λ d. left_polygon chains d ≡ Some p) at (places p lefts) within (c.loop-at.invariant.way lefts c.requires.darts.1 c.requires.darts.2)
+    (darts_left chains lefts p c.requires.darts.1) in
     record {
       len = omega arith;
       way = λ ls are groups. rw c.next-at.ensures.next

@@ -23,6 +23,6 @@ returns-else-is_filled g c =
     let filling = c.args.fills.now.filling in
     let ns = rings_of chains filling.walks c.args.polygon in
     let goes : GoesThrough c.rings-2.result.now.next c.first-first.result ns =
-        rw (c.rings-2.ensures, c.first-first.ensures, c.rings.ensures) (c.requires.fills.rings.each c.args.polygon c.requires.polygon) in
+    rw (c.rings-2.ensures, c.first-first.ensures, c.rings.ensures) (c.requires.fills.rings.each c.args.polygon c.requires.polygon) in
     let around = rw c.walks.ensures at (c.around_walks-rect.ensures ns goes) in
     as_text (nothing _ _) (fill_none c.args.frame chains filling c.args.polygon c.around_walks-rect.result around (sym c.is_filled.ensures ∙ c.if-is_filled.false))
