@@ -8,7 +8,7 @@ ghost use Rattle.tigertopo_memory_files.specs.Keeping.Stored.{found_with as foun
 use std::alloc::{AllocError, Global};
 use std::collections::VecDeque;
 use std::io;
-use std::io::{ErrorKind, Read};
+use std::io::{ErrorKind, Read, Write};
 use tigertopo_files::{
     FileKind, FileSystem, Opener, Reading, Room, all_names, read_each, read_each_again,
 };
