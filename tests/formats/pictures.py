@@ -363,8 +363,8 @@ def coloured(program, folder):
 
 
 def thin(program, folder):
-    """A polygon that is a third of a pixel wide or high is filled, and one that is smaller isn't: of 29,400 millionths, 10 are a third."""
-    for wide, count in ((10, 2), (9, 1)):
+    """A polygon that is four pixels wide or high is filled, and one that is smaller isn't: of 29,400 millionths, 120 are four pixels."""
+    for wide, count in ((120, 2), (119, 1)):
         lines = ["chain 1 0,0 0,0", "shape 1 1 29400,0 29400,29400 0,29400", "sides 1 A0001/1 -", "point A0001/1 20000,20000"]
         lines += ["chain 2 500,500 500,500", f"shape 2 1 {500 + wide},500 {500 + wide},{500 + wide} 500,{500 + wide}", "sides 2 A0001/2 A0001/1", "point A0001/2 504,504"]
         run(program, "draw", "--out", folder / "map.svg", made(folder, *lines))

@@ -12,7 +12,7 @@ use Rattle.tigertopo_geojson.specs.Areas.{dart_points, walk_polygon}
 use Rattle.tigertopo_geojson.specs.Groups.{places, Linked, AreGroups}
 use Rattle.tigertopo_svg.specs.declared.frame.Frame.{Frame}
 use Rattle.tigertopo_svg.specs.declared.frame.Spot.{Spot}
-use Rattle.tigertopo_svg.specs.Frames.{spot_of, meets, is_small, around_points, no_points}
+use Rattle.tigertopo_svg.specs.Frames.{spot_of, meets, is_speck, around_points, no_points}
 use Rattle.tigertopo_svg.specs.Texts.{pair_text, move_text}
 use Rattle.tigertopo_svg.specs.Colours.{AreColours, hue}
 
@@ -53,9 +53,9 @@ abbrev pub around_walks : List MapChain → List (List ℕ) → Rect → List �
 around_walks chains walks r [] = r
 around_walks chains walks r (n ∷ rest) = around_walks chains walks (around_darts chains r (list_at walks n)) rest
 
--- is what has this rectangle about it filled: where that meets the picture, and isn't smaller than a third of a pixel along both axes
+-- is what has this rectangle about it filled: where that meets the picture, and isn't smaller than four pixels along both axes
 abbrev pub is_filled : Frame → Rect → Bool
-is_filled f r = not (is_small f r) && meets f r
+is_filled f r = not (is_speck f r) && meets f r
 
 -- ---- how it is written
 

@@ -122,6 +122,14 @@ is_near f p q = is_tiny f (unsigned_abs (q.x -ℤ p.x)) f.cosine && is_tiny f (u
 abbrev pub is_small : Frame → Rect → Bool
 is_small f r = is_tiny f (unsigned_abs (r.xmax -ℤ r.xmin)) f.cosine && is_tiny f (unsigned_abs (r.ymax -ℤ r.ymin)) 10000
 
+-- are so many millionths of a degree, by how long one is, shorter than four pixels: the longer side has 245 times four
+abbrev pub is_short : Frame → (gap weight : ℕ) → Bool
+is_short f gap weight = nat_lt (gap * weight * 245) (side f)
+
+-- is a rectangle smaller than four pixels, along both axes
+abbrev pub is_speck : Frame → Rect → Bool
+is_speck f r = is_short f (unsigned_abs (r.xmax -ℤ r.xmin)) f.cosine && is_short f (unsigned_abs (r.ymax -ℤ r.ymin)) 10000
+
 -- the rectangle, so widened that it holds the point
 abbrev pub widened : Rect → Point → Rect
 widened r p =

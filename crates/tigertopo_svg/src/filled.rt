@@ -102,7 +102,7 @@ fn print_polygon<S: Sink>(
 fn is_filled(frame: Frame, rect: Rect) -> bool
     ensures { result ≡ is_filled frame rect }
 {
-    !frame.is_small(rect) && frame.meets(rect)
+    !frame.is_speck(rect) && frame.meets(rect)
 }
 
 // The rectangle about the points of walks, from this one on.

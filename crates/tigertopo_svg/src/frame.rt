@@ -4,7 +4,7 @@ ghost use Rattle.std.specs.Prelude.{◌≡◌, ◌*◌, ◌<◌, ◌≤◌, ◌^
 ghost use Rattle.tigertopo_svg.specs.Frames.{cosine, breadth, height, side, way, position, spot_at};
 ghost use Rattle.tigertopo_svg.specs.Frames.{spot_of, east, south, reach_east, reach_south, first_corner, last_corner};
 ghost use Rattle.tigertopo_svg.specs.Frames.{is_across, are_across, is_held, is_inside, is_beside, is_seen};
-ghost use Rattle.tigertopo_svg.specs.Frames.{meets, is_tiny, is_near, is_small, frame_about, fitted, frame_at};
+ghost use Rattle.tigertopo_svg.specs.Frames.{meets, is_tiny, is_near, is_small, is_short, is_speck, frame_about, fitted, frame_at};
 
 use crate::bounds::bounds_of;
 use crate::lean::is_beside;
@@ -257,6 +257,21 @@ impl Frame {
     {
         self.is_tiny(rect.xmax.abs_diff(rect.xmin), self.cosine)
             && self.is_tiny(rect.ymax.abs_diff(rect.ymin), WHOLE)
+    }
+
+    // Whether so many millionths of a degree are shorter than four pixels, by how long a degree is.
+    fn is_short(self, gap: u32, weight: u16) -> bool
+        ensures { result ≡ is_short self gap weight }
+    {
+        length(gap, weight) * 245 < self.side()
+    }
+
+    /// Whether a rectangle is smaller than four pixels, along both axes.
+    pub fn is_speck(self, rect: Rect) -> bool
+        ensures { result ≡ is_speck self rect }
+    {
+        self.is_short(rect.xmax.abs_diff(rect.xmin), self.cosine)
+            && self.is_short(rect.ymax.abs_diff(rect.ymin), WHOLE)
     }
 }
 
