@@ -58,7 +58,8 @@ impl Text for PictureText<'_> {
 }
 
 /// Draws the map of the records of these files, fitted to it or the place that is given, its polygons filled where it is sound, and its
-/// faults where they are to be shown, into a new file of the name `made`, which it may take, and answers how much the picture shows. The file takes its name when it is whole.
+/// faults where they are to be shown, into a new file of the name `made`, which it may take, and answers how much the picture shows. The
+/// file takes its name when it is whole.
 pub fn draw<F: FileSystem>(
     files: &mut F,
     alloc: Global,
