@@ -9,6 +9,7 @@ use Rattle.tl_record.specs.declared.layout.SidesColumns.{SidesColumns}
 use Rattle.tl_record.specs.declared.layout.PolyPointColumns.{PolyPointColumns}
 use Rattle.tl_record.specs.declared.layout.LandmarkColumns.{LandmarkColumns}
 use Rattle.tl_record.specs.declared.layout.AreaLinkColumns.{AreaLinkColumns}
+use Rattle.tl_record.specs.declared.layout.LandmarksColumns.{LandmarksColumns}
 use Rattle.tl_record.specs.declared.layout.PointColumns.{PointColumns}
 use Rattle.tl_record.specs.declared.stop.Field.{Field}
 use Rattle.tl_record.specs.declared.stop.Field.TheVariants.{Tlid, FrLong, FrLat, ToLong, ToLat, Rtsq, Long, Lat, Tzids, Tzide, CenidL, PolyidL, CenidR, PolyidR, Cenid, Polyid, PolyLong, PolyLat, Land, LaLong, LaLat}
@@ -68,6 +69,14 @@ area_link_columns columns Polyid = Some columns.key.polyid
 area_link_columns columns Land = Some columns.land
 area_link_columns columns other = None
 
+-- the columns of a field of types 7 and 8, 55 and 56, where they are read
+abbrev pub landmarks_columns : Option LandmarksColumns → ℕ → Field → Option Range
+landmarks_columns None kind name = None
+landmarks_columns (Some columns) kind name =
+    if kind == 55 then landmark_columns columns.landmark name else
+    if kind == 56 then area_link_columns columns.area_link name else
+    None
+
 -- the columns of a field, on a line whose first byte is its record type, as 49 is '1', 73 is 'I' and 80 is 'P'; a type that
 -- hasn't the field has none
 abbrev pub columns_of : Layout → ℕ → Field → Option Range
@@ -76,9 +85,7 @@ columns_of layout kind name =
     if kind == 50 then shape_columns layout.shape name else
     if kind == 73 then sides_columns layout.sides name else
     if kind == 80 then poly_point_columns layout.poly_point name else
-    if kind == 55 then landmark_columns layout.landmark name else
-    if kind == 56 then area_link_columns layout.area_link name else
-    None
+    landmarks_columns layout.landmarks kind name
 
 -- columns as a range
 abbrev pub range_of : FieldColumns → Range

@@ -4,12 +4,12 @@ ghost use Rattle.std.specs.Prelude.{◌≡◌, option_map};
 ghost use Rattle.tl_record.specs.Layout.{layout_with};
 ghost use Rattle.tl_record.specs.declared.stop.Field.TheVariants.{Long, Lat};
 ghost use Rattle.tigertopo_where.specs.FieldColumns.{columns_of, range_of, chain_columns, shape_columns, cell_columns, sides_columns};
-ghost use Rattle.tigertopo_where.specs.FieldColumns.{poly_point_columns, landmark_columns, area_link_columns};
+ghost use Rattle.tigertopo_where.specs.FieldColumns.{poly_point_columns, landmark_columns, area_link_columns, landmarks_columns};
 
 use crate::field_columns::FieldColumns;
 use tl_record::{
-    AreaLinkColumns, CellColumns, ChainColumns, ColumnRange, Field, LandmarkColumns, Layout,
-    Options, PolyPointColumns, ShapeColumns, SidesColumns, layout_with,
+    AreaLinkColumns, CellColumns, ChainColumns, ColumnRange, Field, LandmarkColumns,
+    LandmarksColumns, Layout, Options, PolyPointColumns, ShapeColumns, SidesColumns, layout_with,
 };
 
 /// The columns that a field has on a line whose first byte is `kind`, its record type, by the column table with these
@@ -35,9 +35,7 @@ fn columns_by(layout: &Layout, kind: u8, field: Field) -> Option<ColumnRange>
         b'2' => of_shape(&layout.shape, field),
         b'I' => of_sides(&layout.sides, field),
         b'P' => of_polygon(&layout.poly_point, field),
-        b'7' => of_landmark(&layout.landmark, field),
-        b'8' => of_link(&layout.area_link, field),
-        _ => None,
+        _ => of_landmarks(&layout.landmarks, kind, field),
     }
 }
 
@@ -128,6 +126,20 @@ fn of_polygon(columns: &PolyPointColumns, field: Field) -> Option<ColumnRange>
         Field::Polyid => Some(columns.key.polyid),
         Field::PolyLong => Some(columns.point.long),
         Field::PolyLat => Some(columns.point.lat),
+        _ => None,
+    }
+}
+
+// Types 7 and 8, where they are read.
+fn of_landmarks(columns: &Option<LandmarksColumns>, kind: u8, field: Field) -> Option<ColumnRange>
+    ensures { result ≡ landmarks_columns columns.now kind field }
+{
+    let Some(columns) = columns else {
+        return None;
+    };
+    match kind {
+        b'7' => of_landmark(&columns.landmark, field),
+        b'8' => of_link(&columns.area_link, field),
         _ => None,
     }
 }

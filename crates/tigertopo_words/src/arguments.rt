@@ -79,6 +79,7 @@ fn chosen_by(released: Option<&str>, zero_cells: Option<&str>, faces: Option<&st
         zero_cells: is_set(zero_cells),
         released: is_set(released),
         faces: is_set(faces),
+        ..PLAIN
     }
 }
 

@@ -10,6 +10,7 @@ use Rattle.tl_record.specs.declared.layout.KeyColumns.{KeyColumns}
 use Rattle.tl_record.specs.declared.layout.PolyPointColumns.{PolyPointColumns}
 use Rattle.tl_record.specs.declared.layout.LandmarkColumns.{LandmarkColumns}
 use Rattle.tl_record.specs.declared.layout.AreaLinkColumns.{AreaLinkColumns}
+use Rattle.tl_record.specs.declared.layout.LandmarksColumns.{LandmarksColumns}
 use Rattle.tl_record.specs.declared.layout.PointColumns.{PointColumns}
 use Rattle.tl_record.specs.declared.stop.Cause.{Cause}
 use Rattle.tl_record.specs.declared.stop.Cause.TheVariants.{LineTooLong, Missing, BadField, OutOfRange, TooManyLines}
@@ -180,6 +181,14 @@ abbrev pub judged : Result Record Cause → Judgement
 judged (Ok r) = Read r
 judged (Err cause) = Refused cause
 
+-- types 7 and 8, 55 and 56, where they are read
+abbrev pub landmarks_judgement : Option LandmarksColumns → ℕ → List ℕ → Judgement
+landmarks_judgement None kind line = PassedOver
+landmarks_judgement (Some columns) kind line =
+    if kind == 55 then judged (landmark_record columns.landmark line) else
+    if kind == 56 then judged (area_link_record columns.area_link line) else
+    PassedOver
+
 -- what a line's content means: its first byte is the record type, as 49 is '1', 73 is 'I' and 80 is 'P'
 abbrev pub content_judgement : Layout → List ℕ → Judgement
 content_judgement layout [] = PassedOver
@@ -188,9 +197,7 @@ content_judgement layout (kind ∷ rest) =
     if kind == 50 then judged (shape_record layout.shape (kind ∷ rest)) else
     if kind == 73 then judged (sides_record layout.sides (kind ∷ rest)) else
     if kind == 80 then judged (poly_point_record layout.poly_point (kind ∷ rest)) else
-    if kind == 55 then judged (landmark_record layout.landmark (kind ∷ rest)) else
-    if kind == 56 then judged (area_link_record layout.area_link (kind ∷ rest)) else
-    PassedOver
+    landmarks_judgement layout.landmarks kind (kind ∷ rest)
 
 -- what a raw line with this number means: the first rule that applies
 abbrev pub judgement : Layout → ℕ → List ℕ → Judgement

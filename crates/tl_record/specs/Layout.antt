@@ -1,5 +1,5 @@
 -- The column table of the TIGER/Line files of 2006, as data: this project's own profile of the documentation, with what
--- may be chosen of type I.
+-- may be chosen of type I and of landmarks.
 use Rattle.std.specs.Prelude.{[], ◌∷◌, Option, Some, None, false, if◌then◌else◌}
 use Rattle.tl_record.specs.Range.{Range, columns}
 use Rattle.tl_record.specs.declared.options.Options.{Options}
@@ -12,6 +12,7 @@ use Rattle.tl_record.specs.declared.layout.KeyColumns.{KeyColumns}
 use Rattle.tl_record.specs.declared.layout.PolyPointColumns.{PolyPointColumns}
 use Rattle.tl_record.specs.declared.layout.LandmarkColumns.{LandmarkColumns}
 use Rattle.tl_record.specs.declared.layout.AreaLinkColumns.{AreaLinkColumns}
+use Rattle.tl_record.specs.declared.layout.LandmarksColumns.{LandmarksColumns}
 
 -- type 1
 abbrev pub tiger_2006_chain : ChainColumns
@@ -72,6 +73,10 @@ tiger_2006_landmark = record { land = columns 11 20; point = record { long = col
 abbrev pub tiger_2006_area_link : AreaLinkColumns
 tiger_2006_area_link = record { key = tiger_2006_key; land = columns 26 35 }
 
+-- types 7 and 8, which aren't read where counties are joined: a LAND is a county's own number
+abbrev pub landmarks_with : Options → Option LandmarksColumns
+landmarks_with options = if options.join then None else Some (record { landmark = tiger_2006_landmark; area_link = tiger_2006_area_link })
+
 -- the column table with these options
 abbrev pub layout_with : Options → Layout
 layout_with options = record {
@@ -79,10 +84,10 @@ layout_with options = record {
   shape = tiger_2006_shape;
   sides = sides_with options;
   poly_point = tiger_2006_poly_point;
-  landmark = tiger_2006_landmark;
-  area_link = tiger_2006_area_link;
+  landmarks = landmarks_with options;
+  joins = options.join;
 }
 
 -- the column table where nothing is chosen: TLID of type I in columns 6 to 15, and no zero-cell ids
 abbrev pub tiger_2006 : Layout
-tiger_2006 = layout_with (record { zero_cells = false; released = false; faces = false })
+tiger_2006 = layout_with (record { zero_cells = false; released = false; faces = false; join = false; skip_refused = false })

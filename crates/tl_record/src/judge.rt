@@ -4,7 +4,7 @@ ghost use Rattle.std.specs.Prelude.{◌≡◌, ◌+◌, ◌≤◌, ◌<◌, OnEr
 ghost use Rattle.tl_record.specs.Lines.{content};
 ghost use Rattle.tl_record.specs.Judgement.{judgement, content_judgement, chain_record, shape_record, sides_record};
 ghost use Rattle.tl_record.specs.Judgement.{poly_point_record, landmark_record, area_link_record, shape_pairs};
-ghost use Rattle.tl_record.specs.Judgement.{sequence_number, judged};
+ghost use Rattle.tl_record.specs.Judgement.{sequence_number, judged, landmarks_judgement};
 ghost use Rattle.tl_record.specs.Meaning.{with_record, judgement_with, KeepsUnread};
 
 use crate::columns::Columns;
@@ -12,8 +12,8 @@ use crate::field::{
     cells_at, key_at, number_at, optional_point_at, point_at, shape_pair_at, side_at,
 };
 use crate::layout::{
-    AreaLinkColumns, ChainColumns, LandmarkColumns, Layout, PointColumns, PolyPointColumns,
-    ShapeColumns, SidesColumns,
+    AreaLinkColumns, ChainColumns, LandmarkColumns, LandmarksColumns, Layout, PointColumns,
+    PolyPointColumns, ShapeColumns, SidesColumns,
 };
 use crate::record::{NO_RECORD, PAIRS, Record};
 use crate::stop::{Cause, Field};
@@ -191,8 +191,27 @@ fn judge_content(layout: &Layout, content: &[u8], place: &mut Record) -> Meaning
         [b'2', ..] => meaning_of(read_shape(&layout.shape, &line, place)),
         [b'I', ..] => meaning_of(read_sides(&layout.sides, &line, place)),
         [b'P', ..] => meaning_of(read_poly_point(&layout.poly_point, &line, place)),
-        [b'7', ..] => meaning_of(read_landmark(&layout.landmark, &line, place)),
-        [b'8', ..] => meaning_of(read_area_link(&layout.area_link, &line, place)),
+        [kind, ..] => judge_landmarks(&layout.landmarks, *kind, &line, place),
+        [] => Meaning::PassedOver,
+    }
+}
+
+// What a line of type 7 or 8, or of a type that isn't read, means.
+fn judge_landmarks(
+    columns: &Option<LandmarksColumns>,
+    kind: u8,
+    line: &Columns<'_>,
+    place: &mut Record,
+) -> Meaning
+    ensures judged { judgement_with result place.new ≡ landmarks_judgement columns.now kind line.now }
+    ensures kept { KeepsUnread result place.old place.new }
+{
+    let Some(columns) = columns else {
+        return Meaning::PassedOver;
+    };
+    match kind {
+        b'7' => meaning_of(read_landmark(&columns.landmark, line, place)),
+        b'8' => meaning_of(read_area_link(&columns.area_link, line, place)),
         _ => Meaning::PassedOver,
     }
 }

@@ -2,7 +2,7 @@
 
 ghost use Rattle.tl_record.specs.Layout.{tiger_2006, layout_with, sides_with, sides_tlid, sides_cells};
 ghost use Rattle.tl_record.specs.Layout.{tiger_2006_chain, tiger_2006_shape, tiger_2006_key, tiger_2006_poly_point};
-ghost use Rattle.tl_record.specs.Layout.{tiger_2006_landmark, tiger_2006_area_link};
+ghost use Rattle.tl_record.specs.Layout.{tiger_2006_landmark, tiger_2006_area_link, landmarks_with};
 ghost use Rattle.std.specs.Prelude.{◌≡◌};
 ghost use Rattle.tl_record.specs.Range.{columns, IsRange};
 
@@ -77,15 +77,23 @@ pub struct AreaLinkColumns {
     pub land: ColumnRange,
 }
 
-/// Which columns hold the fields of each record type that is read.
+/// The columns of types 7 and 8, landmarks and the polygons that belong to them.
+#[derive(Clone, Copy)]
+pub struct LandmarksColumns {
+    pub landmark: LandmarkColumns,
+    pub area_link: AreaLinkColumns,
+}
+
+/// Which columns hold the fields of each record type that is read. `landmarks` is `None` where types 7 and 8 aren't read.
 #[derive(Clone, Copy)]
 pub struct Layout {
     pub chain: ChainColumns,
     pub shape: ShapeColumns,
     pub sides: SidesColumns,
     pub poly_point: PolyPointColumns,
-    pub landmark: LandmarkColumns,
-    pub area_link: AreaLinkColumns,
+    pub landmarks: Option<LandmarksColumns>,
+    /// Whether chains that two counties tell are joined.
+    pub joins: bool,
 }
 
 fn point_columns(long_first: u16, long_last: u16, lat_first: u16, lat_last: u16) -> PointColumns
@@ -205,8 +213,20 @@ fn tiger_2006_area_link() -> AreaLinkColumns
     }
 }
 
+fn landmarks_with(options: Options) -> Option<LandmarksColumns>
+    ensures { result ≡ landmarks_with options }
+{
+    if options.join {
+        return None;
+    }
+    Some(LandmarksColumns {
+        landmark: tiger_2006_landmark(),
+        area_link: tiger_2006_area_link(),
+    })
+}
+
 /// The column table of the TIGER/Line files of 2006, in this project's own profile of the documentation, with what the
-/// options choose of type I.
+/// options choose of type I, and without types 7 and 8 where counties are joined.
 pub fn layout_with(options: Options) -> Layout
     ensures { result ≡ layout_with options }
 {
@@ -215,8 +235,8 @@ pub fn layout_with(options: Options) -> Layout
         shape: tiger_2006_shape(),
         sides: sides_with(options),
         poly_point: tiger_2006_poly_point(),
-        landmark: tiger_2006_landmark(),
-        area_link: tiger_2006_area_link(),
+        landmarks: landmarks_with(options),
+        joins: options.join,
     }
 }
 

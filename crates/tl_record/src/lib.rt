@@ -35,8 +35,8 @@ pub use fail_at_out::FailAtOut;
 pub use field::{MAX_LATITUDE, MAX_LONGITUDE};
 pub use judge::{Judgement, MAX_LINE_BYTES, MAX_LINES, judge_line};
 pub use layout::{
-    AreaLinkColumns, CellColumns, ChainColumns, KeyColumns, LandmarkColumns, Layout, PointColumns,
-    PolyPointColumns, ShapeColumns, SidesColumns, layout_with, tiger_2006,
+    AreaLinkColumns, CellColumns, ChainColumns, KeyColumns, LandmarkColumns, LandmarksColumns,
+    Layout, PointColumns, PolyPointColumns, ShapeColumns, SidesColumns, layout_with, tiger_2006,
 };
 pub use line_buffer::{Fetched, LineBuffer, fetch_line};
 pub use meter::{Meter, MeterOut};

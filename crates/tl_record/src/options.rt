@@ -13,6 +13,11 @@ pub struct Options {
     /// Whether each place has to lie in one polygon or outside of all, and each side of each chain to name what lies there. No
     /// column is read for it.
     pub faces: bool,
+    /// Whether chains that two counties tell, each with its own polygon on its side, are one chain with both. Lines of types 7 and 8 are
+    /// then passed over: a LAND is a county's own number.
+    pub join: bool,
+    /// Whether lists go on behind refused lines with the records that are left. Other calls take no notice of it.
+    pub skip_refused: bool,
 }
 
 /// The default of [`Options`]: nothing is chosen.
@@ -20,4 +25,6 @@ pub const PLAIN: Options = Options {
     zero_cells: false,
     released: false,
     faces: false,
+    join: false,
+    skip_refused: false,
 };

@@ -4,7 +4,7 @@ use crate::map::keys::keys_of;
 use std::alloc::Global;
 use tl_geom::Point;
 use tl_map::{Map, Side, read_map_with};
-use tl_record::{Meter, Options, PolyKey};
+use tl_record::{Meter, Options, PLAIN, PolyKey};
 
 /// A square with landmarks, and a chain north of it with a zero-cell id at its start. Polygon 1 of another CENID has another
 /// key.
@@ -110,7 +110,7 @@ fn is_seen(alloc: Global, byte: u8) -> bool {
     let options = Options {
         zero_cells: true,
         released: false,
-        faces: false,
+        ..PLAIN
     };
     match read_map_with(alloc, hasher, &mut Meter::new(SQUARE.as_bytes()), options) {
         Ok(map) => is_right(&map),

@@ -4,7 +4,7 @@ use crate::record::pieces::Pieces;
 use std::io::ErrorKind;
 use tl_geom::Point;
 use tl_record::{
-    Cause, FailAt, Field, Meter, Options, PolyKey, ReadStop, Record, RecordReader, Source,
+    Cause, FailAt, Field, Meter, Options, PLAIN, PolyKey, ReadStop, Record, RecordReader, Source,
 };
 
 /// The records of a square by the columns of the released files: a chain, its shape, its sides with the zero-cell id 5 at
@@ -83,7 +83,7 @@ fn is_read(most: usize) -> bool {
     let options = Options {
         zero_cells: true,
         released: true,
-        faces: false,
+        ..PLAIN
     };
     let rest = SQUARE.as_bytes();
     let mut reader = RecordReader::with(Meter::new(Pieces { rest, most }), options);
