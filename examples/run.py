@@ -11,7 +11,7 @@ import tempfile
 from pathlib import Path
 
 TOP = Path(__file__).resolve().parent.parent
-PAGES = ["README.md", "docs/commands.md", "examples/README.md", "docs/faults.md"]
+PAGES = ["README.md", "docs/commands.md", "examples/README.md", "docs/faults.md", "docs/many-counties.md"]
 
 
 def steps(text):

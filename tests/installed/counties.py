@@ -1,5 +1,6 @@
 #!/usr/bin/env python3
-"""Runs the commands of docs/many-counties.md on six counties in place of 203, and compares the table that comes of them.
+"""Runs the commands of docs/many-counties.md: on six counties in place of 203, and compares the table that comes of them; and on the nation
+of examples/nation, whose answer has to be that of `make`.
 
 usage: counties.py [PROGRAM]
 
@@ -8,6 +9,7 @@ A way whose command isn't there is skipped: `parallel`, or `sbatch`, for which a
 
 import os
 import re
+import shutil
 import subprocess
 import sys
 import tempfile
@@ -19,16 +21,20 @@ from folders import PROGRAM, TOP
 import skipped
 
 PAGE = TOP / "docs" / "many-counties.md"
+# The page tells first of counties, and then of states.
+STATES = "## A state, and a nation\n"
 
 
 def blocks_of(text):
     """The page's blocks: of commands, and of what is printed."""
-    blocks = re.findall(r"^```(sh)?\n(.*?)^```$", text, re.M | re.S)
-    return [body for kind, body in blocks if kind], [body for kind, body in blocks if not kind]
+    blocks = re.findall(r"^```(\w*)\n(.*?)^```$", text, re.M | re.S)
+    return [body for kind, body in blocks if kind == "sh"], [body for kind, body in blocks if not kind]
 
 
 def run(command, folder):
-    environment = {**os.environ, "PYTHONDONTWRITEBYTECODE": "1"}
+    """Runs a command where `tigertopo` is the program that is linked in the folder."""
+    path = f"{folder}{os.pathsep}{os.environ['PATH']}"
+    environment = {**os.environ, "PATH": path, "PYTHONDONTWRITEBYTECODE": "1"}
     return subprocess.run(["sh", "-c", command], cwd=folder, env=environment, capture_output=True, text=True)
 
 
@@ -44,10 +50,36 @@ def can_go(way):
     return answers
 
 
+def play_nation(program):
+    """How many ways give the answer on the nation of the examples that its Makefile gives, and how many don't."""
+    text = PAGE.read_text().partition(STATES)[2]
+    ways = [block for block in blocks_of(text)[0] if "border" in block]
+    passed = failed = 0
+    for way in filter(can_go, ways):
+        with tempfile.TemporaryDirectory() as folder:
+            made, ours = (Path(folder) / name for name in ("made", "ours"))
+            for nation in (made, ours):
+                shutil.copytree(TOP / "examples" / "nation", nation, ignore=shutil.ignore_patterns("*.border", "told"))
+                (nation / "tigertopo").symlink_to(program)
+            by_make = run("make -s PROGRAM=tigertopo && cat told", made)
+            done = run(way, ours)
+        is_well = done.returncode == 0 and not done.stderr and by_make.stdout.startswith("sound ") and done.stdout.endswith(by_make.stdout)
+        passed, failed = passed + is_well, failed + (not is_well)
+        if not is_well:
+            print(f"$ {way}-- wanted\n{by_make.stdout}{by_make.stderr}-- printed\n{done.stdout}{done.stderr}", end="")
+    return passed, failed
+
+
 def play_all(program=PROGRAM):
+    """How many ways give what the page prints, and how many don't."""
+    counts = [play_counties(program), play_nation(program)]
+    return sum(well for well, _ in counts), sum(ill for _, ill in counts)
+
+
+def play_counties(program):
     """How many ways give the table that the page prints, and how many don't."""
     # The page's 203 counties become six, of which the same two aren't sound.
-    text = PAGE.read_text().replace("seq 101 303", "seq 101 106").replace("    201 0\n", "      4 0\n")
+    text = PAGE.read_text().partition(STATES)[0].replace("seq 101 303", "seq 101 106").replace("    201 0\n", "      4 0\n")
     commands, (wanted, counted, _) = blocks_of(text)
     make, spoil, script, *ways, table, count = commands
     passed = failed = 0

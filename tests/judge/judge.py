@@ -1,10 +1,10 @@
 #!/usr/bin/env python3
 """A second opinion on a small county: every fault that is true of it, or that its map is sound.
 
-usage: judge.py audit [--all [--most N]] [--where] [--geojson OUT] [--zero-cells] [--released] FILES..
-       judge.py check --cert CERT [--tests N] [--zero-cells] [--released] FILES..
-       judge.py locate [--released] @X,Y FILES..
-       judge.py show [--released] FILES..
+usage: judge.py audit [--all [--most N]] [--where] [--geojson OUT] [--zero-cells] [--released] [--join] FILES..
+       judge.py check --cert CERT [--tests N] [--zero-cells] [--released] [--join] FILES..
+       judge.py locate [--released] [--join] @X,Y FILES..
+       judge.py show [--released] [--join] FILES..
        judge.py landmarks [--released] FILES..
 
 Written from docs/records.md, docs/sound.md, docs/faults.md and docs/certificate.md alone. It states each definition
@@ -241,8 +241,59 @@ class Records:
         return self.by_kind.get(kind, [])
 
 
-def read(texts, zero_cells=False, released=False):
-    """What the lines of the texts mean. Each line is read by itself, whatever stands before it."""
+def is_half(sides):
+    """Names one side, and nothing on the other."""
+    return (sides.left is None) != (sides.right is None)
+
+
+def agree(one, other):
+    """Two zero-cell ids, of which one may be missing."""
+    return one is None or other is None or one == other
+
+
+def are_two_halves(sides):
+    """Two type I records of which one names the left alone, and the other the right alone, and whose zero-cell ids don't differ."""
+    if len(sides) != 2 or not all(map(is_half, sides)):
+        return False
+    one, other = sides
+    return (one.left is None) != (other.left is None) and agree(one.start_cell, other.start_cell) and agree(one.end_cell, other.end_cell)
+
+
+def is_told_twice(chains, shapes, sides):
+    """Two counties tell the chain of these records: its ends are told twice, alike; the pairs of each RTSQ are, or there are none; and each
+    county names its own polygon, on its side."""
+    are_ends = len(chains) == 2 and chains[0] == chains[1]
+    return are_ends and all(shapes.count(it) == 2 for it in shapes) and len({it.rtsq for it in shapes}) * 2 == len(shapes) and are_two_halves(sides)
+
+
+def whole_of(sides):
+    """One type I record with what two halves name."""
+    one, other = sides
+    cells = (one.start_cell or other.start_cell, one.end_cell or other.end_cell)
+    return Sides(one.tlid, *cells, one.left or other.left, one.right or other.right)
+
+
+def joined(all_records):
+    """The records where of each chain that two counties tell each record stands once, and its sides are those of both."""
+    of_tlid = {}
+    for it in all_records:
+        if isinstance(it, (Chain, Shape, Sides)):
+            of_tlid.setdefault(it.tlid, {Chain: [], Shape: [], Sides: []})[type(it)].append(it)
+    twice = {tlid: kinds for tlid, kinds in of_tlid.items() if is_told_twice(kinds[Chain], kinds[Shape], kinds[Sides])}
+    left, done = [], set()
+    for it in all_records:
+        kinds = twice.get(getattr(it, "tlid", None))
+        told = whole_of(kinds[Sides]) if kinds and isinstance(it, Sides) else it
+        if kinds and told in done:
+            continue
+        left.append(told)
+        done |= {told} if kinds else set()
+    return left
+
+
+def read(texts, zero_cells=False, released=False, join=False):
+    """What the lines of the texts mean. Each line is read by itself, whatever stands before it. Where counties are joined, no
+    landmarks are read."""
     records = Records()
     for number, raw in enumerate(raw_lines(texts), 1):
         try:
@@ -250,7 +301,8 @@ def read(texts, zero_cells=False, released=False):
                 raise Refused("L5 TooManyLines")
             if len(raw) > MOST_LINE_BYTES:
                 raise Refused("L1 LineTooLong")
-            record = record_of(Line(raw.removesuffix(b"\r")), zero_cells, released)
+            content = raw.removesuffix(b"\r")
+            record = None if join and content[:1] in (b"7", b"8") else record_of(Line(content), zero_cells, released)
         except Refused as cause:
             records.refusals.append(f"refused line {number} {cause}")
             continue
@@ -258,6 +310,8 @@ def read(texts, zero_cells=False, released=False):
             records.skipped += 1
         else:
             records.all.append(record)
+    if join:
+        records.all = joined(records.all)
     return records
 
 
@@ -1039,9 +1093,9 @@ def status_of(answer):
 class County:
     """The texts of a county's files, and what is asked of them."""
 
-    def __init__(self, texts, zero_cells=False, released=False):
+    def __init__(self, texts, zero_cells=False, released=False, join=False):
         self.released = released
-        self.records = read(texts, zero_cells, released)
+        self.records = read(texts, zero_cells, released, join)
 
     @cached_property
     def record_faults(self):
@@ -1167,7 +1221,7 @@ def asked(words, text_of):
         word = rest.pop(0)
         if word in ("--cert", "--tests", "--out", "--most", "--geojson") and rest:
             values[word] = rest.pop(0)
-        elif word in ("--zero-cells", "--released", "--all", "--where"):
+        elif word in ("--zero-cells", "--released", "--all", "--where", "--join"):
             switches.add(word)
         elif word != "--":
             names.append(word)
@@ -1181,7 +1235,7 @@ def asked(words, text_of):
     if (is_more and command != "audit") or (most is not None and not (is_all and most.isdigit())):
         return None
     texts = [text_of(name) for name in names]
-    county = County(texts, "--zero-cells" in switches, "--released" in switches)
+    county = County(texts, "--zero-cells" in switches, "--released" in switches, "--join" in switches)
     if command == "check":
         return county.check(text_of(values["--cert"]), int(values["--tests"]) if "--tests" in values else None)
     if is_more:
