@@ -57,6 +57,7 @@ judge: build
 	python3 tests/judge/judged.py
 	python3 tests/judge/faced.py
 	python3 tests/judge/parts.py
+	python3 tests/judge/joined.py
 
 full-size: build
 	python3 tests/size/full_size.py

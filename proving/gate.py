@@ -22,6 +22,7 @@ import faced
 import full_size
 import geojson
 import installed
+import joined
 import judged
 import made_files
 import memory
@@ -77,6 +78,7 @@ def parts():
         ("many counties", counties.play_all),
         ("faces of maps", faced.play_all),
         ("maps in parts", maps_in_parts.play_all),
+        ("counties that are joined", joined.play_all),
         ("files made over others", made_files.play_all),
         ("pictures", pictures.play_all),
         ("manual page, completions and programs of the libraries", installed.play_all),
