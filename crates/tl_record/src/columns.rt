@@ -66,13 +66,14 @@ impl ColumnRange {
         usize::from(self.last) + 1 - usize::from(self.first)
     }
 
-    /// The bytes of a line from the first of these columns on, where they are sixteen or more.
+    /// The bytes of a line from the first of these columns on, where they are so many or more.
     #[inline(always)]
-    pub(crate) fn onward<'a>(self, line: &Columns<'a>) -> Option<&'a [u8]>
+    pub(crate) fn onward<'a>(self, line: &Columns<'a>, many: usize) -> Option<&'a [u8]>
+        requires { many < 2 ^ 16 }
         ensures bytes { IfSome result (λ rest. rest.now ≡ drop (self.first - 1) line.now) }
-        ensures many { IfSome result (λ rest. 16 ≤ length rest.now) }
+        ensures many { IfSome result (λ rest. many ≤ length rest.now) }
     {
-        line.onward(self.first)
+        line.onward(self.first, many)
     }
 }
 
@@ -155,15 +156,16 @@ impl<'a> Columns<'a> {
         &self.bytes[start..end]
     }
 
-    /// The bytes from a column on, where they are sixteen or more.
+    /// The bytes from a column on, where they are so many or more.
     #[inline(always)]
-    fn onward(&self, first: u16) -> Option<&'a [u8]>
-        requires { 1 ≤ first }
+    fn onward(&self, first: u16, many: usize) -> Option<&'a [u8]>
+        requires from_one { 1 ≤ first }
+        requires few { many < 2 ^ 16 }
         ensures bytes { IfSome result (λ rest. rest.now ≡ drop (first - 1) self.now) }
-        ensures many { IfSome result (λ rest. 16 ≤ length rest.now) }
+        ensures many { IfSome result (λ rest. many ≤ length rest.now) }
     {
         let start = usize::from(first) - 1;
-        if start + 16 <= self.bytes.len() {
+        if start + many <= self.bytes.len() {
             Some(&self.bytes[start..])
         } else {
             None

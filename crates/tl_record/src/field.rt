@@ -1,6 +1,6 @@
 //! Reading a field of one kind.
 
-ghost use Rattle.std.specs.Prelude.{◌≡◌, ◌≤◌, ◌<◌, ◌^◌, true, pos, IfSome};
+ghost use Rattle.std.specs.Prelude.{◌≡◌, ◌≤◌, ◌<◌, ◌^◌, IfSome};
 ghost use Rattle.tl_record.specs.Fields.{field, is_cenid_byte, number_spelt, coordinate_spelt};
 ghost use Rattle.std.specs.List.{list_all};
 ghost use Rattle.tl_record.specs.Judgement.{required, number_at, coordinate, point, point_at, optional_point};
@@ -10,7 +10,8 @@ ghost use Rattle.tl_record.specs.Judgement.{id_at, cells_at, shape_pair_at};
 use crate::aligned::aligned_number;
 use crate::columns::{ColumnRange, Columns, FiveColumns};
 use crate::layout::{CellColumns, KeyColumns, PointColumns};
-use crate::number::{Spelt, coordinate_spelt, is_plus_zero, number_spelt};
+use crate::number::{Spelt, coordinate_spelt, number_spelt};
+use crate::pair::{filled_pair_at, is_zero_pair_at};
 use crate::stop::{Cause, Field};
 use tl_geom::Point;
 use tl_record_key::PolyKey;
@@ -40,7 +41,7 @@ fn aligned_number_at(columns: ColumnRange, line: &Columns<'_>) -> Option<u64>
     if width > 16 {
         return None;
     }
-    match columns.onward(line) {
+    match columns.onward(line, 16) {
         Some(rest) => aligned_number(rest, width),
         None => None,
     }
@@ -64,7 +65,23 @@ pub(crate) fn number_at(name: Field, columns: ColumnRange, line: &Columns<'_>) -
     required(name, number_spelt_at(columns, line))
 }
 
+/// What a point's fields spell: its longitude's, and its latitude's.
+#[inline(always)]
+fn pair_spelt_at(columns: &PointColumns, line: &Columns<'_>) -> (Spelt<i64>, Spelt<i64>)
+    ensures long { result.0 ≡ coordinate_spelt (field line.now columns.now.long) }
+    ensures lat { result.1 ≡ coordinate_spelt (field line.now columns.now.lat) }
+{
+    match filled_pair_at(columns, line) {
+        Some((long, lat)) => (Spelt::Value(long), Spelt::Value(lat)),
+        None => (
+            coordinate_spelt_at(columns.long, line),
+            coordinate_spelt_at(columns.lat, line),
+        ),
+    }
+}
+
 /// What a longitude's or a latitude's field spells.
+#[inline(never)]
 fn coordinate_spelt_at(columns: ColumnRange, line: &Columns<'_>) -> Spelt<i64>
     ensures { result ≡ coordinate_spelt (field line.now columns) }
 {
@@ -107,8 +124,7 @@ pub(crate) fn point_at(
 ) -> Result<Point, Cause>
     ensures { result ≡ point_at long_name lat_name columns.now line.now }
 {
-    let long = coordinate_spelt_at(columns.long, line);
-    let lat = coordinate_spelt_at(columns.lat, line);
+    let (long, lat) = pair_spelt_at(columns, line);
     point(long_name, lat_name, long, lat)
 }
 
@@ -121,20 +137,11 @@ pub(crate) fn optional_point_at(
 ) -> Result<Option<Point>, Cause>
     ensures { result ≡ optional_point_at long_name lat_name columns.now line.now }
 {
-    let long = coordinate_spelt_at(columns.long, line);
-    let lat = coordinate_spelt_at(columns.lat, line);
+    let (long, lat) = pair_spelt_at(columns, line);
     if let (Spelt::Blank, Spelt::Blank) = (long, lat) {
         return Ok(None);
     }
     Ok(Some(point(long_name, lat_name, long, lat)?))
-}
-
-/// Whether a coordinate's field is zeros behind a plus. `false` says nothing.
-#[inline(always)]
-fn is_plus_zero_at(columns: ColumnRange, line: &Columns<'_>) -> bool
-    ensures { result ≡ true → coordinate_spelt (field line.now columns) ≡ Spelt.Value (pos 0) }
-{
-    is_plus_zero(columns.of(line))
 }
 
 /// A shape pair, `None` where it isn't used. Most that aren't are zeros.
@@ -146,7 +153,7 @@ pub(crate) fn shape_pair_at(
 ) -> Result<Option<Point>, Cause>
     ensures { result ≡ shape_pair_at number columns.now line.now }
 {
-    if is_plus_zero_at(columns.long, line) && is_plus_zero_at(columns.lat, line) {
+    if is_zero_pair_at(columns, line) {
         return Ok(None);
     }
     let pair = optional_point_at(Field::Long(number), Field::Lat(number), columns, line)?;

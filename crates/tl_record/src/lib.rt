@@ -20,6 +20,7 @@ mod line_buffer;
 mod meter;
 mod number;
 mod options;
+mod pair;
 mod reader;
 mod record;
 mod refusal;
