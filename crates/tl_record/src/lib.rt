@@ -17,6 +17,7 @@ mod judge;
 pub mod laws;
 mod layout;
 mod line_buffer;
+mod line_feed;
 mod meter;
 mod number;
 mod options;
