@@ -10,17 +10,19 @@ use std::marker::Model;
 #[derive(Clone, Copy)]
 pub struct ColumnRange {
     first: u16,
-    last: u16,
+    // How many columns it has, which is asked of each field of each line.
+    width: u16,
 }
 
 impl Model for ColumnRange {
     ghost Value = { Range };
 
-    ghost view = { λ range. columns range.first range.last };
+    ghost view = { λ range. columns range.first (range.first + range.width - 1) };
 
-    ghost invariant = { λ range. IsRange (columns range.first range.last) };
+    ghost invariant = { λ range. IsRange (columns range.first (range.first + range.width - 1))
+        × (1 ≤ range.width) × (range.first + range.width ≤ 2 ^ 16) };
 
-    ghost inverse = { λ range. record { first = range.first; last = range.last } };
+    ghost inverse = { λ range. record { first = range.first; width = width_of range } };
 }
 
 impl ColumnRange {
@@ -29,7 +31,10 @@ impl ColumnRange {
         requires { IsRange (columns first last) }
         ensures { result ≡ columns first last }
     {
-        ColumnRange { first, last }
+        ColumnRange {
+            first,
+            width: last - first + 1,
+        }
     }
 
     /// The first of these columns.
@@ -44,7 +49,7 @@ impl ColumnRange {
     pub fn last(self) -> u16
         ensures { result ≡ self.last }
     {
-        self.last
+        self.first + (self.width - 1)
     }
 
     /// The bytes of a line at these columns, as far as the line has them.
@@ -53,7 +58,7 @@ impl ColumnRange {
         ensures narrow { length result.now ≤ 18 }
         ensures range { IsRange self }
     {
-        line.field(self.first, self.last)
+        line.field(self.first, self.last())
     }
 
     /// How many columns these are.
@@ -63,7 +68,7 @@ impl ColumnRange {
         ensures some { 0 < result }
         ensures narrow { result ≤ 18 }
     {
-        usize::from(self.last) + 1 - usize::from(self.first)
+        usize::from(self.width)
     }
 
     /// The bytes of a line from the first of these columns on, where they are so many or more.

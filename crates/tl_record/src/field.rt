@@ -1,6 +1,7 @@
 //! Reading a field of one kind.
 
-ghost use Rattle.std.specs.Prelude.{◌≡◌, ◌≤◌, ◌<◌, ◌^◌, IfSome};
+ghost use Rattle.std.specs.Prelude.{◌≡◌, ◌≤◌, ◌<◌, ◌^◌, Ok, Some, IfSome, nat_le, unsigned_abs};
+ghost use Rattle.tl_record.specs.declared.stop.Field.{Field};
 ghost use Rattle.tl_record.specs.Fields.{field, is_cenid_byte, number_spelt, coordinate_spelt};
 ghost use Rattle.std.specs.List.{list_all};
 ghost use Rattle.tl_record.specs.Judgement.{required, number_at, coordinate, point, point_at, optional_point};
@@ -65,23 +66,7 @@ pub(crate) fn number_at(name: Field, columns: ColumnRange, line: &Columns<'_>) -
     required(name, number_spelt_at(columns, line))
 }
 
-/// What a point's fields spell: its longitude's, and its latitude's.
-#[inline(always)]
-fn pair_spelt_at(columns: &PointColumns, line: &Columns<'_>) -> (Spelt<i64>, Spelt<i64>)
-    ensures long { result.0 ≡ coordinate_spelt (field line.now columns.now.long) }
-    ensures lat { result.1 ≡ coordinate_spelt (field line.now columns.now.lat) }
-{
-    match filled_pair_at(columns, line) {
-        Some((long, lat)) => (Spelt::Value(long), Spelt::Value(lat)),
-        None => (
-            coordinate_spelt_at(columns.long, line),
-            coordinate_spelt_at(columns.lat, line),
-        ),
-    }
-}
-
 /// What a longitude's or a latitude's field spells.
-#[inline(never)]
 fn coordinate_spelt_at(columns: ColumnRange, line: &Columns<'_>) -> Spelt<i64>
     ensures { result ≡ coordinate_spelt (field line.now columns) }
 {
@@ -115,7 +100,35 @@ fn point(
     Ok(Point { x, y })
 }
 
+/// Is the coordinate at most `limit` from 0?
+#[inline(always)]
+fn is_within(value: i64, limit: u32) -> bool
+    requires { limit < 2 ^ 31 }
+    ensures { result ≡ nat_le (unsigned_abs value) limit }
+{
+    0 - i64::from(limit) <= value && value <= i64::from(limit)
+}
+
+/// A point whose fields stand side by side and are filled, and that is within its limits, as nearly all are. `None` says nothing.
+#[inline(always)]
+fn filled_point_at(columns: &PointColumns, line: &Columns<'_>) -> Option<Point>
+    ensures required { IfSome result (λ p. (x y : Field) → point_at x y columns.now line.now ≡ Ok p) }
+    ensures optional { IfSome result (λ p. (x y : Field) → optional_point_at x y columns.now line.now ≡ Ok (Some p)) }
+{
+    let Some((long, lat)) = filled_pair_at(columns, line) else {
+        return None;
+    };
+    if !is_within(long, MAX_LONGITUDE) || !is_within(lat, MAX_LATITUDE) {
+        return None;
+    }
+    Some(Point {
+        x: long as i32,
+        y: lat as i32,
+    })
+}
+
 /// A point that has to be given.
+#[inline(always)]
 pub(crate) fn point_at(
     long_name: Field,
     lat_name: Field,
@@ -124,11 +137,29 @@ pub(crate) fn point_at(
 ) -> Result<Point, Cause>
     ensures { result ≡ point_at long_name lat_name columns.now line.now }
 {
-    let (long, lat) = pair_spelt_at(columns, line);
+    match filled_point_at(columns, line) {
+        Some(point) => Ok(point),
+        None => point_by_fields(long_name, lat_name, columns, line),
+    }
+}
+
+/// A point that has to be given, field by field.
+#[inline(never)]
+fn point_by_fields(
+    long_name: Field,
+    lat_name: Field,
+    columns: &PointColumns,
+    line: &Columns<'_>,
+) -> Result<Point, Cause>
+    ensures { result ≡ point_at long_name lat_name columns.now line.now }
+{
+    let long = coordinate_spelt_at(columns.long, line);
+    let lat = coordinate_spelt_at(columns.lat, line);
     point(long_name, lat_name, long, lat)
 }
 
 /// A point that may be left out, by two blank fields.
+#[inline(never)]
 pub(crate) fn optional_point_at(
     long_name: Field,
     lat_name: Field,
@@ -137,7 +168,8 @@ pub(crate) fn optional_point_at(
 ) -> Result<Option<Point>, Cause>
     ensures { result ≡ optional_point_at long_name lat_name columns.now line.now }
 {
-    let (long, lat) = pair_spelt_at(columns, line);
+    let long = coordinate_spelt_at(columns.long, line);
+    let lat = coordinate_spelt_at(columns.lat, line);
     if let (Spelt::Blank, Spelt::Blank) = (long, lat) {
         return Ok(None);
     }
@@ -156,11 +188,15 @@ pub(crate) fn shape_pair_at(
     if is_zero_pair_at(columns, line) {
         return Ok(None);
     }
+    if let Some(point) = filled_point_at(columns, line) {
+        return Ok(unless_zero(Some(point)));
+    }
     let pair = optional_point_at(Field::Long(number), Field::Lat(number), columns, line)?;
     Ok(unless_zero(pair))
 }
 
 /// A shape pair, unless both its fields read as 0.
+#[inline(always)]
 fn unless_zero(pair: Option<Point>) -> Option<Point>
     ensures { result ≡ unless_zero pair }
 {
