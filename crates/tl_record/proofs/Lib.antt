@@ -17,3 +17,4 @@ pub mod Lanes
 pub mod EightDigits
 pub mod MovedDigits
 pub mod LineFeed
+pub mod Marks

@@ -115,6 +115,16 @@ impl FiveColumns {
         ColumnRange::new(self.first, self.first + 4)
     }
 
+    /// The bytes of a line from the first of these columns on, where they are so many or more.
+    #[inline(always)]
+    pub(crate) fn onward<'a>(self, line: &Columns<'a>, many: usize) -> Option<&'a [u8]>
+        requires { many < 2 ^ 16 }
+        ensures bytes { IfSome result (λ rest. rest.now ≡ drop (self.first - 1) line.now) }
+        ensures many { IfSome result (λ rest. many ≤ length rest.now) }
+    {
+        line.onward(self.first, many)
+    }
+
     /// The bytes of a line at these columns, a blank for each column past its end.
     pub fn of(self, line: &Columns<'_>) -> [u8; 5]
         ensures { result ≡ field line.now self }

@@ -13,6 +13,7 @@ use crate::columns::{ColumnRange, Columns, FiveColumns};
 use crate::layout::{CellColumns, KeyColumns, PointColumns};
 use crate::number::{Spelt, coordinate_spelt, number_spelt};
 use crate::pair::{filled_pair_at, is_zero_pair_at};
+use crate::printed::five_printed;
 use crate::stop::{Cause, Field};
 use tl_geom::Point;
 use tl_record_key::PolyKey;
@@ -24,13 +25,22 @@ pub const MAX_LONGITUDE: u32 = 180_000_000;
 pub const MAX_LATITUDE: u32 = 90_000_000;
 
 /// What a number's field spells.
+#[inline(always)]
 fn number_spelt_at(columns: ColumnRange, line: &Columns<'_>) -> Spelt<u64>
     ensures { result ≡ number_spelt (field line.now columns) }
 {
     match aligned_number_at(columns, line) {
         Some(value) => Spelt::Value(value),
-        None => number_spelt(columns.of(line)),
+        None => trimmed_number_at(columns, line),
     }
+}
+
+/// What a number's field spells that may hold anything.
+#[inline(never)]
+fn trimmed_number_at(columns: ColumnRange, line: &Columns<'_>) -> Spelt<u64>
+    ensures { result ≡ number_spelt (field line.now columns) }
+{
+    number_spelt(columns.of(line))
 }
 
 /// What a number's field spells that holds blanks and then digits, as most do. `None` says nothing.
@@ -213,7 +223,30 @@ fn is_cenid(bytes: &[u8]) -> bool
 }
 
 /// The bytes of a CENID.
+#[inline(always)]
 fn cenid_at(name: Field, columns: FiveColumns, line: &Columns<'_>) -> Result<[u8; 5], Cause>
+    ensures { result ≡ cenid_at name columns line.now }
+{
+    match printed_at(columns, line) {
+        Some(bytes) => Ok(bytes),
+        None => any_cenid_at(name, columns, line),
+    }
+}
+
+/// The bytes of five columns that are those of a CENID, where the line goes on behind them. `None` says nothing.
+#[inline(always)]
+fn printed_at(columns: FiveColumns, line: &Columns<'_>) -> Option<[u8; 5]>
+    ensures { IfSome result (λ bytes. (x : Field) → cenid_at x columns line.now ≡ Ok bytes) }
+{
+    let Some(rest) = columns.onward(line, 16) else {
+        return None;
+    };
+    five_printed(rest)
+}
+
+/// The bytes of a CENID, whatever they are.
+#[inline(never)]
+fn any_cenid_at(name: Field, columns: FiveColumns, line: &Columns<'_>) -> Result<[u8; 5], Cause>
     ensures { result ≡ cenid_at name columns line.now }
 {
     let bytes = columns.of(line);
@@ -239,6 +272,7 @@ pub(crate) fn key_at(
 }
 
 /// The polygon on one side of a chain. With a blank POLYID the side is outside, and its CENID isn't tested.
+#[inline(always)]
 pub(crate) fn side_at(
     cenid_name: Field,
     polyid_name: Field,

@@ -22,6 +22,7 @@ mod meter;
 mod number;
 mod options;
 mod pair;
+mod printed;
 mod reader;
 mod record;
 mod refusal;
