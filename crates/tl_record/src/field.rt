@@ -70,6 +70,7 @@ fn required<T: Copy>(name: Field, spelt: Spelt<T>) -> Result<T, Cause>
 }
 
 /// A number that has to be given.
+#[inline(always)]
 pub(crate) fn number_at(name: Field, columns: ColumnRange, line: &Columns<'_>) -> Result<u64, Cause>
     ensures { result ≡ number_at name columns line.now }
 {
