@@ -1,8 +1,8 @@
 -- Blanks at the end of a field.
-use Rattle.std.proofs.Common.{◌≡◌, ℕ, zero, suc, ◌+◌, ◌-◌, ◌<◌, ◌≤◌, true, false, ◌&&◌, Bool, List, [], ◌∷◌, ◌++◌, length, take, drop, get_or, refl, ap, sym, ◌∙◌, arith, replicate}
+use Rattle.std.proofs.Common.{◌≡◌, ℕ, zero, suc, ◌+◌, ◌-◌, ◌<◌, ◌≤◌, true, false, ◌&&◌, Bool, List, [], ◌∷◌, ◌++◌, length, take, drop, length-drop, get_or, refl, ap, sym, ◌∙◌, arith, replicate}
 use Rattle.std.proofs.Common.{inl, inr, take_all, map, not, cond, eqb}
 use Rattle.std.proofs.lemmas.Bool.{cases_Bool, cases_lt}
-use Rattle.std.proofs.lemmas.List.{take_more, take-append-le, take-take}
+use Rattle.std.proofs.lemmas.List.{take_more, take-append-le, take-take, drop-drop}
 use Rattle.std.proofs.lemmas.List.Sums.{prefix_len-le-length}
 use Rattle.std.proofs.lemmas.Simd.{first_set_mask_l}
 use Rattle.std.specs.List.{prefix_len}
@@ -117,3 +117,12 @@ blanks_told bytes lanes others found same long mask is =
       few,
       ap (list_all is_blank) front ∙ ap (λ n. list_all is_blank (take n lanes)) run ∙ front_blank lanes,
     )
+
+-- a field that a line has whole, from a place on that isn't behind it
+pub field_within : (line : List ℕ) (range : Range) (start at width : ℕ) → width_of range ≡ width → range.first - 1 ≡ start + at
+    → at + width ≤ length (drop start line) → field line range ≡ take width (drop at (drop start line))
+field_within line range start at width wide first within =
+    let there : width_of range ≤ length (drop (range.first - 1) line) = omega (arith, within, wide, first, length-drop start line, length-drop (range.first - 1) line) in
+    let back : drop (range.first - 1) line ≡ drop at (drop start line) = ap (λ n. drop n line) first ∙ sym (drop-drop at start line) in
+    take-append-le (width_of range) (drop (range.first - 1) line) (replicate (width_of range) blank) there
+    ∙ ap (λ (l : List ℕ). take (width_of range) l) back ∙ ap (λ n. take n (drop at (drop start line))) wide

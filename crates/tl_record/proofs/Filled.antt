@@ -1,6 +1,6 @@
 -- A field that is filled: a sign and digits, and no blank.
 use Rattle.std.proofs.Common.{◌≡◌, ℕ, pos, ◌-ℤ◌, ◌+◌, ◌-◌, ◌*◌, ◌^◌, ◌<◌, ◌≤◌, true, false, ◌&&◌, Bool, List, [], ◌∷◌, ◌++◌, length, take, drop, get_or, take_all, take-add, length-append, length-drop, refl, sym, ap, ◌∙◌, arith}
-use Rattle.std.proofs.lemmas.List.{length-take-le, drop-drop, take-take}
+use Rattle.std.proofs.lemmas.List.{length-take-le, drop-drop, drop_more, take-take}
 use Rattle.std.proofs.lemmas.List.Folds.{list_all-append}
 use Rattle.std.proofs.lemmas.Nat.{pow-add}
 use Rattle.std.specs.List.{list_all}
@@ -116,3 +116,11 @@ aligned_is bytes blanks width (Some value) blank some all within is =
 -- the first bytes of a word that stands among others
 pub word_part : (bytes word : List ℕ) (at count n : ℕ) → word ≡ take n (drop at bytes) → count ≤ n → take count word ≡ part bytes at count
 word_part bytes word at count n same few = ap (take count) same ∙ take-take count n (drop at bytes) few
+
+-- nine bytes: the first, and a word of the others
+pub nine_parts : (bytes : List ℕ) (at count low : ℕ) → count ≡ 9 → at + 9 ≤ length bytes → low ≡ decimal (part bytes (at + 1) 8)
+    → (get_or bytes at 0 - 48) * 100000000 + low ≡ decimal (part bytes at count)
+nine_parts bytes at count low nine within is =
+    let one : part bytes at 1 ≡ get_or bytes at 0 ∷ [] = ap (take 1) (drop_more bytes at 0 (omega arith)) in
+    let value : get_or bytes at 0 - 48 ≡ decimal (part bytes at 1) = rw one (omega arith) in
+    parts_value bytes at 1 (get_or bytes at 0 - 48) low (omega arith) value is ∙ ap (λ n. decimal (part bytes at n)) (sym nine)

@@ -16,3 +16,5 @@ pub mod Filled
 pub mod Lanes
 pub mod EightDigits
 pub mod MovedDigits
+pub mod LineFeed
+pub mod Marks

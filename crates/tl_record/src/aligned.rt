@@ -10,13 +10,13 @@ use crate::number::Spelt;
 use crate::word::first_digits;
 use std::simd::prelude::*;
 
-/// How many of sixteen lanes come before the first that is marked.
+/// How many of so many lanes come before the first that is marked.
 #[inline(always)]
-fn lanes_before(marked: u64) -> usize
-    ensures { result ≡ (if marked == 0 then 16 else trailing_zeros w64 marked) }
+pub(crate) fn lanes_before(marked: u64, lanes: usize) -> usize
+    ensures { result ≡ (if marked == 0 then lanes else trailing_zeros w64 marked) }
 {
     if marked == 0 {
-        16
+        lanes
     } else {
         marked.trailing_zeros() as usize
     }
@@ -32,7 +32,7 @@ fn leading_blanks(bytes: &[u8]) -> usize
     let others = u8x16::from_slice(&bytes[..])
         .simd_ne(u8x16::splat(b' '))
         .to_bitmask();
-    lanes_before(others)
+    lanes_before(others, 16)
 }
 
 /// The value of up to eight bytes from a place on, where all of them are digits and a word of bytes stands there. `None`
@@ -56,12 +56,11 @@ fn word_at(bytes: &[u8], at: usize, count: usize) -> Option<u64>
     }
 }
 
-/// The value of up to sixteen bytes from a place on, where all of them are digits. `None` says nothing.
+/// The value of up to nine bytes from a place on, where all of them are digits: most TLIDs have eight or nine. `None` says nothing.
 #[inline(always)]
 fn digits_at(bytes: &[u8], at: usize, count: usize) -> Option<u64>
     requires place { at ≤ 16 }
     requires some { 0 < count }
-    requires few { count ≤ 16 }
     ensures digits { IfSome result (λ _. list_all is_ascii_digit (take count (drop at bytes.now)) ≡ true) }
     ensures value { IfSome result (λ value. value ≡ decimal (take count (drop at bytes.now))) }
     ensures there { IfSome result (λ _. at + count ≤ length bytes.now) }
@@ -69,13 +68,17 @@ fn digits_at(bytes: &[u8], at: usize, count: usize) -> Option<u64>
     if count <= 8 {
         return word_at(bytes, at, count);
     }
-    let Some(high) = word_at(bytes, at, count - 8) else {
+    if count > 9 {
+        return None;
+    }
+    let Some(low) = word_at(bytes, at + 1, 8) else {
         return None;
     };
-    let Some(low) = word_at(bytes, at + (count - 8), 8) else {
+    let first = bytes[at];
+    if !first.is_ascii_digit() {
         return None;
-    };
-    Some(high * 100_000_000 + low)
+    }
+    Some((first - b'0') as u64 * 100_000_000 + low)
 }
 
 /// What a number's field spells that holds blanks and then digits, where a line has sixteen bytes or more from the field

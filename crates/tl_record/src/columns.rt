@@ -10,17 +10,19 @@ use std::marker::Model;
 #[derive(Clone, Copy)]
 pub struct ColumnRange {
     first: u16,
-    last: u16,
+    // How many columns it has, which is asked of each field of each line.
+    width: u16,
 }
 
 impl Model for ColumnRange {
     ghost Value = { Range };
 
-    ghost view = { λ range. columns range.first range.last };
+    ghost view = { λ range. columns range.first (range.first + range.width - 1) };
 
-    ghost invariant = { λ range. IsRange (columns range.first range.last) };
+    ghost invariant = { λ range. IsRange (columns range.first (range.first + range.width - 1))
+        × (1 ≤ range.width) × (range.first + range.width ≤ 2 ^ 16) };
 
-    ghost inverse = { λ range. record { first = range.first; last = range.last } };
+    ghost inverse = { λ range. record { first = range.first; width = width_of range } };
 }
 
 impl ColumnRange {
@@ -29,7 +31,10 @@ impl ColumnRange {
         requires { IsRange (columns first last) }
         ensures { result ≡ columns first last }
     {
-        ColumnRange { first, last }
+        ColumnRange {
+            first,
+            width: last - first + 1,
+        }
     }
 
     /// The first of these columns.
@@ -44,7 +49,7 @@ impl ColumnRange {
     pub fn last(self) -> u16
         ensures { result ≡ self.last }
     {
-        self.last
+        self.first + (self.width - 1)
     }
 
     /// The bytes of a line at these columns, as far as the line has them.
@@ -53,7 +58,7 @@ impl ColumnRange {
         ensures narrow { length result.now ≤ 18 }
         ensures range { IsRange self }
     {
-        line.field(self.first, self.last)
+        line.field(self.first, self.last())
     }
 
     /// How many columns these are.
@@ -63,16 +68,17 @@ impl ColumnRange {
         ensures some { 0 < result }
         ensures narrow { result ≤ 18 }
     {
-        usize::from(self.last) + 1 - usize::from(self.first)
+        usize::from(self.width)
     }
 
-    /// The bytes of a line from the first of these columns on, where they are sixteen or more.
+    /// The bytes of a line from the first of these columns on, where they are so many or more.
     #[inline(always)]
-    pub(crate) fn onward<'a>(self, line: &Columns<'a>) -> Option<&'a [u8]>
+    pub(crate) fn onward<'a>(self, line: &Columns<'a>, many: usize) -> Option<&'a [u8]>
+        requires { many < 2 ^ 16 }
         ensures bytes { IfSome result (λ rest. rest.now ≡ drop (self.first - 1) line.now) }
-        ensures many { IfSome result (λ rest. 16 ≤ length rest.now) }
+        ensures many { IfSome result (λ rest. many ≤ length rest.now) }
     {
-        line.onward(self.first)
+        line.onward(self.first, many)
     }
 }
 
@@ -107,6 +113,16 @@ impl FiveColumns {
         ensures { result ≡ self }
     {
         ColumnRange::new(self.first, self.first + 4)
+    }
+
+    /// The bytes of a line from the first of these columns on, where they are so many or more.
+    #[inline(always)]
+    pub(crate) fn onward<'a>(self, line: &Columns<'a>, many: usize) -> Option<&'a [u8]>
+        requires { many < 2 ^ 16 }
+        ensures bytes { IfSome result (λ rest. rest.now ≡ drop (self.first - 1) line.now) }
+        ensures many { IfSome result (λ rest. many ≤ length rest.now) }
+    {
+        line.onward(self.first, many)
     }
 
     /// The bytes of a line at these columns, a blank for each column past its end.
@@ -155,15 +171,16 @@ impl<'a> Columns<'a> {
         &self.bytes[start..end]
     }
 
-    /// The bytes from a column on, where they are sixteen or more.
+    /// The bytes from a column on, where they are so many or more.
     #[inline(always)]
-    fn onward(&self, first: u16) -> Option<&'a [u8]>
-        requires { 1 ≤ first }
+    fn onward(&self, first: u16, many: usize) -> Option<&'a [u8]>
+        requires from_one { 1 ≤ first }
+        requires few { many < 2 ^ 16 }
         ensures bytes { IfSome result (λ rest. rest.now ≡ drop (first - 1) self.now) }
-        ensures many { IfSome result (λ rest. 16 ≤ length rest.now) }
+        ensures many { IfSome result (λ rest. many ≤ length rest.now) }
     {
         let start = usize::from(first) - 1;
-        if start + 16 <= self.bytes.len() {
+        if start + many <= self.bytes.len() {
             Some(&self.bytes[start..])
         } else {
             None

@@ -1,6 +1,7 @@
 //! Reading a field of one kind.
 
-ghost use Rattle.std.specs.Prelude.{◌≡◌, ◌≤◌, ◌<◌, ◌^◌, true, pos, IfSome};
+ghost use Rattle.std.specs.Prelude.{◌≡◌, ◌≤◌, ◌<◌, ◌^◌, Ok, Some, IfSome, nat_le, unsigned_abs};
+ghost use Rattle.tl_record.specs.declared.stop.Field.{Field};
 ghost use Rattle.tl_record.specs.Fields.{field, is_cenid_byte, number_spelt, coordinate_spelt};
 ghost use Rattle.std.specs.List.{list_all};
 ghost use Rattle.tl_record.specs.Judgement.{required, number_at, coordinate, point, point_at, optional_point};
@@ -10,7 +11,9 @@ ghost use Rattle.tl_record.specs.Judgement.{id_at, cells_at, shape_pair_at};
 use crate::aligned::aligned_number;
 use crate::columns::{ColumnRange, Columns, FiveColumns};
 use crate::layout::{CellColumns, KeyColumns, PointColumns};
-use crate::number::{Spelt, coordinate_spelt, is_plus_zero, number_spelt};
+use crate::number::{Spelt, coordinate_spelt, number_spelt};
+use crate::pair::{filled_pair_at, is_zero_pair_at};
+use crate::printed::five_printed;
 use crate::stop::{Cause, Field};
 use tl_geom::Point;
 use tl_record_key::PolyKey;
@@ -22,13 +25,22 @@ pub const MAX_LONGITUDE: u32 = 180_000_000;
 pub const MAX_LATITUDE: u32 = 90_000_000;
 
 /// What a number's field spells.
+#[inline(always)]
 fn number_spelt_at(columns: ColumnRange, line: &Columns<'_>) -> Spelt<u64>
     ensures { result ≡ number_spelt (field line.now columns) }
 {
     match aligned_number_at(columns, line) {
         Some(value) => Spelt::Value(value),
-        None => number_spelt(columns.of(line)),
+        None => trimmed_number_at(columns, line),
     }
+}
+
+/// What a number's field spells that may hold anything.
+#[inline(never)]
+fn trimmed_number_at(columns: ColumnRange, line: &Columns<'_>) -> Spelt<u64>
+    ensures { result ≡ number_spelt (field line.now columns) }
+{
+    number_spelt(columns.of(line))
 }
 
 /// What a number's field spells that holds blanks and then digits, as most do. `None` says nothing.
@@ -40,7 +52,7 @@ fn aligned_number_at(columns: ColumnRange, line: &Columns<'_>) -> Option<u64>
     if width > 16 {
         return None;
     }
-    match columns.onward(line) {
+    match columns.onward(line, 16) {
         Some(rest) => aligned_number(rest, width),
         None => None,
     }
@@ -58,6 +70,7 @@ fn required<T: Copy>(name: Field, spelt: Spelt<T>) -> Result<T, Cause>
 }
 
 /// A number that has to be given.
+#[inline(always)]
 pub(crate) fn number_at(name: Field, columns: ColumnRange, line: &Columns<'_>) -> Result<u64, Cause>
     ensures { result ≡ number_at name columns line.now }
 {
@@ -98,8 +111,52 @@ fn point(
     Ok(Point { x, y })
 }
 
+/// Is the coordinate at most `limit` from 0?
+#[inline(always)]
+fn is_within(value: i64, limit: u32) -> bool
+    requires { limit < 2 ^ 31 }
+    ensures { result ≡ nat_le (unsigned_abs value) limit }
+{
+    0 - i64::from(limit) <= value && value <= i64::from(limit)
+}
+
+/// A point whose fields stand side by side and are filled, and that is within its limits, as nearly all are. `None` says nothing.
+#[inline(always)]
+fn filled_point_at(columns: &PointColumns, line: &Columns<'_>) -> Option<Point>
+    ensures required { IfSome result (λ p. (x y : Field) → point_at x y columns.now line.now ≡ Ok p) }
+    ensures optional { IfSome result (λ p. (x y : Field) → optional_point_at x y columns.now line.now ≡ Ok (Some p)) }
+{
+    let Some((long, lat)) = filled_pair_at(columns, line) else {
+        return None;
+    };
+    if !is_within(long, MAX_LONGITUDE) || !is_within(lat, MAX_LATITUDE) {
+        return None;
+    }
+    Some(Point {
+        x: long as i32,
+        y: lat as i32,
+    })
+}
+
 /// A point that has to be given.
+#[inline(always)]
 pub(crate) fn point_at(
+    long_name: Field,
+    lat_name: Field,
+    columns: &PointColumns,
+    line: &Columns<'_>,
+) -> Result<Point, Cause>
+    ensures { result ≡ point_at long_name lat_name columns.now line.now }
+{
+    match filled_point_at(columns, line) {
+        Some(point) => Ok(point),
+        None => point_by_fields(long_name, lat_name, columns, line),
+    }
+}
+
+/// A point that has to be given, field by field.
+#[inline(never)]
+fn point_by_fields(
     long_name: Field,
     lat_name: Field,
     columns: &PointColumns,
@@ -113,6 +170,7 @@ pub(crate) fn point_at(
 }
 
 /// A point that may be left out, by two blank fields.
+#[inline(never)]
 pub(crate) fn optional_point_at(
     long_name: Field,
     lat_name: Field,
@@ -129,14 +187,6 @@ pub(crate) fn optional_point_at(
     Ok(Some(point(long_name, lat_name, long, lat)?))
 }
 
-/// Whether a coordinate's field is zeros behind a plus. `false` says nothing.
-#[inline(always)]
-fn is_plus_zero_at(columns: ColumnRange, line: &Columns<'_>) -> bool
-    ensures { result ≡ true → coordinate_spelt (field line.now columns) ≡ Spelt.Value (pos 0) }
-{
-    is_plus_zero(columns.of(line))
-}
-
 /// A shape pair, `None` where it isn't used. Most that aren't are zeros.
 #[inline(always)]
 pub(crate) fn shape_pair_at(
@@ -146,14 +196,18 @@ pub(crate) fn shape_pair_at(
 ) -> Result<Option<Point>, Cause>
     ensures { result ≡ shape_pair_at number columns.now line.now }
 {
-    if is_plus_zero_at(columns.long, line) && is_plus_zero_at(columns.lat, line) {
+    if is_zero_pair_at(columns, line) {
         return Ok(None);
+    }
+    if let Some(point) = filled_point_at(columns, line) {
+        return Ok(unless_zero(Some(point)));
     }
     let pair = optional_point_at(Field::Long(number), Field::Lat(number), columns, line)?;
     Ok(unless_zero(pair))
 }
 
 /// A shape pair, unless both its fields read as 0.
+#[inline(always)]
 fn unless_zero(pair: Option<Point>) -> Option<Point>
     ensures { result ≡ unless_zero pair }
 {
@@ -170,7 +224,30 @@ fn is_cenid(bytes: &[u8]) -> bool
 }
 
 /// The bytes of a CENID.
+#[inline(always)]
 fn cenid_at(name: Field, columns: FiveColumns, line: &Columns<'_>) -> Result<[u8; 5], Cause>
+    ensures { result ≡ cenid_at name columns line.now }
+{
+    match printed_at(columns, line) {
+        Some(bytes) => Ok(bytes),
+        None => any_cenid_at(name, columns, line),
+    }
+}
+
+/// The bytes of five columns that are those of a CENID, where the line goes on behind them. `None` says nothing.
+#[inline(always)]
+fn printed_at(columns: FiveColumns, line: &Columns<'_>) -> Option<[u8; 5]>
+    ensures { IfSome result (λ bytes. (x : Field) → cenid_at x columns line.now ≡ Ok bytes) }
+{
+    let Some(rest) = columns.onward(line, 16) else {
+        return None;
+    };
+    five_printed(rest)
+}
+
+/// The bytes of a CENID, whatever they are.
+#[inline(never)]
+fn any_cenid_at(name: Field, columns: FiveColumns, line: &Columns<'_>) -> Result<[u8; 5], Cause>
     ensures { result ≡ cenid_at name columns line.now }
 {
     let bytes = columns.of(line);
@@ -196,6 +273,7 @@ pub(crate) fn key_at(
 }
 
 /// The polygon on one side of a chain. With a blank POLYID the side is outside, and its CENID isn't tested.
+#[inline(always)]
 pub(crate) fn side_at(
     cenid_name: Field,
     polyid_name: Field,

@@ -49,6 +49,7 @@ fn trimmed(bytes: &[u8]) -> &[u8]
 }
 
 /// The value of bytes that are eight or nine decimal digits.
+#[inline(always)]
 fn long_number(bytes: &[u8]) -> Option<u64>
     ensures digits { IfSome result (λ _. list_all is_ascii_digit bytes.now ≡ true) }
     ensures some { IfSome result (λ _. 0 < length bytes.now) }
@@ -131,7 +132,8 @@ pub fn number_spelt(bytes: &[u8]) -> Spelt<u64>
 
 /// What the bytes of a longitude's or a latitude's field spell that is filled, as the Census Bureau writes them: a sign
 /// and eight or nine digits.
-fn filled_spelt(bytes: &[u8]) -> Option<i64>
+#[inline(always)]
+pub(crate) fn filled_spelt(bytes: &[u8]) -> Option<i64>
     ensures { IfSome result (λ value. coordinate_spelt bytes.now ≡ Spelt.Value value) }
 {
     let [sign, digits @ ..] = bytes else {

@@ -1,7 +1,0 @@
-use Rattle.std.proofs.Common.{◌∙◌, sym, ap}
-use Rattle.tl_record.specs.Fields.{unsigned_spells, number_spelt}
-use Rattle.tl_record.proofs.Blanks.{trimmed-field}
-use Rattle.tl_record.proofs.field.number_spelt_at.Goals as goal
-
-pub returns-in-None : goal.returns-in-None
-returns-in-None c = c.number_spelt.ensures ∙ ap number_spelt c.of.ensures.bytes ∙ ap unsigned_spells (sym (trimmed-field c.args.line.now c.args.columns))
