@@ -1,0 +1,3 @@
+-- Lemmas on borders.
+pub mod PrintLemmas
+pub mod CountLemmas
