@@ -1,3 +1,6 @@
 -- Lemmas on borders.
 pub mod PrintLemmas
 pub mod CountLemmas
+pub mod FieldLemmas
+pub mod ReadLemmas
+pub mod RecordLemmas

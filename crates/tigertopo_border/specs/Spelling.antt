@@ -12,7 +12,7 @@ abbrev pub filled : (byte width number : ℕ) → List ℕ
 filled byte width number = replicate (width - length (decimal number)) byte ++ decimal number
 
 -- so many blanks
-abbrev pub blanks : ℕ → List ℕ
+unfoldable pub blanks : ℕ → List ℕ
 blanks count = replicate count 32
 
 -- a number behind blanks
