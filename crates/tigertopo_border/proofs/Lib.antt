@@ -4,3 +4,4 @@ pub mod CountLemmas
 pub mod FieldLemmas
 pub mod ReadLemmas
 pub mod RecordLemmas
+pub mod TextLemmas
