@@ -5,7 +5,7 @@ use Rattle.std.specs.Global.{Global}
 use Rattle.tl_cert_output.specs.declared.stop.Stop.{Stop}
 use Rattle.tl_cert_output.specs.declared.stop.Stop.TheVariants.{Record, Memory, Device, Budget}
 use Rattle.tigertopo_words.specs.declared.asked.Asked.{Asked}
-use Rattle.tigertopo_words.specs.declared.asked.Asked.TheVariants.{Show, Landmarks, Locate, Audit, Build, Check, Convert, Export, Draw}
+use Rattle.tigertopo_words.specs.declared.asked.Asked.TheVariants.{Show, Landmarks, Locate, Audit, Build, Check, Convert, Export, Draw, Border}
 use Rattle.tigertopo_words.specs.declared.asked.Command.{Command}
 use Rattle.tigertopo_words.specs.declared.budget.Told.{Told}
 use Rattle.tigertopo_words.specs.declared.budget.Told.TheVariants.{One, All}
@@ -53,6 +53,7 @@ may_make (Check cert budget) names under room = tt
 may_make (Convert cert made) names under room = room
 may_make (Export made layer) names under room = room
 may_make (Draw made view faults) names under room = room
+may_make (Border cenid made) names under room = room
 
 -- a file that may not be made has a name
 pub refused_name : (under : Under) (made : Option (List ℕ)) (read : List (List ℕ)) (kind : FileKind) (room : Room) → (room ≡ Free → ⊥) → IsRoomWith under made read kind room
@@ -75,6 +76,7 @@ is_one (Check cert budget) test = tt
 is_one (Convert cert made) test = tt
 is_one (Export made layer) test = absurd (cc)
 is_one (Draw made view faults) test = absurd (cc)
+is_one (Border cenid made) test = absurd (cc)
 
 pub is_none : (asked : Asked) → is_plain asked ≡ false → ¬ IsPlain asked
 is_none Show test = absurd (cc)
@@ -90,6 +92,7 @@ is_none (Check cert budget) test = absurd (cc)
 is_none (Convert cert made) test = absurd (cc)
 is_none (Export made layer) test = λ no. no
 is_none (Draw made view faults) test = λ no. no
+is_none (Border cenid made) test = λ no. no
 
 -- ---- what is told
 

@@ -4,14 +4,14 @@ use Rattle.tl_record.specs.declared.options.Options.{Options}
 use Rattle.tl_record.specs.Layout.{layout_with}
 use Rattle.tl_cert_output.specs.declared.stop.Stop.{Stop}
 use Rattle.tigertopo_words.specs.declared.asked.Asked.{Asked}
-use Rattle.tigertopo_words.specs.declared.asked.Asked.TheVariants.{Show, Landmarks, Locate, Audit, Build, Check, Convert, Export, Draw}
+use Rattle.tigertopo_words.specs.declared.asked.Asked.TheVariants.{Show, Landmarks, Locate, Audit, Build, Check, Convert, Export, Draw, Border}
 use Rattle.tigertopo_words.specs.declared.asked.Command.{Command}
 use Rattle.tigertopo_words.specs.declared.budget.Told.TheVariants.{One}
 use Rattle.tigertopo_words.specs.declared.form.Form.TheVariants.{Lines}
 use Rattle.tigertopo_files.specs.Files.{bytes_under}
 use Rattle.tigertopo_files.specs.World.{World}
 use Rattle.tigertopo_files.specs.declared.beginning.FileKind.{FileKind}
-use Rattle.tigertopo_files.specs.declared.beginning.FileKind.TheVariants.{Certificate, Collection, Picture}
+use Rattle.tigertopo_files.specs.declared.beginning.FileKind.TheVariants.{Certificate, Collection, Picture, Records}
 use Rattle.tigertopo_outcome.specs.Answers.{ShowAnswers, LandmarksAnswers, LocateAnswers, AuditAnswers, CheckAnswers, ConvertAnswers}
 use Rattle.tigertopo_files.specs.Reading.{text_under}
 use Rattle.tigertopo_outcome.specs.Records.{StopsRecords, StopsCheck, StopsNever}
@@ -39,10 +39,11 @@ abbrev pub kind_of : Asked → FileKind
 kind_of (Audit told form made) = Collection
 kind_of (Export made layer) = Collection
 kind_of (Draw made view faults) = Picture
+kind_of (Border cenid made) = Records
 kind_of other = Certificate
 
--- what is answered, where the records are in the files of these names: of the commands that make no list of faults, no export and no
--- picture
+-- what is answered, where the records are in the files of these names: of the commands that make no list of faults, no export, no
+-- picture and no border
 abbrev pub PlainAnswers : Asked → Options → (names : List (List ℕ)) → World → ℕ → List ℕ → Type 0
 PlainAnswers Show options names w = ShowAnswers (layout_with options) (text_under w.before names)
 PlainAnswers Landmarks options names w = LandmarksAnswers (layout_with options) (text_under w.before names)
@@ -65,6 +66,7 @@ IsPlain (Audit One Lines None) = ⊤
 IsPlain (Audit told form made) = ⊥
 IsPlain (Export made layer) = ⊥
 IsPlain (Draw made view faults) = ⊥
+IsPlain (Border cenid made) = ⊥
 IsPlain other = ⊤
 
 -- is it one of these
@@ -73,4 +75,5 @@ is_plain (Audit One Lines None) = true
 is_plain (Audit told form made) = false
 is_plain (Export made layer) = false
 is_plain (Draw made view faults) = false
+is_plain (Border cenid made) = false
 is_plain other = true

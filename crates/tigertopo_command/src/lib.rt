@@ -2,8 +2,8 @@
 //!
 //! [`start::start`] makes a command of the words (`tigertopo_words`), and [`run::run`] does what it asks: it asks whether the file that is made
 //! may be made, has the command performed by a [`Program`](run::Program), and tells what came of it. Behind a refused line and behind a
-//! device that failed [`hint`] says where to look. [`plain`] is the program of the commands that make no list of faults, no export and
-//! no picture; `tigertopo_program` has all.
+//! device that failed [`hint`] says where to look. [`plain`] is the program of the commands that make no list of faults, no export, no
+//! picture and no border; `tigertopo_program` has all.
 //!
 //! Whatever the status, what stood under each name stands there still, but under the name of a file that is made and
 //! under that with `.unfinished` behind it. These two change only where the name is free (`IsFree` of

@@ -1,4 +1,4 @@
-//! The commands that make no list of faults, no export and no picture: `show`, `landmarks`, `locate`, `audit` for one line, `build`,
+//! The commands that make no list of faults, no export, no picture and no border: `show`, `landmarks`, `locate`, `audit` for one line, `build`,
 //! `check` and `convert`.
 
 ghost use Rattle.std.specs.Prelude.{◌≡◌, map, string_bytes};
@@ -76,7 +76,7 @@ pub fn is_plain(asked: &Asked) -> bool
         Asked::Audit { told, form, made } => matches!(told, Told::One)
             && matches!(form, Form::Lines)
             && made.is_none(),
-        Asked::Export { .. } | Asked::Draw { .. } => false,
+        Asked::Export { .. } | Asked::Draw { .. } | Asked::Border { .. } => false,
         _ => true,
     }
 }
@@ -107,6 +107,6 @@ pub fn answer<F: FileSystem>(
             check(files, alloc, hasher, options, names, cert, *budget)
         }
         Asked::Convert { cert, made } => convert(files, alloc, cert, made),
-        Asked::Export { .. } | Asked::Draw { .. } => unreachable!(),
+        Asked::Export { .. } | Asked::Draw { .. } | Asked::Border { .. } => unreachable!(),
     }
 }

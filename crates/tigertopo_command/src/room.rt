@@ -34,6 +34,7 @@ pub fn kind_of(asked: &Asked) -> FileKind
     match asked {
         Asked::Audit { .. } | Asked::Export { .. } => FileKind::Collection,
         Asked::Draw { .. } => FileKind::Picture,
+        Asked::Border { .. } => FileKind::Records,
         _ => FileKind::Certificate,
     }
 }

@@ -2,7 +2,7 @@
 use Rattle.std.specs.Prelude.{◌≡◌, ◌≢◌, ◌++◌, ◌==◌, ◌||◌, ℕ, nat_eq, Bool, true, false, List, length, Option, Some, None, Contains, IfSome, Result, Ok, Err, codes}
 use Rattle.std.specs.List.{starts_with}
 use Rattle.tigertopo_files.specs.declared.beginning.FileKind.{FileKind}
-use Rattle.tigertopo_files.specs.declared.beginning.FileKind.TheVariants.{Certificate, Collection, Picture}
+use Rattle.tigertopo_files.specs.declared.beginning.FileKind.TheVariants.{Certificate, Collection, Picture, Records}
 use Rattle.tigertopo_files.specs.declared.file_system.Room.{Room}
 use Rattle.tigertopo_files.specs.declared.file_system.Room.TheVariants.{Free, Taken, IsRead, TakenBeside, IsReadBeside}
 use Rattle.tl_cert_output.specs.declared.stop.Stop.{Stop}
@@ -43,6 +43,7 @@ abbrev pub beginning_of : FileKind → List ℕ
 beginning_of Certificate = codes "TIGERCERT "
 beginning_of Collection = codes "{\"type\":\"FeatureCollection\",\"name\":\"tigertopo\""
 beginning_of Picture = codes "<svg xmlns=\"http://www.w3.org/2000/svg\" class=\"tigertopo\""
+beginning_of Records = codes "10000"
 
 -- may a file of these bytes be written over by one of the kind: there are none, or they begin as those of the kind do
 abbrev pub may_go : FileKind → List ℕ → Bool

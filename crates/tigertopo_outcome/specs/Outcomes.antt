@@ -8,7 +8,7 @@ use Rattle.tl_check_verdict.specs.Messages.{report_text, map_fault_text, cert_fa
 use Rattle.tl_cert_output.specs.declared.stop.Stop.{Stop}
 use Rattle.tl_cert_output.specs.declared.stop.Stop.TheVariants.{Record, Memory, Device, Budget}
 use Rattle.tigertopo_outcome.specs.declared.outcome.Outcome.{Outcome}
-use Rattle.tigertopo_outcome.specs.declared.outcome.Outcome.TheVariants.{Verdict, Built, Converted, Exported, Drawn}
+use Rattle.tigertopo_outcome.specs.declared.outcome.Outcome.TheVariants.{Verdict, Built, Converted, Exported, Drawn, Bordered}
 
 -- the counts of a conversion
 abbrev pub counts_text : ℕ → ℕ → ℕ → List ℕ
@@ -28,6 +28,10 @@ touched_behind touched = if touched == 0 then [] else codes " " ++ touched_words
 abbrev pub drawn_text : ℕ → Option ℕ → (touched : ℕ) → List ℕ
 drawn_text chains None touched = codes "drawn chains=" ++ decimal chains
 drawn_text chains (Some faults) touched = codes "drawn chains=" ++ (decimal chains ++ (codes " faults=" ++ (decimal faults ++ touched_behind touched)))
+
+-- the numbers of chains and of segments of a border that was written
+abbrev pub bordered_text : ℕ → ℕ → List ℕ
+bordered_text chains segments = codes "bordered chains=" ++ (decimal chains ++ (codes " segments=" ++ decimal segments))
 
 -- the status of an export: that of a fault where the map isn't sound
 abbrev pub exported_status : Option ℕ → ℕ
@@ -53,6 +57,7 @@ outcome_text (Built report) = codes "built " ++ report_text report
 outcome_text (Converted counts) = counts_text counts.nodes counts.rounds counts.walks
 outcome_text (Exported exported) = exported_text exported.chains exported.polygons exported.rings
 outcome_text (Drawn drawn) = drawn_text drawn.chains drawn.faults drawn.touched
+outcome_text (Bordered bordered) = bordered_text bordered.chains bordered.segments
 
 -- the status of an outcome
 abbrev pub outcome_status : Outcome → ℕ
@@ -61,6 +66,7 @@ outcome_status (Built report) = 0
 outcome_status (Converted counts) = 0
 outcome_status (Exported exported) = exported_status exported.rings
 outcome_status (Drawn drawn) = 0
+outcome_status (Bordered bordered) = 0
 
 -- the status of a stop
 abbrev pub stop_status : Stop → ℕ

@@ -1,7 +1,7 @@
 -- Why no file may be made of a name.
 use Rattle.std.specs.Prelude.{◌≡◌, ℕ, List, codes}
 use Rattle.tigertopo_files.specs.declared.beginning.FileKind.{FileKind}
-use Rattle.tigertopo_files.specs.declared.beginning.FileKind.TheVariants.{Certificate, Collection, Picture}
+use Rattle.tigertopo_files.specs.declared.beginning.FileKind.TheVariants.{Certificate, Collection, Picture, Records}
 use Rattle.tigertopo_files.specs.declared.file_system.Room.{Room}
 use Rattle.tigertopo_files.specs.declared.file_system.Room.TheVariants.{Free, Taken, IsRead, TakenBeside, IsReadBeside}
 use Rattle.tl_cert_output.specs.Writing.{line_of}
@@ -12,12 +12,14 @@ abbrev pub taken_text : FileKind → List ℕ
 taken_text Certificate = codes "OUT stands and is no certificate"
 taken_text Collection = codes "OUT stands and is no GeoJSON of tigertopo"
 taken_text Picture = codes "OUT stands and is no picture of tigertopo"
+taken_text Records = codes "OUT stands and is no border of tigertopo"
 
 -- the same of the name of one that isn't whole yet
 abbrev pub taken_beside_text : FileKind → List ℕ
 taken_beside_text Certificate = codes "OUT.unfinished stands and is no certificate"
 taken_beside_text Collection = codes "OUT.unfinished stands and is no GeoJSON of tigertopo"
 taken_beside_text Picture = codes "OUT.unfinished stands and is no picture of tigertopo"
+taken_beside_text Records = codes "OUT.unfinished stands and is no border of tigertopo"
 
 -- what is said where no file of the kind may be made
 abbrev pub refusal_text : FileKind → Room → List ℕ

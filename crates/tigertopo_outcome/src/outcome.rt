@@ -17,6 +17,8 @@ pub enum Outcome {
     Exported(Exported),
     /// The map was drawn.
     Drawn(Drawn),
+    /// The map's border was written.
+    Bordered(Bordered),
 }
 
 /// How many nodes, rounds and walks a certificate has that was converted.
@@ -43,6 +45,13 @@ pub struct Drawn {
     pub touched: u64,
 }
 
+/// How many chains and segments a border has that was written.
+#[derive(Clone, Copy)]
+pub struct Bordered {
+    pub chains: u32,
+    pub segments: u32,
+}
+
 impl Outcome {
     ghost use Rattle.std.specs.Prelude.{◌≡◌};
     ghost use Rattle.tigertopo_outcome.specs.Outcomes.{outcome_status};
@@ -63,8 +72,8 @@ impl Outcome {
             Outcome::Verdict(Verdict::CertFault(_)) => CERT_FAULT,
             Outcome::Verdict(Verdict::Sound(_)) => DONE,
             Outcome::Exported(Exported { rings: None, .. }) => MAP_FAULT,
-            Outcome::Built(_) | Outcome::Converted(_) | Outcome::Exported(_) | Outcome::Drawn(_) =>
-                { DONE }
+            Outcome::Built(_) | Outcome::Converted(_) | Outcome::Exported(_) => DONE,
+            Outcome::Drawn(_) | Outcome::Bordered(_) => DONE,
         }
     }
 }
@@ -84,6 +93,7 @@ impl fmt::Display for Outcome {
             Outcome::Converted(counts) => counts.fmt(f),
             Outcome::Exported(exported) => exported.fmt(f),
             Outcome::Drawn(drawn) => drawn.fmt(f),
+            Outcome::Bordered(bordered) => bordered.fmt(f),
         }
     }
 }
@@ -145,5 +155,20 @@ impl fmt::Display for Drawn {
             ),
             None => write!(f, "drawn chains={}", self.chains),
         }
+    }
+}
+
+impl fmt::Display for Bordered {
+    ghost use Rattle.std.specs.Prelude.{Some};
+    ghost use Rattle.tigertopo_outcome.specs.Outcomes.{bordered_text};
+
+    ghost output = { λ bordered. Some (bordered_text bordered.chains bordered.segments) };
+
+    fn fmt<W: fmt::Write>(&self, f: &mut fmt::Formatter<W>) -> fmt::Result {
+        write!(
+            f,
+            "bordered chains={} segments={}",
+            self.chains, self.segments
+        )
     }
 }

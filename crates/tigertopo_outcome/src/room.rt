@@ -30,6 +30,7 @@ fn refusal_line<'a>(kind: FileKind, room: Room) -> &'a [u8]
         (Room::Taken, FileKind::Certificate) => b"OUT stands and is no certificate\n",
         (Room::Taken, FileKind::Collection) => b"OUT stands and is no GeoJSON of tigertopo\n",
         (Room::Taken, FileKind::Picture) => b"OUT stands and is no picture of tigertopo\n",
+        (Room::Taken, FileKind::Records) => b"OUT stands and is no border of tigertopo\n",
         (Room::TakenBeside, FileKind::Certificate) => {
             b"OUT.unfinished stands and is no certificate\n"
         }
@@ -38,6 +39,9 @@ fn refusal_line<'a>(kind: FileKind, room: Room) -> &'a [u8]
         }
         (Room::TakenBeside, FileKind::Picture) => {
             b"OUT.unfinished stands and is no picture of tigertopo\n"
+        }
+        (Room::TakenBeside, FileKind::Records) => {
+            b"OUT.unfinished stands and is no border of tigertopo\n"
         }
     }
 }

@@ -5,7 +5,7 @@ use Rattle.std.specs.Global.{Global}
 use Rattle.tl_record.specs.declared.options.Options.{Options}
 use Rattle.tl_cert_output.specs.declared.stop.Stop.{Stop}
 use Rattle.tigertopo_words.specs.declared.asked.Asked.{Asked}
-use Rattle.tigertopo_words.specs.declared.asked.Asked.TheVariants.{Show, Landmarks, Locate, Audit, Build, Check, Convert, Export, Draw}
+use Rattle.tigertopo_words.specs.declared.asked.Asked.TheVariants.{Show, Landmarks, Locate, Audit, Build, Check, Convert, Export, Draw, Border}
 use Rattle.tigertopo_words.specs.declared.budget.Told.{Told}
 use Rattle.tigertopo_words.specs.declared.budget.Told.TheVariants.{One, All}
 use Rattle.tigertopo_words.specs.declared.form.Form.{Form}
@@ -31,6 +31,7 @@ plain_answers (Check cert budget) options names w status text plain so = so
 plain_answers (Convert cert made) options names w status text plain so = so
 plain_answers (Export made layer) options names w status text plain so = absurd (cc)
 plain_answers (Draw made view faults) options names w status text plain so = absurd (cc)
+plain_answers (Border cenid made) options names w status text plain so = absurd (cc)
 
 pub plain_stops : (asked : Asked) (options : Options) (names : List (List ℕ)) (w : World) (stop : Stop) → is_plain asked ≡ true → PlainStops asked options names w stop → AllStops asked options names w stop
 plain_stops Show options names w stop plain so = so
@@ -46,6 +47,7 @@ plain_stops (Check cert budget) options names w stop plain so = so
 plain_stops (Convert cert made) options names w stop plain so = so
 plain_stops (Export made layer) options names w stop plain so = absurd (cc)
 plain_stops (Draw made view faults) options names w stop plain so = absurd (cc)
+plain_stops (Border cenid made) options names w stop plain so = absurd (cc)
 
 -- an audit that asks for more than one line
 pub list_answers : (told : Told) (form : Form) (made : Option (String Global)) (options : Options) (names : List (List ℕ)) (w : World) (status : ℕ) (text : List ℕ) → is_plain (Audit told form made) ≡ false

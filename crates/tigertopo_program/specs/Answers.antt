@@ -4,12 +4,13 @@ use Rattle.tl_record.specs.declared.options.Options.{Options}
 use Rattle.tl_record.specs.Layout.{layout_with}
 use Rattle.tl_cert_output.specs.declared.stop.Stop.{Stop}
 use Rattle.tigertopo_words.specs.declared.asked.Asked.{Asked}
-use Rattle.tigertopo_words.specs.declared.asked.Asked.TheVariants.{Audit, Export, Draw}
+use Rattle.tigertopo_words.specs.declared.asked.Asked.TheVariants.{Audit, Export, Draw, Border}
 use Rattle.tigertopo_words.specs.declared.budget.Told.TheVariants.{One}
 use Rattle.tigertopo_words.specs.declared.form.Form.TheVariants.{Lines}
 use Rattle.tigertopo_files.specs.World.{World}
 use Rattle.tigertopo_files.specs.Reading.{text_under}
 use Rattle.tigertopo_command.specs.Commands.{PlainAnswers, PlainStops}
+use Rattle.tigertopo_program.specs.Border.Borders.{BorderAnswers}
 use Rattle.tigertopo_program.specs.Draw.Drawing.{DrawAnswers}
 use Rattle.tigertopo_program.specs.Export.Exports.{ExportAnswers, asked_of}
 use Rattle.tigertopo_lists.specs.Listed.{ListAnswers, StopsList}
@@ -23,6 +24,8 @@ AllAnswers (Export made layer) options names w =
     ExportAnswers w (layout_with options) (text_under w.before names) (asked_of names (string_bytes made) layer)
 AllAnswers (Draw made view faults) options names w =
     DrawAnswers w options (text_under w.before names) (record { name = string_bytes made; view = view; shows = faults })
+AllAnswers (Border cenid made) options names w =
+    BorderAnswers w options (text_under w.before names) (record { name = string_bytes made; cenid = cenid })
 AllAnswers other options names w = PlainAnswers other options names w
 
 -- why nothing is, but for want of memory and for a device that failed

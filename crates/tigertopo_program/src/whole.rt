@@ -3,6 +3,7 @@
 ghost use Rattle.std.specs.Prelude.{map, string_bytes};
 ghost use Rattle.tigertopo_program.specs.Answers.{AllAnswers, AllStops};
 
+use crate::border::border;
 use crate::draw::draw;
 use crate::export::export;
 use std::alloc::Global;
@@ -57,6 +58,10 @@ impl Program for Whole {
             }
             Asked::Draw { made, view, faults } => {
                 let answer = draw(files, alloc, hasher, options, names, made, *view, *faults);
+                tell_answer(alloc, answer, aside, out, err)
+            }
+            Asked::Border { name, made } => {
+                let answer = border(files, alloc, hasher, options, names, made, *name);
                 tell_answer(alloc, answer, aside, out, err)
             }
             _ => unreachable!(),

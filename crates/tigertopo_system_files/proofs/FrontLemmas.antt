@@ -9,7 +9,7 @@ use Rattle.std.proofs.lemmas.Cmp.{nat_list_eq_equiv}
 use Rattle.std.proofs.lemmas.List.{length-take, take-take, take_all}
 use Rattle.tigertopo_files.specs.Files.{beginning_of, may_go, may_be_left}
 use Rattle.tigertopo_files.specs.declared.beginning.FileKind.{FileKind}
-use Rattle.tigertopo_files.specs.declared.beginning.FileKind.TheVariants.{Certificate, Collection, Picture}
+use Rattle.tigertopo_files.specs.declared.beginning.FileKind.TheVariants.{Certificate, Collection, Picture, Records}
 
 -- the front of a file's first bytes
 pub front_of_first : (size count : ℕ) (xs : List ℕ) → take (min size count) xs ≡ take count (take size xs)
@@ -24,6 +24,7 @@ some_begin : (kind : FileKind) → 0 < length (beginning_of kind)
 some_begin Certificate = omega arith
 some_begin Collection = omega arith
 some_begin Picture = omega arith
+some_begin Records = omega arith
 
 not_zero : (n : ℕ) → 0 < n → (n == 0) ≡ false
 not_zero n some = grind (arith, nat_tests)

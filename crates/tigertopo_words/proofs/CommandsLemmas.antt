@@ -13,7 +13,7 @@ use Rattle.tigertopo_words.specs.Commands.{IsLocal, name_of}
 use Rattle.tigertopo_words.specs.Keeping.{rule_for, with_each, app_named, with_named, arguments_for, OnMade, told_of, named_told, rule_told, argument_told}
 use Rattle.tigertopo_words.specs.declared.command_line.Argument.{Argument}
 use Rattle.tigertopo_words.specs.declared.command_line.Named.{Named}
-use Rattle.tigertopo_words.specs.declared.command_line.Named.TheVariants.{Show, Landmarks, Locate, Audit, Build, Check, Convert, Export, Draw}
+use Rattle.tigertopo_words.specs.declared.command_line.Named.TheVariants.{Show, Landmarks, Locate, Audit, Build, Check, Convert, Export, Draw, Border}
 
 -- a command whose settings are those of another, but for texts that are printed
 pub same_app : {app : App} {old : Command} (new : Command) (fields : Command-F Command) → out-Command new ≡ fields
@@ -88,3 +88,4 @@ named_app Check = refl
 named_app Convert = refl
 named_app Export = refl
 named_app Draw = refl
+named_app Border = refl

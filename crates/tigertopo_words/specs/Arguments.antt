@@ -1,8 +1,10 @@
 -- What is given for the arguments of commands, and what it means.
-use Rattle.std.specs.Prelude.{◌≡◌, ◌≢◌, ◌<◌, ◌≤◌, ◌↔◌, ℕ, Bool, IsTrue, List, Option, Some, None, length, ⊤, codes, decimal}
+use Rattle.std.specs.Prelude.{◌≡◌, ◌≢◌, ◌<◌, ◌≤◌, ◌↔◌, ℕ, Bool, IsTrue, List, Option, Some, None, length, ⊤, codes, decimal, true, [], ◌∷◌, slice_index_or}
+use Rattle.std.specs.List.{list_all}
 use Rattle.clap.specs.Walk.{Text}
 use Rattle.tl_geom.specs.declared.point.Point.{Point}
 use Rattle.tl_record.specs.declared.options.Options.{Options}
+use Rattle.tl_record.specs.Fields.{is_cenid_byte}
 use Rattle.tigertopo_words.specs.declared.asked.View.{View}
 use Rattle.tigertopo_words.specs.declared.budget.Told.{Told}
 use Rattle.tigertopo_words.specs.declared.budget.Told.TheVariants.{One, All}
@@ -118,3 +120,20 @@ IsView center width view = ⊥
 -- faces are asked for only where faults are
 abbrev pub FacesNeedFaults : (faces faults : Option Text) → Type 0
 FacesNeedFaults faces faults = faces ≡ Some (codes "true") → faults ≡ Some (codes "true")
+
+-- the word filled up with blanks to the five bytes of a CENID
+abbrev pub filled_up : Text → List ℕ
+filled_up word =
+    slice_index_or word 0 32 ∷ slice_index_or word 1 32 ∷ slice_index_or word 2 32 ∷ slice_index_or word 3 32 ∷ slice_index_or word 4 32 ∷ []
+
+-- the word has one to five bytes, which a CENID may have, and filled up it is this one
+pub record SpellsCenid (word : Text) (cenid : List ℕ) : Type 0 where
+  pub some : 1 ≤ length word
+  pub most : length word ≤ 5
+  pub bytes : list_all is_cenid_byte word ≡ true
+  pub is : cenid ≡ filled_up word
+
+-- what was given for --name spells this CENID
+abbrev pub IsCenid : Option Text → List ℕ → Type 0
+IsCenid None cenid = ⊥
+IsCenid (Some word) cenid = SpellsCenid word cenid

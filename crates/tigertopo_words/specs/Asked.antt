@@ -3,7 +3,7 @@ use Rattle.std.specs.Prelude.{◌≡◌, ℕ, Bool, List, Option, Some, None, ma
 use Rattle.clap.specs.Walk.{Row, Text}
 use Rattle.tigertopo_words.specs.declared.asked.Command.{Command}
 use Rattle.tigertopo_words.specs.declared.asked.Asked.{Asked}
-use Rattle.tigertopo_words.specs.declared.asked.Asked.TheVariants.{Show, Landmarks, Locate, Audit, Build, Check, Convert, Export, Draw}
+use Rattle.tigertopo_words.specs.declared.asked.Asked.TheVariants.{Show, Landmarks, Locate, Audit, Build, Check, Convert, Export, Draw, Border}
 use Rattle.tigertopo_words.specs.declared.asked.View.{View}
 use Rattle.tigertopo_words.specs.declared.form.Form.{Form}
 use Rattle.tigertopo_words.specs.declared.layer.Layer.{Layer}
@@ -11,7 +11,7 @@ use Rattle.tigertopo_words.specs.declared.budget.Told.{Told}
 use Rattle.tigertopo_words.specs.declared.command_line.Named.{Named}
 use Rattle.tigertopo_words.specs.declared.command_line.Named.TheVariants as name
 use Rattle.tigertopo_words.specs.Commands.{name_of}
-use Rattle.tigertopo_words.specs.Arguments.{IsSwitch, IsForm, IsBudget, AskForTold, IsLayer, IsPlace, IsView, FacesNeedFaults}
+use Rattle.tigertopo_words.specs.Arguments.{IsSwitch, IsForm, IsBudget, AskForTold, IsLayer, IsPlace, IsView, FacesNeedFaults, IsCenid}
 use Rattle.tigertopo_words.specs.Requests.{Request, given_by, AreFiles, AreOptions, IsWatched, HasNeeds, IsWhole}
 
 -- the command that asks for it
@@ -25,6 +25,7 @@ named_of (Check cert budget) = name.Check
 named_of (Convert cert made) = name.Convert
 named_of (Export made layer) = name.Export
 named_of (Draw made view faults) = name.Draw
+named_of (Border cenid made) = name.Border
 
 -- the name of the certificate that is read, if one is
 abbrev pub cert_of : Asked → Option Text
@@ -39,6 +40,7 @@ made_of (Build made) = Some (string_bytes made)
 made_of (Convert cert made) = Some (string_bytes made)
 made_of (Export made layer) = Some (string_bytes made)
 made_of (Draw made view faults) = Some (string_bytes made)
+made_of (Border cenid made) = Some (string_bytes made)
 made_of other = None
 
 -- the request asks for so many faults, in this form, and for this file of GeoJSON, word for word, or for none
@@ -69,6 +71,11 @@ pub record AsksToDraw (given : Request) (made : Text) (view : Option View) (faul
   pub shown : IsSwitch given.faults faults
   pub needed : FacesNeedFaults given.faces given.faults
 
+-- the request asks for this file, word for word, of a border whose polygon has this CENID
+pub record AsksForBorder (given : Request) (cenid : List ℕ) (made : Text) : Type 0 where
+  pub to : given.out ≡ Some made
+  pub of : IsCenid given.name cenid
+
 -- what a request gives for the arguments of its command is what is asked
 abbrev pub IsAsked : Request → Asked → Type 0
 IsAsked given Show = ⊤
@@ -80,6 +87,7 @@ IsAsked given (Check cert budget) = AsksToCheck given (string_bytes cert) budget
 IsAsked given (Convert cert made) = AsksToConvert given (string_bytes cert) (string_bytes made)
 IsAsked given (Export made layer) = AsksToExport given (string_bytes made) layer
 IsAsked given (Draw made view faults) = AsksToDraw given (string_bytes made) view faults
+IsAsked given (Border cenid made) = AsksForBorder given cenid (string_bytes made)
 
 -- the request is one for the command: it names it, asks for what is asked, and gives its options, its files, word for word and in
 -- their order, and its switch for progress

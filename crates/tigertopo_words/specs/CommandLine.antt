@@ -13,7 +13,7 @@ use Rattle.tigertopo_words.specs.declared.asked.Command.{Command}
 use Rattle.tigertopo_words.specs.declared.stop.WordsStop.{WordsStop}
 use Rattle.tigertopo_words.specs.declared.stop.WordsStop.TheVariants.{Usage, Help, Memory}
 use Rattle.tigertopo_words.specs.Commands.{command_line, show_name, landmarks_name, locate_name, convert_name, check_name}
-use Rattle.tigertopo_words.specs.Commands.{audit_name, build_name, export_name, draw_name}
+use Rattle.tigertopo_words.specs.Commands.{audit_name, build_name, export_name, draw_name, border_name}
 use Rattle.tigertopo_words.specs.Requests.{named_command, IsWhole}
 use Rattle.tigertopo_words.specs.Asked.{IsFor}
 
@@ -32,7 +32,7 @@ pub record AreAUse (words : List Text) : Type 0 where
 abbrev pub first_names : List Text
 first_names =
     show_name ∷ landmarks_name ∷ locate_name ∷ audit_name ∷ build_name ∷ check_name ∷ convert_name
-    ∷ export_name ∷ draw_name ∷ codes "help" ∷ []
+    ∷ export_name ∷ draw_name ∷ border_name ∷ codes "help" ∷ []
 
 -- does the word begin with a hyphen, as options do
 abbrev pub is_option : Text → Bool
@@ -69,7 +69,7 @@ abbrev pub HasAnswer : Kinds → Type 0
 HasAnswer kinds = (kind : ErrorKind) × IsAmong kind kinds × IsAnswer kind
 
 -- Why the words make no command: they are no use of a command, and either a mistake, a wish for help or for the version, or
--- taken by clap, as those with a number or a point that isn't spelt as one, with --most and no --all, or that ask for a picture with
+-- taken by clap, as those with a number, a point or a CENID that isn't spelt as one, with --most and no --all, or that ask for a picture with
 -- --faces and no --faults; or memory was refused, and the first of them doesn't show that they are no use of a command.
 abbrev pub StopsPlanning : List Text → WordsStop → Type 0
 StopsPlanning words (Usage text) = (¬ AreAUse words) × (HasMistake (fault_of command_line words) ⊎ (fault_of command_line words ≡ []))

@@ -7,7 +7,7 @@ use Rattle.clap.specs.declared.builder.action.ArgAction.TheVariants.{Append, Set
 use Rattle.clap.specs.declared.builder.command.Command.{Command}
 use Rattle.clap.specs.declared.builder.command.Command.TheViews.{out-Command}
 use Rattle.tigertopo_words.specs.declared.command_line.Named.{Named}
-use Rattle.tigertopo_words.specs.declared.command_line.Named.TheVariants.{Show, Landmarks, Locate, Audit, Build, Check, Convert, Export, Draw}
+use Rattle.tigertopo_words.specs.declared.command_line.Named.TheVariants.{Show, Landmarks, Locate, Audit, Build, Check, Convert, Export, Draw, Border}
 
 -- FILES..: one name or more
 abbrev pub files_argument : Rule
@@ -30,7 +30,7 @@ released_argument = switch (codes "released")
 abbrev pub zero_cells_argument : Rule
 zero_cells_argument = switch (codes "zero-cells")
 
--- --cert CERT, --out OUT and --geojson OUT: one name, which has to be given
+-- --cert CERT, --out OUT, --geojson OUT and --name NAME: one name, which has to be given
 abbrev pub named_argument : Text → Rule
 named_argument id = record (new_rule id) { long = Some id; value_names = 1; required = true }
 
@@ -143,6 +143,15 @@ draw_app =
     on_a_map (with_rule (with_rule (with_rule (with_rule (new_app draw_name) (named_argument (codes "out"))) (value_argument (codes "at")))
     (value_argument (codes "width"))) faults_argument)
 
+-- border --name NAME --out OUT [--released] FILES..
+abbrev pub border_name : Text
+border_name = codes "border"
+
+abbrev pub border_app : App
+border_app =
+    with_rule (with_rule (with_rule (with_rule (new_app border_name) (named_argument (codes "name"))) (named_argument (codes "out"))) released_argument)
+    files_argument
+
 -- the name of a command
 abbrev pub name_of : Named → Text
 name_of Show = show_name
@@ -154,6 +163,7 @@ name_of Check = check_name
 name_of Convert = convert_name
 name_of Export = export_name
 name_of Draw = draw_name
+name_of Border = border_name
 
 -- the program, whose words begin behind its own name, which has a version, and which wants a command
 abbrev pub program : App
@@ -171,7 +181,7 @@ with_decisions app = with_subcommand (with_subcommand (with_subcommand app audit
 
 -- and those that make something else of a map
 abbrev pub with_drawings : App → App
-with_drawings app = with_subcommand (with_subcommand app export_app.top) draw_app.top
+with_drawings app = with_subcommand (with_subcommand (with_subcommand app export_app.top) draw_app.top) border_app.top
 
 abbrev pub command_line : App
 command_line = with_drawings (with_subcommand (with_decisions (with_subcommand with_listings locate_app.top)) conversion_app.top)

@@ -6,15 +6,16 @@ use Rattle.clap.specs.declared.builder.arg.Arg.{Arg}
 use Rattle.clap.specs.declared.builder.command.Command.{Command}
 use Rattle.clap.specs.declared.builder.command.Command.TheViews.{out-Command}
 use Rattle.tigertopo_words.specs.declared.command_line.Named.{Named}
-use Rattle.tigertopo_words.specs.declared.command_line.Named.TheVariants.{Show, Landmarks, Locate, Audit, Build, Check, Convert, Export, Draw}
+use Rattle.tigertopo_words.specs.declared.command_line.Named.TheVariants.{Show, Landmarks, Locate, Audit, Build, Check, Convert, Export, Draw, Border}
 use Rattle.tigertopo_words.specs.declared.command_line.Argument.{Argument}
 use Rattle.tigertopo_words.specs.declared.command_line.Argument.TheVariants.{All, Most, Progress, Where, Json, FacesOfDrawing, Faces, FaultsOption, ZeroCells, Released, Files, Point}
 use Rattle.tigertopo_words.specs.declared.command_line.Argument.TheVariants.{CertOption, OutOption, Tests, Cert, Out, LayerOption, CollectionOption, PictureOption, At, Width, Faults}
+use Rattle.tigertopo_words.specs.declared.command_line.Argument.TheVariants.{NameOption, BorderOption}
 use Rattle.tigertopo_words.specs.Commands.{all_argument, most_argument, zero_cells_argument, released_argument, files_argument}
 use Rattle.tigertopo_words.specs.Commands.{progress_argument, where_argument, json_argument, faces_argument, faults_argument, value_argument}
 use Rattle.tigertopo_words.specs.Commands.{name_argument, named_argument, tests_argument}
 use Rattle.tigertopo_words.specs.Commands.{command_on_files, show_name, landmarks_name}
-use Rattle.tigertopo_words.specs.Commands.{locate_app, audit_app, build_app, check_app, conversion_app, export_app, draw_app}
+use Rattle.tigertopo_words.specs.Commands.{locate_app, audit_app, build_app, check_app, conversion_app, export_app, draw_app, border_app}
 
 -- what clap is told of an argument
 abbrev pub rule_for : Argument → Rule
@@ -41,6 +42,8 @@ rule_for PictureOption = named_argument (codes "out")
 rule_for At = value_argument (codes "at")
 rule_for Width = value_argument (codes "width")
 rule_for Faults = faults_argument
+rule_for NameOption = named_argument (codes "name")
+rule_for BorderOption = named_argument (codes "out")
 
 -- a command with these arguments more
 abbrev pub with_each : App → List Argument → App
@@ -58,6 +61,7 @@ app_named Check = check_app
 app_named Convert = conversion_app
 app_named Export = export_app
 app_named Draw = draw_app
+app_named Border = border_app
 
 -- what clap is told of a command and of an argument, and whether something of it holds for others too: of what it was told,
 -- and of these, of which nothing does
@@ -89,6 +93,7 @@ arguments_for Check = CertOption ∷ Tests ∷ Progress ∷ Faces ∷ ZeroCells 
 arguments_for Convert = Cert ∷ Out ∷ []
 arguments_for Export = CollectionOption ∷ LayerOption ∷ Released ∷ Files ∷ []
 arguments_for Draw = PictureOption ∷ At ∷ Width ∷ Faults ∷ FacesOfDrawing ∷ ZeroCells ∷ Released ∷ Files ∷ []
+arguments_for Border = NameOption ∷ BorderOption ∷ Released ∷ Files ∷ []
 
 -- a command was made, and it is so
 abbrev pub OnMade : {E : Type 0} → Result Command E → (Command → Type 0) → Type 0

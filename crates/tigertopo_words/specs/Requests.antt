@@ -9,14 +9,14 @@ use Rattle.tl_record.specs.declared.options.TheConstants.{PLAIN}
 use Rattle.tigertopo_words.specs.declared.asked.View.{View}
 use Rattle.tigertopo_words.specs.declared.layer.Layer.{Layer}
 use Rattle.tigertopo_words.specs.declared.command_line.Named.{Named}
-use Rattle.tigertopo_words.specs.declared.command_line.Named.TheVariants.{Show, Landmarks, Locate, Audit, Build, Check, Convert, Export, Draw}
+use Rattle.tigertopo_words.specs.declared.command_line.Named.TheVariants.{Show, Landmarks, Locate, Audit, Build, Check, Convert, Export, Draw, Border}
 use Rattle.tigertopo_words.specs.Commands.{command_line, name_of}
-use Rattle.tigertopo_words.specs.Arguments.{IsGiven, AreSome, IsSwitch, AreChosen, IsBudget, AskForFaults, IsLayer, IsPlace, IsView, FacesNeedFaults}
+use Rattle.tigertopo_words.specs.Arguments.{IsGiven, AreSome, IsSwitch, AreChosen, IsBudget, AskForFaults, IsLayer, IsPlace, IsView, FacesNeedFaults, IsCenid}
 
 -- a command; what was given for its FILES, if anything was, and the values of its --released, its --zero-cells, its --faces and its
 -- --all, each of which is the word true where the switch is given; and what was given for its @X,Y, its CERT or --cert, its OUT or
--- --out, its --tests, and its --most; its --progress, its --faults, its --where and its --json, which are switches; its --geojson, its --layer, its --at
--- and its --width
+-- --out, its --tests, and its --most; its --progress, its --faults, its --where and its --json, which are switches; its --geojson, its --layer, its --at,
+-- its --width and its --name
 pub record Request : Type 0 where
   pub command : Text
   pub files : Option (List Text)
@@ -37,6 +37,7 @@ pub record Request : Type 0 where
   pub layer : Option Text
   pub center : Option Text
   pub width : Option Text
+  pub name : Option Text
 
 -- a command that was found, with its arguments
 abbrev pub request_in : Text × List Row → Request
@@ -60,6 +61,7 @@ request_in found = record {
   layer = first_of (codes "layer") found.1;
   center = first_of (codes "at") found.1;
   width = first_of (codes "width") found.1;
+  name = first_of (codes "name") found.1;
 }
 
 abbrev pub named_in : Option (Text × List Row) → Option Request
@@ -79,12 +81,13 @@ abbrev pub AreFiles : Named → Request → List Text → Type 0
 AreFiles Convert given files = files ≡ []
 AreFiles named given files = AreSome given.files files
 
--- what its options are: what the switches say that it has
+-- what its options are: what the switches say that it has; of a border faces are always asked
 abbrev pub AreOptions : Named → Request → Options → Type 0
 AreOptions Show given options = AreChosen given.released None None options
 AreOptions Landmarks given options = AreChosen given.released None None options
 AreOptions Locate given options = AreChosen given.released None None options
 AreOptions Export given options = AreChosen given.released None None options
+AreOptions Border given options = AreChosen given.released None (Some (codes "true")) options
 AreOptions Convert given options = options ≡ PLAIN
 AreOptions named given options = AreChosen given.released given.zero_cells given.faces options
 
@@ -96,7 +99,8 @@ IsWatched Check given watched = IsSwitch given.progress watched
 IsWatched named given watched = watched ≡ false
 
 -- a command is given what it needs beside files: the names of a certificate or of what is made, a budget that is a number, a point, a
--- number of faults only where all are asked for, a layer or none, a view or none, and faces only where faults are asked for
+-- number of faults only where all are asked for, a layer or none, a view or none, faces only where faults are asked for, and a
+-- CENID
 abbrev pub HasNeeds : Named → Request → Type 0
 HasNeeds Show given = ⊤
 HasNeeds Landmarks given = ⊤
@@ -106,6 +110,7 @@ HasNeeds Build given = IsGiven given.out
 HasNeeds Check given = IsGiven given.cert × ((budget : ℕ) × IsBudget given.tests budget)
 HasNeeds Convert given = IsGiven given.cert × IsGiven given.out
 HasNeeds Export given = IsGiven given.geojson × ((layer : Option Layer) × IsLayer given.layer layer)
+HasNeeds Border given = IsGiven given.out × ((name : List ℕ) × IsCenid given.name name)
 HasNeeds Draw given = IsGiven given.out × ((view : Option View) × IsView given.center given.width view) × FacesNeedFaults given.faces given.faults
 
 -- the request names a command of the program, and what it wants: its files and what it needs beside them

@@ -67,6 +67,7 @@ pub fn options_of(named: &Named, found: &ArgMatches<'_>) -> Options
             found.get_str("zero-cells"),
             found.get_str("faces"),
         ),
+        Named::Border => chosen_by(found.get_str("released"), None, Some("true")),
     }
 }
 
@@ -90,7 +91,7 @@ pub fn is_watched(named: &Named, found: &ArgMatches<'_>) -> bool
     match named {
         Named::Audit | Named::Build | Named::Check => switch_of(found, "progress"),
         Named::Show | Named::Landmarks | Named::Locate => false,
-        Named::Convert | Named::Export | Named::Draw => false,
+        Named::Convert | Named::Export | Named::Draw | Named::Border => false,
     }
 }
 

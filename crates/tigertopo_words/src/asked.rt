@@ -67,6 +67,12 @@ pub enum Asked {
         view: Option<View>,
         faults: bool,
     },
+    /// To make a file of this name, of the records of the map's border, where the map is sound and its faces agree. The border is that of
+    /// one polygon, whose CENID is given.
+    Border {
+        name: [u8; 5],
+        made: String,
+    },
 }
 
 /// A place that a picture shows, in millionths of a degree.
@@ -99,6 +105,7 @@ impl Command {
             Asked::Convert { cert, .. } => Some(cert),
             Asked::Show | Asked::Landmarks | Asked::Locate { .. } | Asked::Audit { .. } => None,
             Asked::Build { .. } | Asked::Export { .. } | Asked::Draw { .. } => None,
+            Asked::Border { .. } => None,
         }
     }
 
@@ -112,6 +119,7 @@ impl Command {
             Asked::Convert { made, .. } => Some(made),
             Asked::Export { made, .. } => Some(made),
             Asked::Draw { made, .. } => Some(made),
+            Asked::Border { made, .. } => Some(made),
             Asked::Show | Asked::Landmarks | Asked::Locate { .. } | Asked::Check { .. } => None,
         }
     }
@@ -131,5 +139,6 @@ fn named_of(asked: &Asked) -> Named
         Asked::Convert { .. } => Named::Convert,
         Asked::Export { .. } => Named::Export,
         Asked::Draw { .. } => Named::Draw,
+        Asked::Border { .. } => Named::Border,
     }
 }

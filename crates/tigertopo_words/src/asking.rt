@@ -11,6 +11,7 @@ ghost use Rattle.tigertopo_words.specs.declared.command_line.Named.{Named};
 use crate::arguments::{switch_of, word_of};
 use crate::asked::Asked;
 use crate::budget::{Told, asked_by, budget_of};
+use crate::cenid::cenid_of;
 use crate::command_line::Named;
 use crate::form::Form;
 use crate::layer::layer_by;
@@ -33,6 +34,7 @@ pub fn named_by(name: &str) -> Option<Named>
         "convert" => Some(Named::Convert),
         "export" => Some(Named::Export),
         "draw" => Some(Named::Draw),
+        "border" => Some(Named::Border),
         _ => None,
     }
 }
@@ -55,6 +57,7 @@ pub fn asked_of(
         Named::Convert => conversion_of(alloc, found),
         Named::Export => export_of(alloc, found),
         Named::Draw => drawing_of(alloc, found),
+        Named::Border => border_of(alloc, found),
     }
 }
 
@@ -167,6 +170,19 @@ fn drawing_of(alloc: Global, found: &ArgMatches<'_>) -> Result<Option<Asked>, Al
     }
     match word_of(alloc, found, "out")? {
         Some(made) => Ok(Some(Asked::Draw { made, view, faults })),
+        None => Ok(None),
+    }
+}
+
+// A border, where it is named and its polygon's name is spelt as one.
+fn border_of(alloc: Global, found: &ArgMatches<'_>) -> Result<Option<Asked>, AllocError>
+    ensures { IfOk result (IsAskedBy Named.Border (rows_of (found_of found.now))) }
+{
+    let Some(name) = cenid_of(found.get_str("name")) else {
+        return Ok(None);
+    };
+    match word_of(alloc, found, "out")? {
+        Some(made) => Ok(Some(Asked::Border { name, made })),
         None => Ok(None),
     }
 }

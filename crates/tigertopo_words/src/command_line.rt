@@ -12,11 +12,12 @@ ghost use Rattle.tigertopo_words.specs.declared.command_line.Argument.{Argument}
 ghost use Rattle.tigertopo_words.specs.declared.command_line.Named.{Named};
 
 use crate::help::{
-    ABOUT, ALL, AT, AUDIT_ABOUT, AUDIT_EXAMPLE, BUILD_ABOUT, BUILD_EXAMPLE, CHECK_ABOUT,
-    CHECK_EXAMPLE, CONVERT_ABOUT, CONVERT_EXAMPLE, DRAW_ABOUT, DRAW_EXAMPLE, EXAMPLES,
-    EXPORT_ABOUT, EXPORT_EXAMPLE, FACES, FACES_OF_DRAWING, FAULTS, FAULTS_COLLECTION, JSON,
-    LANDMARKS_ABOUT, LANDMARKS_EXAMPLE, LAYER, LOCATE_ABOUT, LOCATE_EXAMPLE, MOST, PROGRESS,
-    RELEASED, SHOW_ABOUT, SHOW_EXAMPLE, TESTS, WHERE, WIDTH, ZERO_CELLS,
+    ABOUT, ALL, AT, AUDIT_ABOUT, AUDIT_EXAMPLE, BORDER_ABOUT, BORDER_EXAMPLE, BUILD_ABOUT,
+    BUILD_EXAMPLE, CHECK_ABOUT, CHECK_EXAMPLE, CONVERT_ABOUT, CONVERT_EXAMPLE, DRAW_ABOUT,
+    DRAW_EXAMPLE, EXAMPLES, EXPORT_ABOUT, EXPORT_EXAMPLE, FACES, FACES_OF_DRAWING, FAULTS,
+    FAULTS_COLLECTION, JSON, LANDMARKS_ABOUT, LANDMARKS_EXAMPLE, LAYER, LOCATE_ABOUT,
+    LOCATE_EXAMPLE, MOST, NAME, PROGRESS, RELEASED, SHOW_ABOUT, SHOW_EXAMPLE, TESTS, WHERE, WIDTH,
+    ZERO_CELLS,
 };
 use clap::{Arg, ArgAction, Command};
 use std::alloc::{AllocError, Global};
@@ -36,6 +37,7 @@ pub enum Named {
     Convert,
     Export,
     Draw,
+    Border,
 }
 
 // An argument of a command.
@@ -86,6 +88,10 @@ enum Argument {
     Width,
     // --faults
     Faults,
+    // --name NAME
+    NameOption,
+    // --out OUT, of a border
+    BorderOption,
 }
 
 /// The program with its commands.
@@ -104,6 +110,7 @@ pub fn command<'a>(alloc: Global) -> Result<Command<'a>, AllocError>
             Named::Convert,
             Named::Export,
             Named::Draw,
+            Named::Border,
         ],
     ) {
         Ok(commands) => with_commands(program(alloc), commands),
@@ -178,6 +185,7 @@ pub fn word_of<'a>(named: &Named) -> &'a str
         Named::Convert => "convert",
         Named::Export => "export",
         Named::Draw => "draw",
+        Named::Border => "border",
     }
 }
 
@@ -193,6 +201,7 @@ fn about_of<'a>(named: &Named) -> &'a str {
         Named::Convert => CONVERT_ABOUT,
         Named::Export => EXPORT_ABOUT,
         Named::Draw => DRAW_ABOUT,
+        Named::Border => BORDER_ABOUT,
     }
 }
 
@@ -208,6 +217,7 @@ fn example_of<'a>(named: &Named) -> &'a str {
         Named::Convert => CONVERT_EXAMPLE,
         Named::Export => EXPORT_EXAMPLE,
         Named::Draw => DRAW_EXAMPLE,
+        Named::Border => BORDER_EXAMPLE,
     }
 }
 
@@ -262,6 +272,12 @@ fn arguments_of<'a>(named: &Named) -> &'a [Argument]
             Argument::Faults,
             Argument::FacesOfDrawing,
             Argument::ZeroCells,
+            Argument::Released,
+            Argument::Files,
+        ],
+        Named::Border => &[
+            Argument::NameOption,
+            Argument::BorderOption,
             Argument::Released,
             Argument::Files,
         ],
@@ -329,6 +345,8 @@ fn arg_of<'a>(alloc: Global, argument: &Argument) -> Arg<'a>
         Argument::At => option(alloc, "at", "@X,Y", AT),
         Argument::Width => option(alloc, "width", "W", WIDTH),
         Argument::Faults => switch(alloc, "faults", FAULTS),
+        Argument::NameOption => needed_option(alloc, "name", "NAME", NAME),
+        Argument::BorderOption => needed_option(alloc, "out", "OUT", "The border that is made"),
     }
 }
 

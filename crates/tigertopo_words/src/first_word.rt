@@ -58,6 +58,7 @@ fn is_name(word: &str) -> bool
             "convert",
             "export",
             "draw",
+            "border",
             "help",
         ],
     )

@@ -16,6 +16,7 @@ Examples:
   tigertopo convert OLD.CERT NEW.CERT         writes a certificate anew in version 2
   tigertopo export --geojson A.geojson A.RT*  writes the map as GeoJSON
   tigertopo draw --out A.svg --faults A.RT*   draws the map and its faults for a browser
+  tigertopo border --name A --out A.border .. writes the records of a sound map's border
 
 Exit status:
   0   done or sound, or help was asked for
@@ -169,6 +170,20 @@ of `export` is. The line is `drawn chains=C`, with the number of chains that are
 Examples:
   tigertopo draw --out TGR24001.svg --faults TGR24001.RT*
   tigertopo draw --out place.svg --at @-78762000,39652000 --width 20000 TGR24001.RT*";
+
+pub const BORDER_ABOUT: &str = "Writes the records of the border of a sound map whose faces agree";
+
+pub const BORDER_EXAMPLE: &str = "\
+The border is the map's chains with a polygon on one side at most. OUT has their records of the types 1, 2
+and I, by rising TLID, with the polygon NAME/1 on each side that has one, and a record of type P, which gives
+it the point of the map's first polygon. NAME is one to five characters of ASCII. OUT is made as that of
+`export` is, where `audit --faces` finds nothing wrong, and else its line is printed and no file is made. The
+line is `bordered chains=C segments=S`, with the numbers of the border.
+
+Example:
+  tigertopo border --name 24001 --out 24001.border TGR24001.RT*";
+
+pub const NAME: &str = "The name of the border's polygon";
 
 pub const PROGRESS: &str =
     "Shows how far reading is, once a second, where the error output is a terminal";

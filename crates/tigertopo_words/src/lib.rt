@@ -5,6 +5,7 @@ mod arguments;
 mod asked;
 mod asking;
 mod budget;
+mod cenid;
 mod command_line;
 mod degrees;
 mod escapes;

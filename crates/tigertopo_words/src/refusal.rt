@@ -30,6 +30,10 @@ const NO_CENTER: &str = "the argument '--width <W>' needs '--at <@X,Y>'";
 // How a layer is spelt.
 const LAYER_SPELLING: &str = "chains, points, polygons or landmarks is wanted";
 
+// How the name of a border's polygon is spelt.
+const NAME_SPELLING: &str =
+    "one to five characters of ASCII are wanted, from the blank to the tilde";
+
 // How the width of a view is spelt.
 const WIDTH_SPELLING: &str =
     "a number from 1 to 360000000 is wanted, with no sign and no leading zero";
@@ -132,6 +136,16 @@ fn usage_of(
             "--layer <KIND>",
             layer,
             LAYER_SPELLING,
+        );
+    }
+    if let Some(name) = word_of(matches, "border", "name") {
+        return misspelt(
+            alloc,
+            &Named::Border,
+            "tigertopo border",
+            "--name <NAME>",
+            name,
+            NAME_SPELLING,
         );
     }
     if lacks_faults(matches) {

@@ -15,7 +15,8 @@ ghost use Rattle.tl_check_faces.specs.Odd.{IsLowestOddGap};
 ghost use Rattle.tl_check_verdict.specs.Sound.{IsSound, IsSoundFor};
 ghost use Rattle.tl_check_verdict.specs.Verdicts.{IsReport};
 ghost use Rattle.tl_check_verdict.specs.Records.{HaveMap, IsTrueOfRecords};
-ghost use Rattle.tl_build.specs.Auditing.{IfSound, OnSound, IfFaulty, SaysSound, IsNotBudget, MayStopAudit};
+ghost use Rattle.tl_check_verdict.specs.Truth.{IsTrueOfMap};
+ghost use Rattle.tl_build.specs.Auditing.{IfSound, OnSound, IfFaulty, SaysSound, IsMemoryStop, IsNotBudget, MayStopAudit};
 ghost use Rattle.tl_cert_output.specs.Stops.{TellsDevice};
 ghost use Rattle.tl_build.specs.Keeping.Deciding.{AuditsFor, AuditsRead};
 
@@ -101,6 +102,24 @@ fn audit_read(alloc: Global, read: Result<Map, MapStop>, asked: bool) -> Result<
         Ok(map) => decide(alloc, &map, asked),
         Err(stop) => Ok(Audit::Fault(fault_of_records(stop)?)),
     }
+}
+
+/// Decides a map in memory as [`audit_with`] does that of records.
+///
+/// [`Stop::Memory`] comes where memory was refused, and no other stop does.
+pub fn audit_map(alloc: Global, map: &Map, faces: bool) -> Result<Audit, Stop>
+    // The map is sound, and keeps what is asked of its faces.
+    ensures sound { OnSound result (IsSoundFor faces map.now) }
+    // The report has the map's numbers.
+    ensures report { IfSound result (IsReport map.now) }
+    // Each fault is true; one of faces comes only where they are asked for, and nothing else is wrong with the map.
+    ensures fault { IfFaulty result (IsTrueOfMap faces map.now) }
+    // If it isn't stopped, it answers `Sound` exactly where the map keeps what is asked of it, and a fault where not.
+    ensures exactly { IfOk result (λ answer. SaysSound answer ↔ IsSoundFor faces map.now) }
+    // It stops for memory alone.
+    ensures stops { IfErr result IsMemoryStop }
+{
+    decide(alloc, map, faces)
 }
 
 /// Decides whether a map is sound, and where faces are asked for, whether they agree, by what a sweep says of it.

@@ -8,14 +8,19 @@ use Rattle.tigertopo_words.proofs.arguments.options_of.Goals as goal
 
 pub returns-in-Audit : goal.returns-in-Audit
 returns-in-Audit c =
-    let released = c.get_str.ensures ∙ first_value-rows (found_of c.args.found.now) (codes "released") in
-    let cells = c.get_str-in-Audit.ensures ∙ first_value-rows (found_of c.args.found.now) (codes "zero-cells") in
-    let faces = c.get_str-in-Audit-2.ensures ∙ first_value-rows (found_of c.args.found.now) (codes "faces") in
-    options_on_a_map c.args.named.now (rows_of (found_of c.args.found.now)) c.chosen_by.result c.in-Audit.is
-    (chosen_the_same _ _ _ _ _ _ c.chosen_by.result released cells faces c.chosen_by.ensures)
+    let released = c.get_str-in-Audit.ensures ∙ first_value-rows (found_of c.args.found.now) (codes "released") in
+    let cells = c.get_str-in-Audit-2.ensures ∙ first_value-rows (found_of c.args.found.now) (codes "zero-cells") in
+    let faces = c.get_str-in-Audit-3.ensures ∙ first_value-rows (found_of c.args.found.now) (codes "faces") in
+    options_on_a_map c.args.named.now (rows_of (found_of c.args.found.now)) c.chosen_by-in-Audit.result c.in-Audit.is
+    (chosen_the_same _ _ _ _ _ _ c.chosen_by-in-Audit.result released cells faces c.chosen_by-in-Audit.ensures)
 
 pub returns-in-Show : goal.returns-in-Show
 returns-in-Show c =
     let released = c.get_str-in-Show.ensures ∙ first_value-rows (found_of c.args.found.now) (codes "released") in
     options_of_records c.args.named.now (rows_of (found_of c.args.found.now)) c.chosen_by-in-Show.result c.in-Show.is
     (chosen_the_same _ _ _ _ _ _ c.chosen_by-in-Show.result released refl refl c.chosen_by-in-Show.ensures)
+
+pub returns-in-Border : goal.returns-in-Border
+returns-in-Border c =
+    let released = c.get_str.ensures ∙ first_value-rows (found_of c.args.found.now) (codes "released") in
+    rw c.in-Border.is (chosen_the_same _ _ _ _ _ _ c.chosen_by.result released refl refl c.chosen_by.ensures)

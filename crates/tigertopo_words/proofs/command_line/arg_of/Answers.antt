@@ -1,5 +1,5 @@
 use Rattle.tigertopo_words.specs.declared.command_line.Argument.TheVariants.{All, Most, ZeroCells, Released, Files, Point, CertOption, OutOption, Tests, Cert}
-use Rattle.tigertopo_words.specs.declared.command_line.Argument.TheVariants.{Out, Progress, FacesOfDrawing, Faces, CollectionOption, PictureOption, At, Width, Faults}
+use Rattle.tigertopo_words.specs.declared.command_line.Argument.TheVariants.{Out, Progress, FacesOfDrawing, Faces, CollectionOption, PictureOption, At, Width, Faults, NameOption, BorderOption}
 use Rattle.tigertopo_words.proofs.CommandsLemmas.{arg_told}
 use Rattle.tigertopo_words.proofs.command_line.arg_of.Goals as goal
 
@@ -61,3 +61,9 @@ returns-in-Width c = rw c.in-Width.is (arg_told c.option-in-Width.result Width c
 
 pub returns-in-Faults : goal.returns-in-Faults
 returns-in-Faults c = rw c.in-Faults.is (arg_told c.switch-in-Faults.result Faults c.switch-in-Faults.ensures.rule c.switch-in-Faults.ensures.local)
+
+pub returns-in-NameOption : goal.returns-in-NameOption
+returns-in-NameOption c = rw c.in-NameOption.is (arg_told c.needed_option-in-NameOption.result NameOption c.needed_option-in-NameOption.ensures.rule c.needed_option-in-NameOption.ensures.local)
+
+pub returns-in-BorderOption : goal.returns-in-BorderOption
+returns-in-BorderOption c = rw c.in-BorderOption.is (arg_told c.needed_option-in-BorderOption.result BorderOption c.needed_option-in-BorderOption.ensures.rule c.needed_option-in-BorderOption.ensures.local)

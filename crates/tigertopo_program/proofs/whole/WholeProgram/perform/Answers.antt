@@ -10,6 +10,8 @@ use Rattle.tl_cert_output.specs.Streams.{stream}
 use Rattle.tigertopo_command.specs.Commands.{PlainAnswers, PlainStops, is_plain, names_read, names_with}
 use Rattle.tigertopo_command.specs.Running.{streams, terms}
 use Rattle.tigertopo_command.proofs.CommandLemmas.{answered}
+use Rattle.tigertopo_program.specs.Border.Borders.{BorderAnswers}
+use Rattle.tigertopo_program.specs.Border.Borders as borders
 use Rattle.tigertopo_program.specs.Draw.Drawing.{DrawAnswers, Wanted}
 use Rattle.tigertopo_program.specs.Export.Exports.{ExportAnswers, asked_of}
 use Rattle.tigertopo_lists.specs.Listed.{Asked, ListAnswers, StopsList, listed_text}
@@ -85,3 +87,20 @@ returns-in-Draw g c =
     (rw c.as_slice-names.ensures.value at c.draw-answer.ensures))
     (λ a so. subst (λ q. AllAnswers q options names w a.status (said_text a.text)) (sym c.in-Draw.is) so.0)
     c.is_aside-aside.result c.is_aside-aside.ensures c.tell_answer-in-Draw.ensures.told c.tell_answer-in-Draw.ensures.stop c.requires)
+
+pub returns-in-Border : goal.returns-in-Border
+returns-in-Border g c =
+    let command = c.args.command.now in
+    let options = command.options in
+    let names = map string_bytes command.files.items in
+    let w = world g.F.FileSystem.under g.F.FileSystem.log g.F.FileSystem.knows c.args.files.now c.border-answer.new.files in
+    let s = streams (stream g.W.Sink.contents g.W.Sink.failure_count c.args.out.now c.tell_answer-in-Border.new.out) (stream g.E.Sink.contents g.E.Sink.failure_count c.args.err.now c.tell_answer-in-Border.new.err) in
+    let known = text_under w.before names in
+    let wanted : borders.Wanted = record { name = string_bytes c.in-Border.made; cenid = c.in-Border.name } in
+    let answers = BorderAnswers w options known wanted in
+    inl (answered (terms (AllAnswers command.asked options names w) (AllStops command.asked options names w) ⊥) command w s c.tell_answer-in-Border.result
+    (IsSaid answers) said_text c.border-answer.result
+    (subst (λ a. Does w (names_with a names) (made_of a) (IsSaid answers) (AllStops a options names w) c.border-answer.result) (sym c.in-Border.is)
+    (rw c.as_slice-names.ensures.value at c.border-answer.ensures))
+    (λ a so. subst (λ q. AllAnswers q options names w a.status (said_text a.text)) (sym c.in-Border.is) so.0)
+    c.is_aside-aside.result c.is_aside-aside.ensures c.tell_answer-in-Border.ensures.told c.tell_answer-in-Border.ensures.stop c.requires)

@@ -1,0 +1,7 @@
+-- Lemmas on borders.
+pub mod PrintLemmas
+pub mod CountLemmas
+pub mod FieldLemmas
+pub mod ReadLemmas
+pub mod RecordLemmas
+pub mod TextLemmas

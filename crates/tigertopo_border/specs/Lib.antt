@@ -1,0 +1,5 @@
+-- What the contracts of borders cite.
+pub mod Blank
+pub mod Spelling
+pub mod Spellable
+pub mod Border

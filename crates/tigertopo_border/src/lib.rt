@@ -1,0 +1,17 @@
+//! The border of a map as records.
+//!
+//! [`print_border`] writes the records of a map's border, in the columns of the files of 2006, and says exactly which bytes are written;
+//! [`BorderText`] is this as a text that can be handed to whoever makes a file of it. How a record is spelt is said in `specs/Spelling`,
+//! field by field, and which records a border has in `specs/Border`. [`chain_count`] and [`segment_count`] are its numbers.
+#![tactic(auto)]
+
+mod border;
+mod chain;
+mod counts;
+mod fields;
+mod lines;
+mod text;
+
+pub use border::print_border;
+pub use counts::{chain_count, segment_count};
+pub use text::BorderText;

@@ -1,0 +1,2 @@
+-- Lemmas on borders that are made.
+pub mod BorderLemmas

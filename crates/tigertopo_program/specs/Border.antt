@@ -1,0 +1,2 @@
+-- What the contracts of borders that are made cite.
+pub mod Borders

@@ -1,0 +1,17 @@
+use Rattle.tl_check_verdict.specs.Sound.{IsSoundFor}
+use Rattle.tl_build.proofs.Decided.{on_sound, reported, faulty, exactly, stops}
+use Rattle.tl_build.proofs.of_records.audit_map.Goals as goal
+
+pub returns : goal.returns
+returns c =
+    let faces = c.args.faces in
+    let m = c.args.map.now in
+    let answer = c.decide.result in
+    let says = c.decide.ensures in
+    record {
+      sound = on_sound faces m (IsSoundFor faces m) (λ s. s) answer says;
+      report = reported faces m answer says;
+      fault = faulty faces m answer says;
+      exactly = exactly faces m answer says;
+      stops = stops faces m answer says;
+    }
