@@ -16,5 +16,4 @@ pub mod Filled
 pub mod Lanes
 pub mod EightDigits
 pub mod MovedDigits
-pub mod LineFeed
 pub mod Marks

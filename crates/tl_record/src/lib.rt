@@ -17,7 +17,6 @@ mod judge;
 pub mod laws;
 mod layout;
 mod line_buffer;
-mod line_feed;
 mod meter;
 mod number;
 mod options;

@@ -6,8 +6,8 @@ ghost use Rattle.tl_record.specs.Failures.{CountsRead};
 ghost use Rattle.tl_record.specs.NextLine.{Shows, CountsFetch};
 ghost use Rattle.tl_record.specs.Fetching.{Fetches};
 
-use crate::line_feed::first_line_feed;
 use crate::source::Source;
+use memchr::memchr;
 use std::io;
 use std::marker::Model;
 
@@ -132,7 +132,7 @@ pub fn fetch_line<const N: usize, R: Source>(buffer: &mut LineBuffer<N>, source:
     let mut searched = 0;
     'fetches: loop {
         let bytes = buffer.bytes();
-        if let Some(found) = first_line_feed(&bytes[searched..]) {
+        if let Some(found) = memchr(b'\n', &bytes[searched..]) {
             return Fetched::Whole(searched + found);
         }
         searched = bytes.len();

@@ -42,8 +42,8 @@ returns-in-Err-clause-shows g c =
     let none = no_feed_found c.fetches.buffer c.bytes-bytes.result.now c.fetches.searched c.bytes-bytes.ensures.value c.fetches.invariant.searched c.fetches.invariant.none c.in_default.ensures in
     ap line_feeds c.in-Err.ensures.bytes.0 ∙ none
 
-pub slice_bounds-first_line_feed-end : goal.slice_bounds-first_line_feed-end
-slice_bounds-first_line_feed-end g c = omega arith
+pub slice_bounds-memchr-end : goal.slice_bounds-memchr-end
+slice_bounds-memchr-end g c = omega arith
 
 pub returns-in-Some-clause-bytes : goal.returns-in-Some-clause-bytes
 returns-in-Some-clause-bytes g c = c.fetches.invariant.bytes
@@ -81,8 +81,8 @@ returns-in-Err-clause-failures g c = c.in-Err.ensures.failures ∙ ap one_more c
 pub returns-in-Err-clause-same_reference : goal.returns-in-Err-clause-same_reference
 returns-in-Err-clause-same_reference g c = c.in-Err.ensures.same_reference ∙ c.fetches.invariant.same
 
-pub slice_bounds-first_line_feed-count : goal.slice_bounds-first_line_feed-count
-slice_bounds-first_line_feed-count g c =
+pub slice_bounds-memchr-count : goal.slice_bounds-memchr-count
+slice_bounds-memchr-count g c =
     subst (λ bytes. c.fetches.searched ≤ length bytes) (sym c.bytes-bytes.ensures.value) c.fetches.invariant.searched
 
 pub returns-in-Err-clause-bytes : goal.returns-in-Err-clause-bytes
