@@ -63,14 +63,14 @@ records_of_lines layout before lines = records_judged (judgements layout before 
 abbrev pub lines_read : Layout → List ℕ → Records
 lines_read layout text = records_of_lines layout 0 (raw_lines text)
 
--- these records, joined where the layout joins chains that are told twice
-abbrev pub joined_by : Layout → Records → Records
-joined_by layout all = record {
-  entries = if layout.joins then joined all.entries else all.entries;
+-- these records, with each chain that is told twice once, where chains are joined
+abbrev pub joined_where : Bool → Records → Records
+joined_where joins all = record {
+  entries = if joins then joined all.entries else all.entries;
   refusal = all.refusal;
   skipped = all.skipped;
 }
 
 -- the records of a text
 abbrev pub records_of : Layout → List ℕ → Records
-records_of layout text = joined_by layout (lines_read layout text)
+records_of layout text = joined_where layout.joins (lines_read layout text)
