@@ -51,11 +51,14 @@ told_the_same result all each most number e f told =
     subst (λ (given : Option Text). MatchOption result (¬ AskForFaults each given) (AskForTold each given)) f
     (subst (λ (given : Option Text). MatchOption result (¬ AskForFaults given most) (AskForTold given most)) e told)
 
-pub chosen_the_same : (columns released zero_cells ids faces faced : Option Text) (options : Options) → columns ≡ released → zero_cells ≡ ids → faces ≡ faced
-    → AreChosen columns zero_cells faces options → AreChosen released ids faced options
-chosen_the_same columns released zero_cells ids faces faced options d e f chosen =
-    subst (λ (given : Option Text). AreChosen released ids given options) f
-    (subst (λ (given : Option Text). AreChosen released given faces options) e (subst (λ (given : Option Text). AreChosen given zero_cells faces options) d chosen))
+pub chosen_the_same : (columns released zero_cells ids faces faced join joined : Option Text) (options : Options) → columns ≡ released → zero_cells ≡ ids → faces ≡ faced
+    → join ≡ joined → AreChosen columns zero_cells faces join options → AreChosen released ids faced joined options
+chosen_the_same columns released zero_cells ids faces faced join joined options d e f g chosen = record {
+  columns = rw (← d) chosen.columns;
+  cells = rw (← e) chosen.cells;
+  faced = rw (← f) chosen.faced;
+  joined = rw (← g) chosen.joined;
+}
 
 pub seen_the_same : (view : Option View) (at center wide width : Option Text) → at ≡ center → wide ≡ width → IsView at wide view → IsView center width view
 seen_the_same view at center wide width e f seen =

@@ -30,6 +30,10 @@ released_argument = switch (codes "released")
 abbrev pub zero_cells_argument : Rule
 zero_cells_argument = switch (codes "zero-cells")
 
+-- --join: chains that two counties tell are one
+abbrev pub join_argument : Rule
+join_argument = switch (codes "join")
+
 -- --cert CERT, --out OUT, --geojson OUT and --name NAME: one name, which has to be given
 abbrev pub named_argument : Text → Rule
 named_argument id = record (new_rule id) { long = Some id; value_names = 1; required = true }
@@ -72,9 +76,12 @@ tests_argument = value_argument (codes "tests")
 abbrev pub command_on_files : Text → App
 command_on_files name = with_rule (with_rule (new_app name) released_argument) files_argument
 
--- show [--released] FILES..
+-- show [--join] [--released] FILES..
 abbrev pub show_name : Text
 show_name = codes "show"
+
+abbrev pub show_app : App
+show_app = with_rule (with_rule (with_rule (new_app show_name) join_argument) released_argument) files_argument
 
 -- landmarks [--released] FILES..
 abbrev pub landmarks_name : Text
@@ -91,11 +98,12 @@ convert_name = codes "convert"
 abbrev pub conversion_app : App
 conversion_app = with_rule (with_rule (new_app convert_name) (name_argument (codes "cert"))) (name_argument (codes "out"))
 
--- a command that asks whether a map is sound, with --faces, --zero-cells, --released and FILES.. behind what it has of its own
+-- a command that asks whether a map is sound, with --faces, --zero-cells, --join, --released and FILES.. behind what it has of its own
 abbrev pub on_a_map : App → App
-on_a_map app = with_rule (with_rule (with_rule (with_rule app faces_argument) zero_cells_argument) released_argument) files_argument
+on_a_map app =
+    with_rule (with_rule (with_rule (with_rule (with_rule app faces_argument) zero_cells_argument) join_argument) released_argument) files_argument
 
--- audit [--all] [--most N] [--where] [--json] [--geojson OUT] [--progress] [--faces] [--zero-cells] [--released] FILES..
+-- audit [--all] [--most N] [--where] [--json] [--geojson OUT] [--progress] [--faces] [--zero-cells] [--join] [--released] FILES..
 abbrev pub audit_name : Text
 audit_name = codes "audit"
 
@@ -104,37 +112,38 @@ audit_app =
     on_a_map (with_rule (with_rule (with_rule (with_rule (with_rule (with_rule (new_app audit_name) all_argument) most_argument) where_argument)
     json_argument) (value_argument (codes "geojson"))) progress_argument)
 
--- build --out CERT [--progress] [--faces] [--zero-cells] [--released] FILES..
+-- build --out CERT [--progress] [--faces] [--zero-cells] [--join] [--released] FILES..
 abbrev pub build_name : Text
 build_name = codes "build"
 
 abbrev pub build_app : App
 build_app = on_a_map (with_rule (with_rule (new_app build_name) (named_argument (codes "out"))) progress_argument)
 
--- check --cert CERT [--tests N] [--progress] [--faces] [--zero-cells] [--released] FILES..
+-- check --cert CERT [--tests N] [--progress] [--faces] [--zero-cells] [--join] [--released] FILES..
 abbrev pub check_name : Text
 check_name = codes "check"
 
 abbrev pub check_app : App
 check_app = on_a_map (with_rule (with_rule (with_rule (new_app check_name) (named_argument (codes "cert"))) tests_argument) progress_argument)
 
--- locate [--released] @X,Y FILES..
+-- locate [--join] [--released] @X,Y FILES..
 abbrev pub locate_name : Text
 locate_name = codes "locate"
 
 abbrev pub locate_app : App
-locate_app = with_rule (with_rule (with_rule (new_app locate_name) released_argument) (name_argument (codes "point"))) files_argument
+locate_app =
+    with_rule (with_rule (with_rule (with_rule (new_app locate_name) join_argument) released_argument) (name_argument (codes "point"))) files_argument
 
--- export --geojson OUT [--layer KIND] [--released] FILES..
+-- export --geojson OUT [--layer KIND] [--join] [--released] FILES..
 abbrev pub export_name : Text
 export_name = codes "export"
 
 abbrev pub export_app : App
 export_app =
-    with_rule (with_rule (with_rule (with_rule (new_app export_name) (named_argument (codes "geojson"))) (value_argument (codes "layer"))) released_argument)
-    files_argument
+    with_rule (with_rule (with_rule (with_rule (with_rule (new_app export_name) (named_argument (codes "geojson"))) (value_argument (codes "layer")))
+    join_argument) released_argument) files_argument
 
--- draw --out OUT [--at @X,Y --width W] [--faults [--faces]] [--zero-cells] [--released] FILES..
+-- draw --out OUT [--at @X,Y --width W] [--faults [--faces]] [--zero-cells] [--join] [--released] FILES..
 abbrev pub draw_name : Text
 draw_name = codes "draw"
 
@@ -143,14 +152,14 @@ draw_app =
     on_a_map (with_rule (with_rule (with_rule (with_rule (new_app draw_name) (named_argument (codes "out"))) (value_argument (codes "at")))
     (value_argument (codes "width"))) faults_argument)
 
--- border --name NAME --out OUT [--released] FILES..
+-- border --name NAME --out OUT [--join] [--released] FILES..
 abbrev pub border_name : Text
 border_name = codes "border"
 
 abbrev pub border_app : App
 border_app =
-    with_rule (with_rule (with_rule (with_rule (new_app border_name) (named_argument (codes "name"))) (named_argument (codes "out"))) released_argument)
-    files_argument
+    with_rule (with_rule (with_rule (with_rule (with_rule (new_app border_name) (named_argument (codes "name"))) (named_argument (codes "out")))
+    join_argument) released_argument) files_argument
 
 -- the name of a command
 abbrev pub name_of : Named → Text
@@ -171,9 +180,9 @@ program =
     on_top (λ top. record top { no_binary_name = true; has_version = true; subcommand_required = true })
     (new_app (codes "tigertopo"))
 
--- the commands that take files and nothing else but --released
+-- the commands that list what records draw
 abbrev pub with_listings : App
-with_listings = with_subcommand (with_subcommand program (command_on_files show_name).top) (command_on_files landmarks_name).top
+with_listings = with_subcommand (with_subcommand program show_app.top) (command_on_files landmarks_name).top
 
 -- the commands that decide whether a map is sound
 abbrev pub with_decisions : App → App

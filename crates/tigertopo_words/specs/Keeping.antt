@@ -8,13 +8,13 @@ use Rattle.clap.specs.declared.builder.command.Command.TheViews.{out-Command}
 use Rattle.tigertopo_words.specs.declared.command_line.Named.{Named}
 use Rattle.tigertopo_words.specs.declared.command_line.Named.TheVariants.{Show, Landmarks, Locate, Audit, Build, Check, Convert, Export, Draw, Border}
 use Rattle.tigertopo_words.specs.declared.command_line.Argument.{Argument}
-use Rattle.tigertopo_words.specs.declared.command_line.Argument.TheVariants.{All, Most, Progress, Where, Json, FacesOfDrawing, Faces, FaultsOption, ZeroCells, Released, Files, Point}
+use Rattle.tigertopo_words.specs.declared.command_line.Argument.TheVariants.{All, Most, Progress, Where, Json, FacesOfDrawing, Faces, FaultsOption, ZeroCells, Join, Released, Files, Point}
 use Rattle.tigertopo_words.specs.declared.command_line.Argument.TheVariants.{CertOption, OutOption, Tests, Cert, Out, LayerOption, CollectionOption, PictureOption, At, Width, Faults}
 use Rattle.tigertopo_words.specs.declared.command_line.Argument.TheVariants.{NameOption, BorderOption}
-use Rattle.tigertopo_words.specs.Commands.{all_argument, most_argument, zero_cells_argument, released_argument, files_argument}
+use Rattle.tigertopo_words.specs.Commands.{all_argument, most_argument, zero_cells_argument, join_argument, released_argument, files_argument}
 use Rattle.tigertopo_words.specs.Commands.{progress_argument, where_argument, json_argument, faces_argument, faults_argument, value_argument}
 use Rattle.tigertopo_words.specs.Commands.{name_argument, named_argument, tests_argument}
-use Rattle.tigertopo_words.specs.Commands.{command_on_files, show_name, landmarks_name}
+use Rattle.tigertopo_words.specs.Commands.{command_on_files, show_app, landmarks_name}
 use Rattle.tigertopo_words.specs.Commands.{locate_app, audit_app, build_app, check_app, conversion_app, export_app, draw_app, border_app}
 
 -- what clap is told of an argument
@@ -22,6 +22,7 @@ abbrev pub rule_for : Argument → Rule
 rule_for All = all_argument
 rule_for Most = most_argument
 rule_for ZeroCells = zero_cells_argument
+rule_for Join = join_argument
 rule_for Released = released_argument
 rule_for Files = files_argument
 rule_for Point = name_argument (codes "point")
@@ -52,7 +53,7 @@ with_each app (argument ∷ rest) = with_each (with_rule app (rule_for argument)
 
 -- what clap is told of a command
 abbrev pub app_named : Named → App
-app_named Show = command_on_files show_name
+app_named Show = show_app
 app_named Landmarks = command_on_files landmarks_name
 app_named Locate = locate_app
 app_named Audit = audit_app
@@ -84,16 +85,16 @@ with_named app (named ∷ rest) = with_named (with_subcommand app (app_named nam
 
 -- the arguments of a command
 abbrev pub arguments_for : Named → List Argument
-arguments_for Show = Released ∷ Files ∷ []
+arguments_for Show = Join ∷ Released ∷ Files ∷ []
 arguments_for Landmarks = Released ∷ Files ∷ []
-arguments_for Locate = Released ∷ Point ∷ Files ∷ []
-arguments_for Audit = All ∷ Most ∷ Where ∷ Json ∷ FaultsOption ∷ Progress ∷ Faces ∷ ZeroCells ∷ Released ∷ Files ∷ []
-arguments_for Build = OutOption ∷ Progress ∷ Faces ∷ ZeroCells ∷ Released ∷ Files ∷ []
-arguments_for Check = CertOption ∷ Tests ∷ Progress ∷ Faces ∷ ZeroCells ∷ Released ∷ Files ∷ []
+arguments_for Locate = Join ∷ Released ∷ Point ∷ Files ∷ []
+arguments_for Audit = All ∷ Most ∷ Where ∷ Json ∷ FaultsOption ∷ Progress ∷ Faces ∷ ZeroCells ∷ Join ∷ Released ∷ Files ∷ []
+arguments_for Build = OutOption ∷ Progress ∷ Faces ∷ ZeroCells ∷ Join ∷ Released ∷ Files ∷ []
+arguments_for Check = CertOption ∷ Tests ∷ Progress ∷ Faces ∷ ZeroCells ∷ Join ∷ Released ∷ Files ∷ []
 arguments_for Convert = Cert ∷ Out ∷ []
-arguments_for Export = CollectionOption ∷ LayerOption ∷ Released ∷ Files ∷ []
-arguments_for Draw = PictureOption ∷ At ∷ Width ∷ Faults ∷ FacesOfDrawing ∷ ZeroCells ∷ Released ∷ Files ∷ []
-arguments_for Border = NameOption ∷ BorderOption ∷ Released ∷ Files ∷ []
+arguments_for Export = CollectionOption ∷ LayerOption ∷ Join ∷ Released ∷ Files ∷ []
+arguments_for Draw = PictureOption ∷ At ∷ Width ∷ Faults ∷ FacesOfDrawing ∷ ZeroCells ∷ Join ∷ Released ∷ Files ∷ []
+arguments_for Border = NameOption ∷ BorderOption ∷ Join ∷ Released ∷ Files ∷ []
 
 -- a command was made, and it is so
 abbrev pub OnMade : {E : Type 0} → Result Command E → (Command → Type 0) → Type 0

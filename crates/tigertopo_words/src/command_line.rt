@@ -15,7 +15,7 @@ use crate::help::{
     ABOUT, ALL, AT, AUDIT_ABOUT, AUDIT_EXAMPLE, BORDER_ABOUT, BORDER_EXAMPLE, BUILD_ABOUT,
     BUILD_EXAMPLE, CHECK_ABOUT, CHECK_EXAMPLE, CONVERT_ABOUT, CONVERT_EXAMPLE, DRAW_ABOUT,
     DRAW_EXAMPLE, EXAMPLES, EXPORT_ABOUT, EXPORT_EXAMPLE, FACES, FACES_OF_DRAWING, FAULTS,
-    FAULTS_COLLECTION, JSON, LANDMARKS_ABOUT, LANDMARKS_EXAMPLE, LAYER, LOCATE_ABOUT,
+    FAULTS_COLLECTION, JOIN, JSON, LANDMARKS_ABOUT, LANDMARKS_EXAMPLE, LAYER, LOCATE_ABOUT,
     LOCATE_EXAMPLE, MOST, NAME, PROGRESS, RELEASED, SHOW_ABOUT, SHOW_EXAMPLE, TESTS, WHERE, WIDTH,
     ZERO_CELLS,
 };
@@ -48,6 +48,8 @@ enum Argument {
     Most,
     // --zero-cells
     ZeroCells,
+    // --join
+    Join,
     // --released
     Released,
     // FILES..
@@ -226,9 +228,14 @@ fn arguments_of<'a>(named: &Named) -> &'a [Argument]
     ensures { result.now ≡ arguments_for named.now }
 {
     match named {
-        Named::Show => &[Argument::Released, Argument::Files],
+        Named::Show => &[Argument::Join, Argument::Released, Argument::Files],
         Named::Landmarks => &[Argument::Released, Argument::Files],
-        Named::Locate => &[Argument::Released, Argument::Point, Argument::Files],
+        Named::Locate => &[
+            Argument::Join,
+            Argument::Released,
+            Argument::Point,
+            Argument::Files,
+        ],
         Named::Audit => &[
             Argument::All,
             Argument::Most,
@@ -238,6 +245,7 @@ fn arguments_of<'a>(named: &Named) -> &'a [Argument]
             Argument::Progress,
             Argument::Faces,
             Argument::ZeroCells,
+            Argument::Join,
             Argument::Released,
             Argument::Files,
         ],
@@ -246,6 +254,7 @@ fn arguments_of<'a>(named: &Named) -> &'a [Argument]
             Argument::Progress,
             Argument::Faces,
             Argument::ZeroCells,
+            Argument::Join,
             Argument::Released,
             Argument::Files,
         ],
@@ -255,6 +264,7 @@ fn arguments_of<'a>(named: &Named) -> &'a [Argument]
             Argument::Progress,
             Argument::Faces,
             Argument::ZeroCells,
+            Argument::Join,
             Argument::Released,
             Argument::Files,
         ],
@@ -262,6 +272,7 @@ fn arguments_of<'a>(named: &Named) -> &'a [Argument]
         Named::Export => &[
             Argument::CollectionOption,
             Argument::LayerOption,
+            Argument::Join,
             Argument::Released,
             Argument::Files,
         ],
@@ -272,12 +283,14 @@ fn arguments_of<'a>(named: &Named) -> &'a [Argument]
             Argument::Faults,
             Argument::FacesOfDrawing,
             Argument::ZeroCells,
+            Argument::Join,
             Argument::Released,
             Argument::Files,
         ],
         Named::Border => &[
             Argument::NameOption,
             Argument::BorderOption,
+            Argument::Join,
             Argument::Released,
             Argument::Files,
         ],
@@ -318,6 +331,7 @@ fn arg_of<'a>(alloc: Global, argument: &Argument) -> Arg<'a>
         Argument::All => switch(alloc, "all", ALL),
         Argument::Most => option(alloc, "most", "N", MOST),
         Argument::ZeroCells => switch(alloc, "zero-cells", ZERO_CELLS),
+        Argument::Join => switch(alloc, "join", JOIN),
         Argument::Released => switch(alloc, "released", RELEASED),
         Argument::Files => files_argument(alloc),
         Argument::Point => name_argument(

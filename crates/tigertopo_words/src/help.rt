@@ -209,6 +209,9 @@ pub const WIDTH: &str = "How wide and how high that is, in millionths of a degre
 
 pub const FAULTS: &str = "Draws the faults too";
 
+pub const JOIN: &str =
+    "Takes a chain that two counties tell, each with its own side, for one; landmarks are left out";
+
 pub const RELEASED: &str =
     "Reads type I lines by the columns of the released files, FILE in 6-10 and TLID in 11-20";
 

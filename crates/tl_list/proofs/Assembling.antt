@@ -7,7 +7,7 @@ use Rattle.tl_record.specs.declared.layout.Layout.{Layout}
 use Rattle.tl_record.specs.declared.options.Options.{Options}
 use Rattle.tl_record.specs.Layout.{layout_with}
 use Rattle.tl_record.specs.declared.stop.Cause.{Cause}
-use Rattle.tl_record.specs.Records.{Records, records_of, judgements}
+use Rattle.tl_record.specs.Records.{Records, lines_read, records_of, judgements}
 use Rattle.tl_record.specs.Lines.{raw_lines}
 use Rattle.tl_record.specs.Reader.{KeepsRefusals}
 use Rattle.tl_record.specs.Refusals.{refusals_of}
@@ -138,14 +138,14 @@ module _ (options : Options) (known : Option (List ℕ)) where
       go (Some text) e = listed_text options text listed (told (records_of (layout_with options) text) keeps.records (let known = keeps.known in rw e at known) keeps.keeps)
 
   pub refused_told : (at_first : Option Records) (refusals now : Option (List (ℕ × Cause))) (line : ℕ) (cause : Cause)
-      (result : Result Findings Stop) → at_first ≡ option_map (records_of (layout_with options)) known
+      (result : Result Findings Stop) → at_first ≡ option_map (lines_read (layout_with options)) known
       → refusals ≡ option_map (refusals_of (layout_with options)) known → IfSome at_first (λ all. all.refusal ≡ Some (line, cause))
       → KeepsRefusals refusals now → IfOk result (λ listed. IfSome now (ListsRefusals listed.listing) × (listed.map ≡ None))
       → IfOk result (λ listed. IfSome known (λ text. AreFindingsOf options text listed))
   refused_told at_first refusals now line cause (Err stop) is are refused keeps told = tt
   refused_told at_first refusals now line cause (Ok listed) is are refused keeps told = go known is are
     where
-      go : (bytes : Option (List ℕ)) → at_first ≡ option_map (records_of (layout_with options)) bytes → refusals ≡ option_map (refusals_of (layout_with options)) bytes
+      go : (bytes : Option (List ℕ)) → at_first ≡ option_map (lines_read (layout_with options)) bytes → refusals ≡ option_map (refusals_of (layout_with options)) bytes
           → IfSome bytes (λ text. AreFindingsOf options text listed)
       go None e f = tt
       go (Some text) e f =

@@ -1,23 +1,28 @@
 -- What one more answer of a reader adds to the records that are kept.
-use Rattle.std.proofs.Common.{◌≡◌, ℕ, List, [], ◌∷◌, ◌++◌, Option, Some, None, refl}
+use Rattle.std.proofs.Common.{◌≡◌, ℕ, Bool, true, false, List, [], ◌∷◌, ◌++◌, Option, Some, None, refl, ap, ◌∙◌}
 use Rattle.std.specs.Prelude.{Ok, IfSome}
 use Rattle.tl_record.specs.declared.record.Record.{Record}
 use Rattle.tl_record.specs.declared.stop.Cause.{Cause}
 use Rattle.tl_record.specs.Records.{Records}
 use Rattle.tl_record.specs.Reader.{Gives, KeepsRefusals}
 use Rattle.tl_map_rules.specs.Reading.{records_in}
+use Rattle.std.specs.Option.{option_map}
+use Rattle.tl_record.specs.Records.{joined_where}
+use Rattle.tl_map_join.specs.Told.{joined_records}
+use Rattle.tl_map_join.proofs.JoinLemmas.{records_joined}
 use Rattle.tl_map.proofs.GatherLemmas.{so_far_first, so_far_more, known_whole}
 use Rattle.tl_list.specs.declared.reading.BothKept.{BothKept}
-use Rattle.tl_list.specs.Keeping.Reading.{Keeps, KeepsSoFar, KeepsAll, AreWhole}
+use Rattle.tl_list.specs.declared.reading.Taken.{Taken}
+use Rattle.tl_list.specs.Keeping.Reading.{Keeps, Takes, joined_if, TakesSoFar, TakesAll, KeepsAll, AreWhole}
 
-pub keeps_none : (at_first : Option Records) (both : BothKept) → Keeps [] both → KeepsSoFar at_first at_first both
-keeps_none at_first both keeps = record { records = []; keeps = keeps; known = so_far_first at_first }
+pub keeps_none : (joins : Bool) (at_first : Option Records) (taken : Taken) → Takes joins [] taken → TakesSoFar joins at_first at_first taken
+keeps_none joins at_first taken keeps = record { records = []; keeps = keeps; known = so_far_first at_first }
 
-pub keeps_more : (at_first now new : Option Records) (skipped line : ℕ) (r : Record) (a b : BothKept) → Gives now new skipped (Ok (Some (line, r)))
-    → ((rs : List Record) → Keeps rs a → Keeps (rs ++ r ∷ []) b) → KeepsSoFar at_first now a → KeepsSoFar at_first new b
-keeps_more at_first now new skipped line r a b gives adds before = record {
+pub keeps_more : (joins : Bool) (at_first now new : Option Records) (skipped line : ℕ) (r : Record) (a b : Taken) → Gives now new skipped (Ok (Some (line, r)))
+    → ((joins : Bool) (rs : List Record) → Takes joins rs a → Takes joins (rs ++ r ∷ []) b) → TakesSoFar joins at_first now a → TakesSoFar joins at_first new b
+keeps_more joins at_first now new skipped line r a b gives adds before = record {
   records = before.records ++ r ∷ [];
-  keeps = adds before.records before.keeps;
+  keeps = adds joins before.records before.keeps;
   known = so_far_more at_first now new skipped line r before.records gives before.known;
 }
 
@@ -26,9 +31,9 @@ whole : (at_first : Option Records) (rs : List Record) (skipped : ℕ) → IfSom
 whole None rs skipped known = tt
 whole (Some all) rs skipped known = record { records_are = known.0; no_refusal = known.1; skipped_lines = known.2 }
 
-pub keeps_all : (at_first now new : Option Records) (skipped : ℕ) (both : BothKept) → Gives now new skipped (Ok None)
-    → KeepsSoFar at_first now both → KeepsAll at_first skipped both
-keeps_all at_first now new skipped both gives so_far = record {
+pub keeps_all : (joins : Bool) (at_first now new : Option Records) (skipped : ℕ) (taken : Taken) → Gives now new skipped (Ok None)
+    → TakesSoFar joins at_first now taken → TakesAll joins at_first skipped taken
+keeps_all joins at_first now new skipped taken gives so_far = record {
   records = so_far.records;
   keeps = so_far.keeps;
   known = whole at_first so_far.records skipped (known_whole at_first now new skipped so_far.records gives so_far.known);
@@ -42,3 +47,17 @@ keeps_refusals (Some refusals) b c one other = rw one at other
 pub keeps_same : (a : Option (List (ℕ × Cause))) → KeepsRefusals a a
 keeps_same None = tt
 keeps_same (Some refusals) = refl
+
+-- what was taken is kept, joined where that is asked
+pub keeps_taken : (joins : Bool) (came : Option Records) (skipped : ℕ) (taken : Taken) (both : BothKept) → ((joins : Bool) (rs : List Record) → Takes joins rs taken → Keeps (joined_if joins rs) both)
+    → TakesAll joins came skipped taken → KeepsAll (option_map (joined_where joins) came) skipped both
+keeps_taken joins came skipped taken both keep all = record {
+  records = joined_if joins all.records;
+  keeps = keep joins all.records all.keeps;
+  known = go joins came all.known;
+}
+  where
+    go : (joins : Bool) (came : Option Records) → IfSome came (λ every. AreWhole every skipped all.records) → IfSome (option_map (joined_where joins) came) (λ every. AreWhole every skipped (joined_if joins all.records))
+    go joins None known = tt
+    go false (Some every) known = record { records_are = known.records_are; no_refusal = known.no_refusal; skipped_lines = known.skipped_lines }
+    go true (Some every) known = record { records_are = records_joined every.entries ∙ ap joined_records known.records_are; no_refusal = known.no_refusal; skipped_lines = known.skipped_lines }

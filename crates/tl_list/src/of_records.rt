@@ -78,7 +78,7 @@ pub fn list_with_map<R: Source>(
     ensures failures { TellsDevice (R.failure_count records.old) (R.failure_count records.new) result }
 {
     let mut reader = RecordReader::with(records, options);
-    match read_all(alloc, &mut reader)? {
+    match read_all(alloc, &mut reader, options.join)? {
         Some(both) => list_kept(alloc, hasher, both, reader.skipped(), options.faces),
         None => list_refused(alloc, &mut reader),
     }

@@ -15,7 +15,9 @@ use Rattle.tl_map.specs.declared.collect.Collected.{Collected}
 use Rattle.tl_map_rules.specs.Reading.{records_in, stop_of, TellsDevice}
 use Rattle.tl_map.specs.Keeping.Areas.{KeepsAreas}
 use Rattle.tl_map.specs.Keeping.Collected.{Collects}
-use Rattle.tl_map.specs.Keeping.Gathering.{GathersSoFar, GathersAllSoFar, StopsGathering}
+use Rattle.tl_map.specs.Keeping.Gathering.{GathersSoFar, GathersAllSoFar, GathersToldSoFar, StopsGathering}
+use Rattle.tl_map_join.specs.declared.told.ToldRecords.{ToldRecords}
+use Rattle.tl_map_join.specs.Told.{HasTold}
 
 -- what was to come at first is the records so far and what comes now
 abbrev pub IsSoFar : Option Records → Option Records → List Record → Type 0
@@ -46,6 +48,13 @@ gathers_more at_first now new skipped line r c d a b gives chains areas before =
   records = before.records ++ r ∷ [];
   kept = chains before.records before.kept;
   areas = areas before.records before.areas;
+  known = so_far_more at_first now new skipped line r before.records gives before.known;
+}
+
+pub gathers_told_more : (at_first now new : Option Records) (skipped line : ℕ) (r : Record) (c d : ToldRecords) → Gives now new skipped (Ok (Some (line, r))) → ((rs : List Record) → HasTold rs c → HasTold (rs ++ r ∷ []) d) → GathersToldSoFar at_first now c → GathersToldSoFar at_first new d
+gathers_told_more at_first now new skipped line r c d gives adds before = record {
+  records = before.records ++ r ∷ [];
+  kept = adds before.records before.kept;
   known = so_far_more at_first now new skipped line r before.records gives before.known;
 }
 

@@ -20,3 +20,4 @@ pub mod ProperLemmas
 pub mod OnceLemmas
 pub mod KeptLemmas
 pub mod ReadLemmas
+pub mod JoinedLemmas

@@ -1,21 +1,25 @@
 //! Chains and maps from the bytes of record files.
 
-ghost use Rattle.std.specs.Prelude.{◌≡◌, IfOk, IfErr, IfSome};
+ghost use Rattle.std.specs.Prelude.{◌≡◌, List, IfOk, IfErr, IfSome};
+ghost use Rattle.std.specs.Option.{option_map};
+ghost use Rattle.tl_record.specs.declared.record.Record.{Record};
 ghost use Rattle.tl_record.specs.declared.reader.Standing.TheVariants.{Reading};
 ghost use Rattle.tl_record.specs.Layout.{tiger_2006, layout_with};
-ghost use Rattle.tl_record.specs.Records.{records_of};
+ghost use Rattle.tl_record.specs.Records.{records_of, joined_where};
 ghost use Rattle.tl_record.specs.Reader.{source_of, skipped_of, standing_of, outcome};
 ghost use Rattle.tl_map_rules.specs.Reading.{AreReadFrom, IsReadFrom, StopsReading, IfFault, TellsDevice};
 ghost use Rattle.tl_map_rules.specs.Faults.{IsFaultOfChains};
-ghost use Rattle.tl_map.specs.Keeping.Gathering.{Gathers, GathersAll, StopsGathering};
+ghost use Rattle.tl_map.specs.Keeping.Gathering.{Gathers, GathersAll, GathersTold, CollectsAll, StopsGathering};
+ghost use Rattle.tl_map_join.specs.Told.{HasTold, joined_records};
 
 use crate::areas::AreaRecords;
 use crate::build::build_chains;
 use crate::build_map::build_map;
 use crate::collect::Collected;
-use std::alloc::Global;
+use std::alloc::{AllocError, Global};
 use std::hash::RandomState;
 use tl_map_county::{Chains, Map};
+use tl_map_join::ToldRecords;
 use tl_map_rules::MapStop;
 use tl_record::{NO_RECORD, Options, PLAIN, RecordReader, Source};
 
@@ -70,6 +74,92 @@ fn collect_all<R: Source>(
     }
 }
 
+/// Keeps all records that a reader has to give, until they are joined.
+fn collect_told<R: Source>(
+    alloc: Global,
+    reader: &mut RecordReader<R>,
+) -> Result<ToldRecords, MapStop>
+    requires { standing_of reader.old ≡ Reading }
+    ensures all { IfOk result (GathersTold (outcome R.remaining reader.old) (skipped_of reader.new)) }
+    ensures stops { IfErr result (StopsGathering (outcome R.remaining reader.old)) }
+    ensures failures { TellsDevice (R.failure_count (source_of reader.old))
+        (R.failure_count (source_of reader.new)) result }
+    ensures same_reference { R.reference (source_of reader.new) ≡ R.reference (source_of reader.old) }
+{
+    let mut told = ToldRecords::new(alloc);
+    let mut next = NO_RECORD;
+    'records: loop {
+        match reader.read_next(&mut next) {
+            Ok(Some(_)) => told.add(&next)?,
+            Ok(None) => return Ok(told),
+            Err(stop) => return Err(MapStop::from(stop)),
+        }
+    }
+}
+
+/// Collects kept records with each chain that is told twice once.
+fn collect_joined(
+    alloc: Global,
+    told: ToldRecords,
+) -> Result<(Collected, AreaRecords), AllocError>
+    // It has kept some records.
+    requires { (rs : List Record) × HasTold rs told }
+    ensures { (rs : List Record) → HasTold rs told → IfOk result (CollectsAll (joined_records rs)) }
+{
+    let joined = told.join(alloc)?;
+    let mut collected = Collected::new(alloc);
+    let mut areas = AreaRecords::new(alloc);
+    for next in &joined {
+        collected.add(next)?;
+        areas.add(next)?;
+    }
+    Ok((collected, areas))
+}
+
+/// Collects all records that a reader has to give as [`collect_all`] does, joined where that is asked.
+fn collect_asked<R: Source>(
+    alloc: Global,
+    reader: &mut RecordReader<R>,
+    joins: bool,
+) -> Result<(Collected, AreaRecords), MapStop>
+    requires { standing_of reader.old ≡ Reading }
+    ensures all { IfOk result (λ made.
+        GathersAll (option_map (joined_where joins) (outcome R.remaining reader.old)) (skipped_of reader.new) made.0 made.1) }
+    ensures stops { IfErr result (StopsGathering (option_map (joined_where joins) (outcome R.remaining reader.old))) }
+    ensures failures { TellsDevice (R.failure_count (source_of reader.old))
+        (R.failure_count (source_of reader.new)) result }
+    ensures same_reference { R.reference (source_of reader.new) ≡ R.reference (source_of reader.old) }
+{
+    if !joins {
+        return collect_all(alloc, reader);
+    }
+    let told = collect_told(alloc, reader)?;
+    let made = collect_joined(alloc, told)?;
+    Ok(made)
+}
+
+/// Collects all chains that a reader has to give as [`collect_records`] does, joined where that is asked.
+fn collect_chains<R: Source>(
+    alloc: Global,
+    reader: &mut RecordReader<R>,
+    joins: bool,
+) -> Result<Collected, MapStop>
+    requires { standing_of reader.old ≡ Reading }
+    ensures all { IfOk result
+        (Gathers (option_map (joined_where joins) (outcome R.remaining reader.old)) (skipped_of reader.new)) }
+    ensures stops { IfErr result (StopsGathering (option_map (joined_where joins) (outcome R.remaining reader.old))) }
+    ensures failures { TellsDevice (R.failure_count (source_of reader.old))
+        (R.failure_count (source_of reader.new)) result }
+    ensures same_reference { R.reference (source_of reader.new) ≡ R.reference (source_of reader.old) }
+{
+    if !joins {
+        return collect_records(alloc, reader);
+    }
+    let (collected, areas) = collect_asked(alloc, reader, joins)?;
+    drop(areas);
+    Ok(collected)
+}
+
 /// Reads the chains of a county from the text of its record files, types 1 and 2, by the columns of [`Options`]'s
 /// default.
 ///
@@ -103,7 +193,7 @@ pub fn read_chains_with<R: Source>(
     ensures failures { TellsDevice (R.failure_count records.old) (R.failure_count records.new) result }
 {
     let mut reader = RecordReader::with(records, options);
-    let collected = collect_records(alloc, &mut reader)?;
+    let collected = collect_chains(alloc, &mut reader, options.join)?;
     build_chains(alloc, collected, reader.skipped())
 }
 
@@ -143,6 +233,6 @@ pub fn read_map_with<R: Source>(
     ensures failures { TellsDevice (R.failure_count records.old) (R.failure_count records.new) result }
 {
     let mut reader = RecordReader::with(records, options);
-    let (collected, areas) = collect_all(alloc, &mut reader)?;
+    let (collected, areas) = collect_asked(alloc, &mut reader, options.join)?;
     build_map(alloc, hasher, collected, areas, reader.skipped())
 }

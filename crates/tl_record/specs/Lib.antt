@@ -11,6 +11,7 @@ pub mod Messages
 pub mod Outcome
 pub mod Judgement
 pub mod Meaning
+pub mod Joining
 pub mod Records
 pub mod Refusals
 pub mod NextLine

@@ -1,5 +1,5 @@
 -- The records of a text.
-use Rattle.std.specs.Prelude.{ℕ, ◌+◌, Bool, true, false, List, map, not, Option, Some, None}
+use Rattle.std.specs.Prelude.{ℕ, ◌+◌, Bool, true, false, List, map, not, Option, Some, None, if◌then◌else◌}
 use Rattle.std.specs.List.{enumerate_from, filter_map, take_while, find, count_by}
 use Rattle.std.specs.Option.{option_and_then}
 use Rattle.tl_record.specs.declared.layout.Layout.{Layout}
@@ -9,6 +9,7 @@ use Rattle.tl_record.specs.declared.judge.Judgement.{Judgement}
 use Rattle.tl_record.specs.declared.judge.Judgement.TheVariants.{PassedOver, Read, Refused}
 use Rattle.tl_record.specs.Lines.{raw_lines}
 use Rattle.tl_record.specs.Judgement.{judgement}
+use Rattle.tl_record.specs.Joining.{joined}
 
 -- what reading a text gives
 pub record Records : Type 0 where
@@ -58,6 +59,18 @@ records_judged judged = record {
 abbrev pub records_of_lines : Layout → ℕ → List (List ℕ) → Records
 records_of_lines layout before lines = records_judged (judgements layout before lines)
 
+-- the records of a text's lines, each as it stands
+abbrev pub lines_read : Layout → List ℕ → Records
+lines_read layout text = records_of_lines layout 0 (raw_lines text)
+
+-- these records, with each chain that is told twice once, where chains are joined
+abbrev pub joined_where : Bool → Records → Records
+joined_where joins all = record {
+  entries = if joins then joined all.entries else all.entries;
+  refusal = all.refusal;
+  skipped = all.skipped;
+}
+
 -- the records of a text
 abbrev pub records_of : Layout → List ℕ → Records
-records_of layout text = records_of_lines layout 0 (raw_lines text)
+records_of layout text = joined_where layout.joins (lines_read layout text)

@@ -9,7 +9,7 @@ ghost use Rattle.tl_record.specs.Lines.{line_feeds};
 ghost use Rattle.tl_record.specs.Layout.{tiger_2006, layout_with};
 ghost use Rattle.tl_record.specs.declared.judge.Judgement.TheVariants.{Refused};
 ghost use Rattle.tl_record.specs.Judgement.{judgement, judgement as judgement_of};
-ghost use Rattle.tl_record.specs.Records.{records_of};
+ghost use Rattle.tl_record.specs.Records.{lines_read};
 ghost use Rattle.tl_record.specs.Refusals.{refusals_of};
 ghost use Rattle.tl_record.specs.NextLine.{Shows, CountsFetch, found_with, KeepsUnfound};
 ghost use Rattle.tl_record.specs.Meaning.{judgement_with, KeepsUnread};
@@ -95,7 +95,7 @@ impl<R: Source> RecordReader<R> {
         ensures source { source_of result ≡ source }
         // Where the bytes are known, and however reads cut them: the records before the first refused line are to come,
         // and then that refusal or the end.
-        ensures records { outcome R.remaining result ≡ option_map (records_of tiger_2006) (R.remaining source) }
+        ensures records { outcome R.remaining result ≡ option_map (lines_read tiger_2006) (R.remaining source) }
         // Where the bytes are known, all lines that are refused are to come as refusals.
         ensures refusals { refusals_to_come R.remaining result
             ≡ option_map (refusals_of tiger_2006) (R.remaining source) }
@@ -113,7 +113,7 @@ impl<R: Source> RecordReader<R> {
         // Where the bytes are known, and however reads cut them: the records before the first refused line are to come,
         // and then that refusal or the end.
         ensures records { outcome R.remaining result
-            ≡ option_map (records_of (layout_with options)) (R.remaining source) }
+            ≡ option_map (lines_read (layout_with options)) (R.remaining source) }
         // Where the bytes are known, all lines that are refused are to come as refusals.
         ensures refusals { refusals_to_come R.remaining result
             ≡ option_map (refusals_of (layout_with options)) (R.remaining source) }

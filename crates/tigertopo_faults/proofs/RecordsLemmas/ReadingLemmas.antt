@@ -9,7 +9,7 @@ use Rattle.tl_record.specs.declared.record.Record.{Record}
 use Rattle.tl_record.specs.declared.layout.Layout.{Layout}
 use Rattle.tl_record.specs.declared.stop.Cause.{Cause}
 use Rattle.tl_record.specs.declared.stop.ReadStop.TheVariants.{Refused}
-use Rattle.tl_record.specs.Records.{Records, records_of}
+use Rattle.tl_record.specs.Records.{Records, lines_read}
 use Rattle.tl_record.specs.declared.reader.Standing.{Standing}
 use Rattle.tl_record.specs.declared.reader.Standing.TheVariants.{Reading, Ended, Stopped}
 use Rattle.tl_record.specs.Reader.{Gives, TellsFailure}
@@ -152,8 +152,8 @@ kept_at_stop empty (Some all) (Some rest) new skipped line cause kept gives so_f
 
 -- of all faults
 pub then_all : (layout : Layout) (chains : List MapChain) (faults : List MapFault) (keys : List Subject) (empty kept : KeptLines) (lines : RecordLines) (known : Option (List ℕ)) (all : Option Records)
-    → all ≡ option_map (records_of layout) known → lines.kept ≡ kept → HasAll chains faults keys → ((s : Subject) → Contains keys s → is_wanted empty s ≡ true) → KeptAll empty all kept
-    → IfSome known (λ text. HoldsAll chains faults (records_of layout text).entries lines)
+    → all ≡ option_map (lines_read layout) known → lines.kept ≡ kept → HasAll chains faults keys → ((s : Subject) → Contains keys s → is_wanted empty s ≡ true) → KeptAll empty all kept
+    → IfSome known (λ text. HoldsAll chains faults (lines_read layout text).entries lines)
 then_all layout chains faults keys empty kept lines None all is same has wanted whole = tt
 then_all layout chains faults keys empty kept lines (Some text) all is same has wanted whole = λ k fault there.
     let its = rw is at whole in (
@@ -161,7 +161,7 @@ then_all layout chains faults keys empty kept lines (Some text) all is same has 
       one (subjects_of chains fault).1 (λ s spoken. ap (λ (l : KeptLines). kept_of l s) same ∙ its s (wanted s (has k fault there s (inr spoken)))),
     )
   where
-    one : (subject : Option Subject) → ((s : Subject) → subject ≡ Some s → held lines s ≡ lines_about (records_of layout text).entries s) → HoldsLines (records_of layout text).entries lines subject
+    one : (subject : Option Subject) → ((s : Subject) → subject ≡ Some s → held lines s ≡ lines_about (lines_read layout text).entries s) → HoldsLines (lines_read layout text).entries lines subject
     one None each = tt
     one (Some s) each = each s refl
 

@@ -1,7 +1,7 @@
 -- What faults speak of, in files that are read again.
 use Rattle.std.specs.Prelude.{◌≡◌, ℕ, List, Option, map}
 use Rattle.tl_record.specs.declared.layout.Layout.{Layout}
-use Rattle.tl_record.specs.Records.{records_of}
+use Rattle.tl_record.specs.Records.{lines_read}
 use Rattle.tigertopo_text.specs.Joining.{joined}
 use Rattle.tl_map_county.specs.TheMap.{TheMap, MapChain}
 use Rattle.tigertopo_files.specs.Files.{Under}
@@ -16,7 +16,7 @@ use Rattle.tigertopo_faults.specs.declared.lines.again.Spoken.{Spoken}
 -- of files of these texts: so many lines has each, and the lines of all records that the faults speak of are held
 pub record AreOf (layout : Layout) (texts : List (List ℕ)) (chains : List MapChain) (faults : List MapFault) (spoken : Spoken) : Type 0 where
   pub counted : spoken.counts.items ≡ map line_count texts
-  pub lines : HoldsAll chains faults (records_of layout (joined texts)).entries spoken.lines
+  pub lines : HoldsAll chains faults (lines_read layout (joined texts)).entries spoken.lines
 
 -- where the faults lie on the map, where there is one; and the same where the text under each name is known
 pub record AreSpoken (layout : Layout) (under : Under) (names : List (List ℕ)) (drawn : Option TheMap) (faults : List MapFault) (spoken : Spoken) : Type 0 where

@@ -2,7 +2,7 @@
 
 ghost use Rattle.std.specs.Prelude.{◌≡◌, ℕ, true, List, [], IfOk, IfErr, IfSome, IsSomeAnd, map, option_copied, string_bytes};
 ghost use Rattle.tl_record.specs.Layout.{layout_with};
-ghost use Rattle.tl_record.specs.Records.{records_of};
+ghost use Rattle.tl_record.specs.Records.{lines_read};
 ghost use Rattle.tigertopo_text.specs.Joining.{joined};
 ghost use Rattle.tigertopo_files.specs.Log.{LogsAgain};
 ghost use Rattle.tigertopo_files.specs.World.{world};
@@ -114,7 +114,7 @@ fn lines_again<F: FileSystem>(
 ) -> Result<Option<RecordLines>, Stop>
     ensures found { IfOk result (λ found. (texts : List (List ℕ)) → HaveTexts (F.under files.old) (map string_bytes names.now) texts
         → IsSomeAnd found (HoldsAll (chains_of (option_copied drawn.entry)) faults.now
-        (records_of (layout_with options) (joined texts)).entries)) }
+        (lines_read (layout_with options) (joined texts)).entries)) }
     ensures stops { IfErr result (StopsFor (FailsAgain (world F.under F.log F.knows files.old files.new) (map string_bytes names.now))) }
     ensures stays { F.under files.new ≡ F.under files.old }
     ensures logged { F.knows ≡ true → LogsAgain (F.log files.old) (F.log files.new) result }
@@ -141,7 +141,7 @@ impl Reading for LinesOf<'_> {
     type Answer = RecordLines;
 
     ghost answers = { λ asked known single lines. IfSome known (λ text. HoldsAll (chains_of (option_copied asked.drawn)) asked.faults.now
-        (records_of (layout_with asked.options) text).entries lines) };
+        (lines_read (layout_with asked.options) text).entries lines) };
 
     ghost stops = { λ asked known single. StopsFor ⊥ };
 

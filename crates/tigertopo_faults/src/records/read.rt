@@ -5,7 +5,7 @@ ghost use Rattle.tigertopo_faults.specs.declared.records.subject.Subject.{Subjec
 ghost use Rattle.tigertopo_faults.specs.Records.Kept.{kept_of};
 ghost use Rattle.tl_record.specs.declared.reader.Standing.TheVariants.{Reading};
 ghost use Rattle.tl_record.specs.Layout.{layout_with};
-ghost use Rattle.tl_record.specs.Records.{records_of};
+ghost use Rattle.tl_record.specs.Records.{lines_read};
 ghost use Rattle.tl_record.specs.Reader.{source_of, standing_of, outcome};
 ghost use Rattle.tigertopo_faults.specs.Records.SpokenOf.{chains_of};
 ghost use Rattle.tigertopo_faults.specs.Records.Finding.{HoldsAll};
@@ -34,7 +34,7 @@ pub fn record_lines<R: Source>(
 ) -> Result<RecordLines, Stop>
     // Where the bytes are known: the lines of all records that the faults speak of, and of no other.
     ensures lines { IfOk result (λ lines. IfSome (R.remaining records.old) (λ text.
-        HoldsAll (chains_of (option_copied map.entry)) faults.now (records_of (layout_with options) text).entries lines)) }
+        HoldsAll (chains_of (option_copied map.entry)) faults.now (lines_read (layout_with options) text).entries lines)) }
     // It stops where memory was refused, or a read failed.
     ensures stops { IfErr result (StopsFor ⊤) }
     // `Device` is answered where a read failed in this call, and nowhere else.

@@ -6,6 +6,8 @@ use Rattle.tl_map.specs.declared.collect.Collected.{Collected}
 use Rattle.tl_map_rules.specs.declared.fault.MapStop.{MapStop}
 use Rattle.tl_map_rules.specs.declared.fault.MapStop.TheVariants.{Refused, Device, Memory, Fault}
 use Rattle.tl_map.specs.declared.areas.AreaRecords.{AreaRecords}
+use Rattle.tl_map_join.specs.declared.told.ToldRecords.{ToldRecords}
+use Rattle.tl_map_join.specs.Told.{HasTold}
 use Rattle.tl_map.specs.Keeping.Areas.{KeepsAreas}
 use Rattle.tl_map.specs.Keeping.Collected.{Collects}
 use Rattle.tl_map_rules.specs.Reading.{records_in}
@@ -34,6 +36,22 @@ pub record GathersAll (at_first : Option Records) (skipped : ℕ) (c : Collected
   pub kept : Collects records c
   pub areas : KeepsAreas records a
   pub known : IfSome at_first (λ all. (records_in all ≡ records) × (all.refusal ≡ None) × (all.skipped ≡ skipped))
+
+-- the same of records that are kept until they are joined
+pub record GathersToldSoFar (at_first now : Option Records) (told : ToldRecords) : Type 0 where
+  pub records : List Record
+  pub kept : HasTold records told
+  pub known : IfSome at_first (λ all. (rest : Records) × (now ≡ Some rest) × (records_in all ≡ records ++ records_in rest) × (all.refusal ≡ rest.refusal) × (all.skipped ≡ rest.skipped))
+
+pub record GathersTold (at_first : Option Records) (skipped : ℕ) (told : ToldRecords) : Type 0 where
+  pub records : List Record
+  pub kept : HasTold records told
+  pub known : IfSome at_first (λ all. (records_in all ≡ records) × (all.refusal ≡ None) × (all.skipped ≡ skipped))
+
+-- these records are collected, of all types
+pub record CollectsAll (rs : List Record) (made : Collected × AreaRecords) : Type 0 where
+  pub kept : Collects rs made.0
+  pub areas : KeepsAreas rs made.1
 
 -- why not all records come
 abbrev pub StopsGathering : Option Records → MapStop → Type 0
