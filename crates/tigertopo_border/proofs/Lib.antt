@@ -3,5 +3,7 @@ pub mod PrintLemmas
 pub mod CountLemmas
 pub mod FieldLemmas
 pub mod ReadLemmas
+pub mod PairLemmas
+pub mod BlockLemmas
 pub mod RecordLemmas
 pub mod TextLemmas
