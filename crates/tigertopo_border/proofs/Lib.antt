@@ -5,5 +5,6 @@ pub mod FieldLemmas
 pub mod ReadLemmas
 pub mod PairLemmas
 pub mod BlockLemmas
+pub mod WholeLemmas
 pub mod RecordLemmas
 pub mod TextLemmas
