@@ -6,5 +6,6 @@ pub mod ReadLemmas
 pub mod PairLemmas
 pub mod BlockLemmas
 pub mod WholeLemmas
+pub mod FilterLemmas
 pub mod RecordLemmas
 pub mod TextLemmas

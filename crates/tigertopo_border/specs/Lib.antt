@@ -3,3 +3,4 @@ pub mod Blank
 pub mod Spelling
 pub mod Spellable
 pub mod Border
+pub mod Readable
