@@ -9,7 +9,7 @@ use Rattle.tl_map_county.specs.Chains.{tlids}
 use Rattle.tl_map_county.specs.TheMap.{MapChain}
 use Rattle.tl_map_rules.specs.MapOf.{without_sides}
 use Rattle.tl_map_rules.proofs.KnownLemmas.{far}
-use Rattle.tigertopo_border.specs.Blank.{has_blank}
+use Rattle.tl_check_parts.specs.Borders.{has_blank}
 use Rattle.tigertopo_border.specs.Border.{records_of_chain, segments_of}
 use Rattle.tigertopo_border.proofs.BlockLemmas.{block}
 use Rattle.tigertopo_border.proofs.WholeLemmas.{AreLater, Rise}

@@ -7,5 +7,8 @@ pub mod PairLemmas
 pub mod BlockLemmas
 pub mod WholeLemmas
 pub mod FilterLemmas
+pub mod FaultLemmas
+pub mod FaultlessLemmas
+pub mod DrawnLemmas
 pub mod RecordLemmas
 pub mod TextLemmas

@@ -128,7 +128,7 @@ module _ (name : List ℕ) (cs : List MapChain) (polygons : List Polygon) where
   rs : List Record
   rs = all_of name cs polygons
 
-  without : (p : Record → Bool) → ((k : PolyKey) (point : Point) → p (PolyPoint k point) ≡ false) → count_by p (all_of name cs polygons) ≡ count_by p (flat_map (block name) cs)
+  pub without : (p : Record → Bool) → ((k : PolyKey) (point : Point) → p (PolyPoint k point) ≡ false) → count_by p (all_of name cs polygons) ≡ count_by p (flat_map (block name) cs)
   without p not = omega (arith, count_both p (flat_map (block name) cs) (polygon_records name polygons), none_of_polygon p name polygons not)
 
   module _ (t : ℕ) where

@@ -1,5 +1,4 @@
 -- What the contracts of borders cite.
-pub mod Blank
 pub mod Spelling
 pub mod Spellable
 pub mod Border
