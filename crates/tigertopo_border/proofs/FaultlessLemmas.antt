@@ -43,8 +43,15 @@ sum_block f name c shapes last =
     let first = Chain c.tlid (start_of c.points) (end_of c.points) in
     let side = Sides c.tlid None None (side_key name c.left) (side_key name c.right) in
     let nil : sum_by f [] ≡ 0 = refl in
-    omega (arith, sum_by-append f (first ∷ shapes_below c.tlid (inner c.points) (shape_count c.points)) (side ∷ []), sum_by-cons f first (shapes_below c.tlid (inner c.points) (shape_count c.points)),
-    sum_by-cons f side [], sum_one f c.tlid (inner c.points) (shape_count c.points) shapes, last, nil)
+    omega (
+      arith,
+      sum_by-append f (first ∷ shapes_below c.tlid (inner c.points) (shape_count c.points)) (side ∷ []),
+      sum_by-cons f first (shapes_below c.tlid (inner c.points) (shape_count c.points)),
+      sum_by-cons f side [],
+      sum_one f c.tlid (inner c.points) (shape_count c.points) shapes,
+      last,
+      nil,
+    )
 
 module _ (name : List ℕ) (cs : List MapChain) (polygons : List Polygon) (rise : Rise cs) (tellable : AllByRecursion (IsTellable (length polygons)) cs) where
   -- a TLID of a type 1 record is one of the chains

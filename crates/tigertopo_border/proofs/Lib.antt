@@ -10,5 +10,6 @@ pub mod FilterLemmas
 pub mod FaultLemmas
 pub mod FaultlessLemmas
 pub mod DrawnLemmas
+pub mod LawLemmas
 pub mod RecordLemmas
 pub mod TextLemmas

@@ -95,6 +95,7 @@ split_ends x (y ∷ z ∷ rest) some =
     let l : length (x ∷ y ∷ z ∷ rest) - 1 ≡ suc (length (y ∷ z ∷ rest) - 1) = omega arith in
     let last : get_or (y ∷ z ∷ rest) (length (y ∷ z ∷ rest) - 1) y ≡ get_or (y ∷ z ∷ rest) (length (y ∷ z ∷ rest) - 1) x = inside (y ∷ z ∷ rest) (length (y ∷ z ∷ rest) - 1) y x (omega arith) in
     rw (n, l) (ap (λ ys. y ∷ ys) (more ∙ ap (λ p. take (length (y ∷ z ∷ rest) - 2) (z ∷ rest) ++ p ∷ []) last))
+
 pub points_are : (points : List Point) → 2 ≤ length points → points ≡ start_of points ∷ (inner points ++ end_of points ∷ [])
 points_are [] several = absurd (omega arith)
 points_are (x ∷ rest) several =

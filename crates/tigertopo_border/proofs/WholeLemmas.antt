@@ -99,8 +99,13 @@ module _ (name : List ℕ) (p : Record → Bool) (t : ℕ) (misses : (c : MapCha
       let split : flat_map (block name) cs ≡ flat_map (block name) found.before ++ (block name found.chain ++ flat_map (block name) found.behind) =
       ap (flat_map (block name)) found.is ∙ flat_map-append (block name) found.before (found.chain ∷ found.behind) in
       ap (count_by p) split
-      ∙ omega (arith, count_both p (flat_map (block name) found.before) (block name found.chain ++ flat_map (block name) found.behind),
-      count_both p (block name found.chain) (flat_map (block name) found.behind), count_none found.before found.none_before, count_none found.behind found.none_behind)
+      ∙ omega (
+        arith,
+        count_both p (flat_map (block name) found.before) (block name found.chain ++ flat_map (block name) found.behind),
+        count_both p (block name found.chain) (flat_map (block name) found.behind),
+        count_none found.before found.none_before,
+        count_none found.behind found.none_behind,
+      )
 
 pub contained : (name : List ℕ) (t : ℕ) (cs : List MapChain) (found : IsFound t cs) (r : Record) → Contains (block name found.chain) r → Contains (flat_map (block name) cs) r
 contained name t cs found r has =

@@ -3,3 +3,4 @@ pub mod Spelling
 pub mod Spellable
 pub mod Border
 pub mod Readable
+pub mod Again
