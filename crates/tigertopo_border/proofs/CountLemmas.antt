@@ -9,7 +9,8 @@ use Rattle.tl_geom.specs.declared.point.Point.{Point}
 use Rattle.tl_map_county.specs.declared.sides.Side.{Side}
 use Rattle.tl_map_county.specs.Segments.{segments_before}
 use Rattle.tl_map_county.specs.TheMap.{TheMap, MapChain, IsChain}
-use Rattle.tigertopo_border.specs.Blank.{is_blank, has_blank}
+use Rattle.tl_check_parts.specs.Homes.{is_blank}
+use Rattle.tl_check_parts.specs.Borders.{has_blank}
 use Rattle.tigertopo_border.specs.Border.{segments_of, segments_at}
 
 -- one more of a sum

@@ -10,7 +10,7 @@ use Rattle.tl_map_county.specs.declared.polygons.Polygon.{Polygon}
 use Rattle.tl_map_county.specs.declared.sides.Side.{Side}
 use Rattle.tl_map_county.specs.declared.sides.Side.TheVariants as side
 use Rattle.tl_map_county.specs.TheMap.{TheMap, MapChain}
-use Rattle.tigertopo_border.specs.Blank.{has_blank}
+use Rattle.tl_check_parts.specs.Borders.{has_blank}
 use Rattle.tigertopo_border.specs.Spelling.{records_text}
 
 -- the border's one polygon: its name as CENID, and the POLYID 1

@@ -1,5 +1,6 @@
 -- What the contracts of borders cite.
-pub mod Blank
 pub mod Spelling
 pub mod Spellable
 pub mod Border
+pub mod Readable
+pub mod Again

@@ -3,7 +3,7 @@
 ghost use Rattle.std.specs.Prelude.{◌≡◌, ◌<◌, ◌≤◌, ◌^◌, ◌||◌, length};
 ghost use Rattle.tl_cert_output.specs.Printing.{Prints};
 ghost use Rattle.tl_map_county.specs.Chains.{IsProper};
-ghost use Rattle.tigertopo_border.specs.Blank.{is_blank};
+ghost use Rattle.tl_check_parts.specs.Homes.{is_blank};
 ghost use Rattle.tigertopo_border.specs.Spelling.{records_text};
 ghost use Rattle.tigertopo_border.specs.Border.{border_key, side_key, inner, shapes_below, shape_count, chain_records};
 

@@ -9,6 +9,7 @@ mod border;
 mod chain;
 mod counts;
 mod fields;
+pub mod laws;
 mod lines;
 mod text;
 
