@@ -5,6 +5,7 @@ mod Faced
 mod Told
 mod OfMap
 mod Gathering
+mod Taking
 mod Assembling
 pub mod Listed
 mod OneOrder

@@ -1,6 +1,10 @@
 -- Records that come, joined where that is asked.
-use Rattle.std.proofs.Common.{◌≡◌, ℕ, Bool, true, false, List, Option, Some, None, refl, sym, ap, ◌∙◌}
-use Rattle.std.specs.Prelude.{IfSome}
+use Rattle.std.proofs.Common.{◌≡◌, ℕ, ◌+◌, ◌<◌, ◌≤◌, Bool, true, false, List, [], ◌∷◌, ◌++◌, length, take, get_or, Option, Some, None, refl, sym, ap, ◌∙◌, add-one}
+use Rattle.std.proofs.Math.Seq.{take-suc}
+use Rattle.std.proofs.lemmas.List.{take_all}
+use Rattle.tl_map.specs.Keeping.Areas.{KeepsAreas}
+use Rattle.tl_map.specs.Keeping.Collected.{Collects}
+use Rattle.std.specs.Prelude.{IfSome, IfOk, IfErr, Result, Ok, Err}
 use Rattle.std.specs.Option.{option_map}
 use Rattle.tl_record.specs.declared.record.Record.{Record}
 use Rattle.tl_record.specs.declared.options.Options.{Options}
@@ -11,7 +15,11 @@ use Rattle.tl_map_rules.specs.declared.fault.MapStop.TheVariants.{Refused, Devic
 use Rattle.tl_map_rules.specs.Reading.{records_in}
 use Rattle.tl_map_join.specs.Told.{joined_records}
 use Rattle.tl_map_join.proofs.JoinLemmas.{records_joined}
-use Rattle.tl_map.specs.Keeping.Gathering.{StopsGathering}
+use Rattle.tl_map.specs.declared.areas.AreaRecords.{AreaRecords}
+use Rattle.tl_map.specs.declared.collect.Collected.{Collected}
+use Rattle.tl_map_join.specs.declared.told.ToldRecords.{ToldRecords}
+use Rattle.tl_map_join.specs.Told.{HasTold}
+use Rattle.tl_map.specs.Keeping.Gathering.{Gathers, GathersAll, GathersTold, CollectsAll, StopsGathering}
 use Rattle.tl_map.proofs.ReadLemmas.{AreAll}
 
 -- what comes of a text, joined, are the text's records
@@ -38,3 +46,47 @@ stops_joined came joins Memory why = tt
 stops_joined None joins (Refused line cause) why = tt
 stops_joined (Some all) joins (Refused line cause) why = why
 stops_joined came joins (Fault fault) why = absurd why
+
+pub stops_by : {T : Type 0} (came : Option Records) (joins : Bool) (r : Result T MapStop) → IfErr r (StopsGathering came) → IfErr r (StopsGathering (option_map (joined_where joins) came))
+stops_by came joins (Ok made) why = tt
+stops_by came joins (Err stop) why = stops_joined came joins stop why
+
+-- what is collected of records that aren't joined
+pub chains_plain : (came : Option Records) (skipped : ℕ) (joins : Bool) (r : Result Collected MapStop) → joins ≡ false → IfOk r (Gathers came skipped)
+    → IfOk r (Gathers (option_map (joined_where joins) came) skipped)
+chains_plain came skipped joins (Ok c) plain all = record { records = all.records; kept = all.kept; known = all_plain came skipped all.records joins plain all.known }
+chains_plain came skipped joins (Err stop) plain all = tt
+
+pub areas_plain : (came : Option Records) (skipped : ℕ) (joins : Bool) (r : Result (Collected × AreaRecords) MapStop) → joins ≡ false
+    → IfOk r (λ made. GathersAll came skipped made.0 made.1) → IfOk r (λ made. GathersAll (option_map (joined_where joins) came) skipped made.0 made.1)
+areas_plain came skipped joins (Ok made) plain all = record {
+  records = all.records;
+  kept = all.kept;
+  areas = all.areas;
+  known = all_plain came skipped all.records joins plain all.known;
+}
+areas_plain came skipped joins (Err stop) plain all = tt
+
+-- and of records that are
+pub told_joined : (came : Option Records) (skipped : ℕ) (joins : Bool) (told : ToldRecords) (made : Collected × AreaRecords) → joins ≡ true → GathersTold came skipped told
+    → ((rs : List Record) → HasTold rs told → CollectsAll (joined_records rs) made) → GathersAll (option_map (joined_where joins) came) skipped made.0 made.1
+told_joined came skipped joins told made join all collects =
+    let are = collects all.records all.kept in
+    record { records = joined_records all.records; kept = are.kept; areas = are.areas; known = all_joined came skipped all.records joins join all.known }
+
+-- the chains alone
+pub chains_of_all : (came : Option Records) (skipped : ℕ) (c : Collected) (a : AreaRecords) → GathersAll came skipped c a → Gathers came skipped c
+chains_of_all came skipped c a all = record { records = all.records; kept = all.kept; known = all.known }
+
+-- one more is collected
+pub collects_next : (items : List Record) (i : ℕ) (d : Record) (c e : Collected) (a b : AreaRecords) → i < length items
+    → ((rs : List Record) → Collects rs c → Collects (rs ++ get_or items i d ∷ []) e) → ((rs : List Record) → KeepsAreas rs a → KeepsAreas (rs ++ get_or items i d ∷ []) b)
+    → CollectsAll (take i items) (c, a) → CollectsAll (take (i + 1) items) (e, b)
+collects_next items i d c e a b within chains areas all = rw (add-one, take-suc items i d within) (record {
+  kept = chains (take i items) all.kept;
+  areas = areas (take i items) all.areas;
+})
+
+-- and all are
+pub collects_whole : (items joined : List Record) (i : ℕ) (made : Collected × AreaRecords) → items ≡ joined → length items ≤ i → CollectsAll (take i items) made → CollectsAll joined made
+collects_whole items joined i made same past all = rw (← same) (rw (take_all i items past) at all)

@@ -98,10 +98,7 @@ fn collect_told<R: Source>(
 }
 
 /// Collects kept records with each chain that is told twice once.
-fn collect_joined(
-    alloc: Global,
-    told: ToldRecords,
-) -> Result<(Collected, AreaRecords), AllocError>
+fn collect_joined(alloc: Global, told: ToldRecords) -> Result<(Collected, AreaRecords), AllocError>
     // It has kept some records.
     requires { (rs : List Record) × HasTold rs told }
     ensures { (rs : List Record) → HasTold rs told → IfOk result (CollectsAll (joined_records rs)) }

@@ -84,9 +84,9 @@ some_apart rs (Chain v from to) t u some = absurd (let wrong : None ≡ Some u =
 some_apart rs (Shape v n pairs) t u some = elim (cases_Bool (are_two_that_fit (filter (tells_shape_at v n) rs))) [
   | inl fit ↦ absurd (let wrong : None ≡ Some u = rw fit at some in cc)
   | inr apart ↦
-    let found : Some v ≡ Some u = rw apart at some in
-    let one : v ≡ u = cc in
-    rw apart (with_it (eqb t v) ∙ ap (eqb t) one)
+      let found : Some v ≡ Some u = rw apart at some in
+      let one : v ≡ u = cc in
+      rw apart (with_it (eqb t v) ∙ ap (eqb t) one)
 ]
   where
     with_it : (b : Bool) → (b && true) ≡ b
@@ -111,8 +111,8 @@ same_number : (t u : ℕ) → is_eq (nat_cmp u t) ≡ eqb t u
 same_number t u = elim (cases_Bool (is_eq (nat_cmp u t))) [
   | inl same ↦ same ∙ sym (eq-eqb t u (sym (exact_unsigned u t (equal (nat_cmp u t) same))))
   | inr other ↦ other ∙ sym (false_from_ne_true (eqb t u) (λ holds.
-    let one = eqb-true t u holds in
-    true≢false (sym (own_number u) ∙ ap (λ (n : ℕ). is_eq (nat_cmp u n)) (sym one) ∙ other)))
+      let one = eqb-true t u holds in
+      true≢false (sym (own_number u) ∙ ap (λ (n : ℕ). is_eq (nat_cmp u n)) (sym one) ∙ other)))
 ]
 
 set_or : (a b : Bool) → cond b true a ≡ (a || b)

@@ -93,12 +93,12 @@ pub second_stays : (rs : List Record) (r d : Record) (p : Place) (f at : ℕ) �
     → StandsTwice rs p f at → Some (one_of_two (get_or rs f d) r) ≡ joined_one rs r (drop (at + 1) rs)
 second_stays rs r d p f at key twice here passes two = elim (behind_two rs p f at at r two here passes) [
   | second same none ↦
-    let a = get_or_from_slice_get rs f two.told d two.here in
-    let again : Some two.again ≡ Some r = sym two.there ∙ here in
-    let b : two.again ≡ r = cc in
-    let all : filter (tells_same r) rs ≡ two.told ∷ r ∷ [] = sym (same_filter _ _ (same_at r p key) rs) ∙ two.both ∙ ap (λ (x : Record). two.told ∷ x ∷ []) b in
-    let gone = both_told rs r (drop (suc at) rs) false (of_key rs r p key ∙ twice) (any_by r p key _ false none) in
-    rw (add-one, a) (sym (gone ∙ rw all refl))
+      let a = get_or_from_slice_get rs f two.told d two.here in
+      let again : Some two.again ≡ Some r = sym two.there ∙ here in
+      let b : two.again ≡ r = cc in
+      let all : filter (tells_same r) rs ≡ two.told ∷ r ∷ [] = sym (same_filter _ _ (same_at r p key) rs) ∙ two.both ∙ ap (λ (x : Record). two.told ∷ x ∷ []) b in
+      let gone = both_told rs r (drop (suc at) rs) false (of_key rs r p key ∙ twice) (any_by r p key _ false none) in
+      rw (add-one, a) (sym (gone ∙ rw all refl))
   | first other some ↦ absurd (other refl)
 ]
 
@@ -107,8 +107,8 @@ pub first_goes : (rs : List Record) (r : Record) (p : Place) (f s at : ℕ) → 
 first_goes rs r p f s at key twice here passes two other = elim (behind_two rs p f s at r two here passes) [
   | second same none ↦ absurd (other (sym same))
   | first not_it some ↦
-    let gone = both_told rs r (drop (suc at) rs) true (of_key rs r p key ∙ twice) (any_by r p key _ true some) in
-    rw add-one (sym gone)
+      let gone = both_told rs r (drop (suc at) rs) true (of_key rs r p key ∙ twice) (any_by r p key _ true some) in
+      rw add-one (sym gone)
 ]
 
 -- a record of a chain that is told twice is one of two that fit

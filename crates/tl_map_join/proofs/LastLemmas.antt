@@ -81,8 +81,8 @@ two_last p (y ∷ xs) zero (suc s) (suc i) a b d before two here holds there too
     second (ap suc last.0) last.1
 two_last p (y ∷ xs) (suc f) (suc s) (suc i) a b d before two here holds there too it passes = elim (cases_Bool (p y)) [
   | inl at ↦
-    let last = one_last p xs b s i b d (taken p y a xs (b ∷ []) at two) there too it passes in
-    second (ap suc last.0) last.1
+      let last = one_last p xs b s i b d (taken p y a xs (b ∷ []) at two) there too it passes in
+      second (ap suc last.0) last.1
   | inr fails ↦ elim (two_last p xs f s i a b d (omega arith) (passed_over p y xs (a ∷ b ∷ []) fails two) here holds there too it passes) [
     | second same none ↦ second (ap suc same) none
     | first other some ↦ first (λ same. other (omega arith)) some

@@ -100,20 +100,20 @@ all_same rs r m none all = λ p. twins_same rs r p _ (at_none r p none) (all p)
 pub all_more : (rs : List Record) (r : Record) (k : Place) (m n : BTreeMap Place Twins) (w : Twins) → place_of r ≡ Some k → w ≡ one_more (get place_cmp m k) (length rs)
     → Updates place_cmp m n k (Some w) → AreAllTwins rs m → AreAllTwins (rs ++ r ∷ []) n
 all_more rs r k m n w key is updates all = λ p. elim (cases_Bool (is_eq (place_cmp k p))) [
-    | inl same ↦
+  | inl same ↦
       let one : k ≡ p = one_key k p same in
       let now : get place_cmp n p ≡ Some (one_more (get place_cmp m p) (length rs)) =
       updates.0 p ∙ rw same (ap (λ (t : Twins). Some t) is ∙ ap (λ (q : Place). Some (one_more (get place_cmp m q) (length rs))) one) in
       rw now (twins_more rs r p _ (at_own r p (key ∙ ap (λ (q : Place). Some q) one)) (all p))
-    | inr other ↦
+  | inr other ↦
       let now : get place_cmp n p ≡ get place_cmp m p = updates.2 p other in
       let away : is_at p r ≡ false = false_from_ne_true (is_at p r) (λ at.
-          let same : Some k ≡ Some p = sym key ∙ key_of p r at in
-          let one : k ≡ p = cc in
-          let wrong : is_eq (place_cmp p p) ≡ false = rw one at other in
-          true≢false (sym (own_key p) ∙ wrong)) in
+      let same : Some k ≡ Some p = sym key ∙ key_of p r at in
+      let one : k ≡ p = cc in
+      let wrong : is_eq (place_cmp p p) ≡ false = rw one at other in
+      true≢false (sym (own_key p) ∙ wrong)) in
       rw now (twins_same rs r p _ away (all p))
-  ]
+]
 
 -- who tells this, where two do, and where no two do
 pub two_or_none : (rs : List Record) (p : Place) (o : Option Twins) (two : Option (ℕ × ℕ)) → AreTwins rs p o → two ≡ two_of o

@@ -7,7 +7,9 @@ use tl_record::Record;
 
 /// The bytes by which lines of the types 1, 2 and I begin.
 pub const ENDS: u8 = 49;
+
 pub const PAIRS: u8 = 50;
+
 pub const SIDES: u8 = 73;
 
 /// What a record tells of a chain: the TLID, the record type, and of type 2 the RTSQ.

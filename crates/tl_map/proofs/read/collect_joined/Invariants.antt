@@ -3,4 +3,4 @@ use Rattle.tl_map.specs.Keeping.Gathering.{CollectsAll}
 use Rattle.tl_map.proofs.read.collect_joined.Given as goal
 
 abbrev pub invariant-loop-next : goal.invariant-loop-next
-invariant-loop-next l = CollectsAll (take l.next-index l.joined.items) (l.collected, l.areas)
+invariant-loop-next l = CollectsAll (take l.next-index l.next-items) (l.collected, l.areas)

@@ -1,0 +1,35 @@
+-- Records as they come, or until they are joined.
+use Rattle.std.proofs.Common.{◌≡◌, Bool, true, false, List, [], ◌∷◌, ◌++◌}
+use Rattle.std.specs.Prelude.{Result, Ok, Err, OnOk, IfOk}
+use Rattle.tl_record.specs.declared.record.Record.{Record}
+use Rattle.tl_map_join.specs.declared.told.ToldRecords.{ToldRecords}
+use Rattle.tl_map_join.specs.Told.{HasTold, joined_records}
+use Rattle.tl_list.specs.declared.reading.BothKept.{BothKept}
+use Rattle.tl_list.specs.declared.reading.Taken.{Taken}
+use Rattle.tl_list.specs.declared.reading.Taken.TheVariants.{Both, Told}
+use Rattle.tl_list.specs.Keeping.Reading.{Keeps, Takes, joined_if}
+
+-- one more record is taken
+pub adds_both : {T E : Type 0} (joins : Bool) (rs : List Record) (r : Record) (old new : BothKept) (result : Result T E)
+    → ((rs : List Record) → Keeps rs old → OnOk result (Keeps (rs ++ r ∷ []) new)) → Takes joins rs (Both old) → OnOk result (Takes joins (rs ++ r ∷ []) (Both new))
+adds_both false rs r old new result adds takes = adds rs takes
+adds_both true rs r old new result adds takes = absurd takes
+
+pub adds_told : {T E : Type 0} (joins : Bool) (rs : List Record) (r : Record) (old new : ToldRecords) (result : Result T E)
+    → ((rs : List Record) → HasTold rs old → OnOk result (HasTold (rs ++ r ∷ []) new)) → Takes joins rs (Told old) → OnOk result (Takes joins (rs ++ r ∷ []) (Told new))
+adds_told false rs r old new result adds takes = absurd takes
+adds_told true rs r old new result adds takes = adds rs takes
+
+-- what was taken is kept
+pub keeps_both : (joins : Bool) (rs : List Record) (both : BothKept) → Takes joins rs (Both both) → Keeps (joined_if joins rs) both
+keeps_both false rs both takes = takes
+keeps_both true rs both takes = absurd takes
+
+pub keeps_told : {E : Type 0} (joins : Bool) (rs : List Record) (told : ToldRecords) (result : Result BothKept E)
+    → ((rs : List Record) → HasTold rs told → IfOk result (Keeps (joined_records rs))) → Takes joins rs (Told told) → IfOk result (Keeps (joined_if joins rs))
+keeps_told false rs told result keeps takes = absurd takes
+keeps_told true rs told result keeps takes = keeps rs takes
+
+pub some_told : (joins : Bool) (rs : List Record) (told : ToldRecords) → Takes joins rs (Told told) → HasTold rs told
+some_told false rs told takes = absurd takes
+some_told true rs told takes = takes
