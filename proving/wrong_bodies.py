@@ -27,23 +27,33 @@ def crates_with_some():
     return sorted(folder.parent.name for folder in TOP.glob("crates/*/wrong-bodies"))
 
 
-def tried(rt, crate):
-    """Tries the edits of a crate in turn over what a check of it as it stands proved, prints what the prover says of each, and gives
-    how many it doesn't refuse."""
+def seeded(rt, crate):
+    """What the prover says of each edit of a crate, tried in turn over what a check of it as it stands proved; None where it isn't proved
+    as it stands."""
     room = rt.seeded(crate, FLAGS)
     if not room:
-        print(f"wrong-bodies {crate.name}: NOT TRIED: the crate isn't proved as it stands", flush=True)
-        return len(edits_of(crate.name))
-    failed = 0
+        return None
+    answers = []
     for edit in edits_of(crate.name):
         over = f"{room}/over"
         rt.linked(f"{room}/seed", over)
         told, text = rt.must_fail(crate, edit, FLAGS, over)
         shutil.rmtree(over, ignore_errors=True)
-        print(text.replace("must-fail ", "wrong-bodies ", 1), flush=True)
-        failed += told not in (rt.REFUSED, rt.AT_LIMIT)
+        answers.append((told in (rt.REFUSED, rt.AT_LIMIT), text))
     shutil.rmtree(room, ignore_errors=True)
-    return failed
+    return answers
+
+
+def tried(rt, crate):
+    """Tries the edits of a crate, prints what the prover says of each, and gives how many it doesn't refuse. Kits differ in what they call
+    that."""
+    answers = seeded(rt, crate) if hasattr(rt, "seeded") else rt.must_fail_all(crate, edits_of(crate.name), FLAGS)
+    if answers is None:
+        print(f"wrong-bodies {crate.name}: NOT TRIED: the crate isn't proved as it stands", flush=True)
+        return len(edits_of(crate.name))
+    for _, text in answers:
+        print(text.replace("must-fail ", "wrong-bodies ", 1), flush=True)
+    return sum(not is_refused for is_refused, _ in answers)
 
 
 def main():
