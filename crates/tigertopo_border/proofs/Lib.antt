@@ -11,6 +11,7 @@ pub mod FaultLemmas
 pub mod FaultlessLemmas
 pub mod ColumnLemmas
 pub mod MapLemmas
+pub mod ReadableLemmas
 pub mod DrawnLemmas
 pub mod LawLemmas
 pub mod RecordLemmas

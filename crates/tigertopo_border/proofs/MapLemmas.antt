@@ -46,11 +46,11 @@ fits_at [] k r all lt at = absurd (omega (arith, lt))
 fits_at (x ∷ rs) zero r all lt at = subst Fits at all.0
 fits_at (x ∷ rs) (suc k) r all lt at = fits_at rs k r all.1 (omega (arith, lt)) at
 
-fits_there : (rs : List Record) (r : Record) → AllByRecursion Fits rs → Contains rs r → Fits r
+pub fits_there : (rs : List Record) (r : Record) → AllByRecursion Fits rs → Contains rs r → Fits r
 fits_there rs r all has = fits_at rs has.0 r all has.1 has.2
 
 -- a record that is counted stands there
-shape_counted : (rs : List Record) (t n : ℕ) → AllByRecursion Fits rs → 1 ≤ count_by (is_shape_at t n) rs → n < 1000
+pub shape_counted : (rs : List Record) (t n : ℕ) → AllByRecursion Fits rs → 1 ≤ count_by (is_shape_at t n) rs → n < 1000
 shape_counted [] t n all some = absurd (omega (arith, some))
 shape_counted (Chain u from to ∷ rs) t n all some = shape_counted rs t n all.1 (omega (arith, some, count_cons (is_shape_at t n) (Chain u from to) rs))
 shape_counted (Shape u k pairs ∷ rs) t n all some = elim (cases_Bool ((u == t) && (k == n))) [
@@ -83,7 +83,7 @@ pairs_both : (xs ys : List (Option Point)) → ArePairs xs → ArePairs ys → A
 pairs_both [] ys a b = b
 pairs_both (x ∷ xs) ys a b = (a.0, pairs_both xs ys a.1 b)
 
-up_to : (rs : List Record) (t n : ℕ) → AllByRecursion Fits rs → (length (pairs_up_to rs t n) ≤ 10 * n) × ArePairs (pairs_up_to rs t n)
+pub up_to : (rs : List Record) (t n : ℕ) → AllByRecursion Fits rs → (length (pairs_up_to rs t n) ≤ 10 * n) × ArePairs (pairs_up_to rs t n)
 up_to rs t zero all = (omega arith, tt)
 up_to rs t (suc n) all =
     let before = up_to rs t n all in
@@ -93,7 +93,7 @@ up_to rs t (suc n) all =
     (omega (arith, a, b, length-append (pairs_up_to rs t n) (pairs_at rs t (suc n))), pairs_both (pairs_up_to rs t n) (pairs_at rs t (suc n)) before.1 here.1)
 
 -- the used ones
-used_fine : (pairs : List (Option Point)) → ArePairs pairs → (length (used pairs) ≤ length pairs) × AllByRecursion (λ p. IsPair (Some p)) (used pairs)
+pub used_fine : (pairs : List (Option Point)) → ArePairs pairs → (length (used pairs) ≤ length pairs) × AllByRecursion (λ p. IsPair (Some p)) (used pairs)
 used_fine [] fine = (omega arith, tt)
 used_fine (None ∷ pairs) fine = let rest = used_fine pairs fine.1 in let few = rest.0 in (omega (arith, few), rest.1)
 used_fine (Some p ∷ pairs) fine = let rest = used_fine pairs fine.1 in let few = rest.0 in (omega (arith, few), (fine.0, rest.1))
@@ -111,9 +111,6 @@ after_few p (q ∷ qs) = elim (cases_Bool (same_point q p)) [
 last_of : Point → List Point → Point
 last_of p [] = p
 last_of p (q ∷ qs) = last_of q qs
-
-abbrev last_is : (p : Point) (qs : List Point) → Type 0
-last_is p qs = (to : Point) → last_of p (dedup_after p (qs ++ to ∷ [])) ≡ to
 
 ends_in : (p : Point) (us : List Point) (to : Point) → last_of p (dedup_after p (us ++ to ∷ [])) ≡ to
 unfolding last_of
@@ -147,9 +144,6 @@ but_last P p (q ∷ us) to all = elim (cases_Bool (same_point q p)) [
     longer (r ∷ rest) fine = let e : length (q ∷ r ∷ rest) - 1 ≡ suc (length (r ∷ rest) - 1) = omega arith in rw e (all.0, fine)
 
 module _ (from to : Point) (us : List Point) where
-  again : List Point
-  again = dedup same_point (from ∷ (us ++ to ∷ []))
-
   pub drawn_is : dedup same_point (from ∷ (us ++ to ∷ [])) ≡ from ∷ dedup_after from (us ++ to ∷ [])
   drawn_is = dedup_from-is from (us ++ to ∷ [])
 
