@@ -22,7 +22,7 @@ HELP = ("--help", "-h")
 
 def wants_more(words):
     """Whether a command line asks for what the program lacks."""
-    return words[:1] in (["export"], ["draw"]) or any(word.partition("=")[0] in MORE for word in words)
+    return words[:1] in (["export"], ["draw"], ["border"]) or any(word.partition("=")[0] in MORE for word in words)
 
 
 def lacks(program, row, words):

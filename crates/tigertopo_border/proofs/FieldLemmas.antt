@@ -21,7 +21,7 @@ both_parts false b h = absurd (cc h)
 
 -- ---- digits
 
-own : IsNumeralModel (λ ds. list_all is_ascii_digit ds ≡ true) value_of
+pub own : IsNumeralModel (λ ds. list_all is_ascii_digit ds ≡ true) value_of
 own = numerals_by_weight _ (search rules) value_of (search rules)
 
 pub all_digits : (n : ℕ) → n < 2 ^ 64 → list_all is_ascii_digit (decimal n) ≡ true

@@ -9,6 +9,9 @@ pub mod WholeLemmas
 pub mod FilterLemmas
 pub mod FaultLemmas
 pub mod FaultlessLemmas
+pub mod ColumnLemmas
+pub mod MapLemmas
+pub mod ReadableLemmas
 pub mod DrawnLemmas
 pub mod LawLemmas
 pub mod RecordLemmas
