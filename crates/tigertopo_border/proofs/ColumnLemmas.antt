@@ -32,7 +32,7 @@ use Rattle.tl_record.specs.Lines.{raw_lines, content}
 use Rattle.tl_record.specs.Fields.{blank, is_blank, width_of, field, without_leading_blanks, without_trailing_blanks, trimmed, digits_spell, unsigned_spells, number_spelt, coordinate_spelt, decimal as value_of}
 use Rattle.tl_record.specs.Outcome.{◌>>=◌}
 use Rattle.tl_record.specs.Judgement.{required, in_range, coordinate, point, point_at, optional_point, optional_point_at, is_blank_field, unless_zero, shape_pairs, cells_at, side_at, key_at, number_at, sequence_number, chain_record, shape_record, sides_record, poly_point_record, landmark_record, area_link_record, judged, landmarks_judgement, content_judgement, judgement}
-use Rattle.tl_record.specs.Records.{Records, records_of, records_judged, judgements, accepted, is_refused, entry_of}
+use Rattle.tl_record.specs.Records.{Records, lines_read, records_judged, judgements, accepted, is_refused, entry_of}
 use Rattle.tigertopo_border.specs.Spellable.{IsPlaced, IsPair, ArePairs}
 use Rattle.tigertopo_border.proofs.FieldLemmas.{own}
 
@@ -280,5 +280,5 @@ entries_fit ((n, Read r) ∷ js) all = rw (accepted_first (n, Read r) js) (all.0
 entries_fit ((n, Refused cause) ∷ js) all =
     subst (λ (front : List (ℕ × Judgement)). AllByRecursion Fits (map (λ entry. entry.1) (filter_map entry_of front))) (sym (accepted_first (n, Refused cause) js)) tt
 
-pub records_fit : (options : Options) (text : List ℕ) → AllByRecursion Fits (map (λ entry. entry.1) (records_of (layout_with options) text).entries)
-records_fit options text = entries_fit (judgements (layout_with options) 0 (raw_lines text)) (judgements_fit options 1 (raw_lines text))
+pub lines_fit : (options : Options) (text : List ℕ) → AllByRecursion Fits (map (λ entry. entry.1) (lines_read (layout_with options) text).entries)
+lines_fit options text = entries_fit (judgements (layout_with options) 0 (raw_lines text)) (judgements_fit options 1 (raw_lines text))

@@ -10,6 +10,7 @@ pub mod FilterLemmas
 pub mod FaultLemmas
 pub mod FaultlessLemmas
 pub mod ColumnLemmas
+pub mod JoinedLemmas
 pub mod MapLemmas
 pub mod ReadableLemmas
 pub mod DrawnLemmas

@@ -36,7 +36,8 @@ use Rattle.tl_map.proofs.ProperLemmas.{proper_dedup}
 use Rattle.tigertopo_border.specs.Border.{inner, start_of, end_of, origin}
 use Rattle.tigertopo_border.specs.Spellable.{IsPlaced, IsPair, ArePairs}
 use Rattle.tigertopo_border.specs.Readable.{IsTellable, IsReadable}
-use Rattle.tigertopo_border.proofs.ColumnLemmas.{Fits, records_fit}
+use Rattle.tigertopo_border.proofs.ColumnLemmas.{Fits}
+use Rattle.tigertopo_border.proofs.JoinedLemmas.{records_fit}
 use Rattle.tigertopo_border.proofs.BlockLemmas.{count_cons}
 
 -- ---- what holds of each record

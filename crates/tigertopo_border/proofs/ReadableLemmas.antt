@@ -36,7 +36,8 @@ use Rattle.tigertopo_border.specs.Readable.{IsTellable, IsReadable}
 use Rattle.tigertopo_border.proofs.BlockLemmas.{count_cons}
 use Rattle.tigertopo_border.proofs.WholeLemmas.{AreLater, Rise, counted}
 use Rattle.tigertopo_border.proofs.FilterLemmas.{rise_from}
-use Rattle.tigertopo_border.proofs.ColumnLemmas.{Fits, records_fit}
+use Rattle.tigertopo_border.proofs.ColumnLemmas.{Fits}
+use Rattle.tigertopo_border.proofs.JoinedLemmas.{records_fit}
 use Rattle.tigertopo_border.proofs.MapLemmas.{fits_there, shape_counted, up_to, used_fine, drawn_few, drawn_start, drawn_end, drawn_inner}
 
 -- ---- polygons
