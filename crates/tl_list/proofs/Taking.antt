@@ -1,12 +1,11 @@
 -- Records as they come, or until they are joined.
-use Rattle.std.proofs.Common.{◌≡◌, ℕ, ◌+◌, ◌<◌, Bool, true, false, List, [], ◌∷◌, ◌++◌, length, take, get_or, add-one}
+use Rattle.std.proofs.Common.{ℕ, ◌+◌, ◌<◌, Bool, true, false, List, [], ◌∷◌, ◌++◌, length, take, get_or, add-one}
 use Rattle.std.proofs.Math.Seq.{take-suc}
-use Rattle.std.specs.Prelude.{Result, Ok, Err, OnOk, IfOk}
+use Rattle.std.specs.Prelude.{Result, OnOk, IfOk}
 use Rattle.tl_record.specs.declared.record.Record.{Record}
 use Rattle.tl_map_join.specs.declared.told.ToldRecords.{ToldRecords}
 use Rattle.tl_map_join.specs.Told.{HasTold, joined_records}
 use Rattle.tl_list.specs.declared.reading.BothKept.{BothKept}
-use Rattle.tl_list.specs.declared.reading.Taken.{Taken}
 use Rattle.tl_list.specs.declared.reading.Taken.TheVariants.{Both, Told}
 use Rattle.tl_list.specs.Keeping.Reading.{Keeps, Takes, joined_if}
 
