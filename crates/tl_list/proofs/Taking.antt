@@ -1,11 +1,11 @@
 -- Records as they come, or until they are joined.
-use Rattle.std.proofs.Common.{◌≡◌, Bool, true, false, List, [], ◌∷◌, ◌++◌}
-use Rattle.std.specs.Prelude.{Result, Ok, Err, OnOk, IfOk}
+use Rattle.std.proofs.Common.{ℕ, ◌+◌, ◌<◌, Bool, true, false, List, [], ◌∷◌, ◌++◌, length, take, get_or, add-one}
+use Rattle.std.proofs.Math.Seq.{take-suc}
+use Rattle.std.specs.Prelude.{Result, OnOk, IfOk}
 use Rattle.tl_record.specs.declared.record.Record.{Record}
 use Rattle.tl_map_join.specs.declared.told.ToldRecords.{ToldRecords}
 use Rattle.tl_map_join.specs.Told.{HasTold, joined_records}
 use Rattle.tl_list.specs.declared.reading.BothKept.{BothKept}
-use Rattle.tl_list.specs.declared.reading.Taken.{Taken}
 use Rattle.tl_list.specs.declared.reading.Taken.TheVariants.{Both, Told}
 use Rattle.tl_list.specs.Keeping.Reading.{Keeps, Takes, joined_if}
 
@@ -33,3 +33,8 @@ keeps_told true rs told result keeps takes = keeps rs takes
 pub some_told : (joins : Bool) (rs : List Record) (told : ToldRecords) → Takes joins rs (Told told) → HasTold rs told
 some_told false rs told takes = absurd takes
 some_told true rs told takes = takes
+
+-- one more record is kept
+pub keeps_next : (items : List Record) (i : ℕ) (d : Record) (a b : BothKept) → i < length items → ((rs : List Record) → Keeps rs a → Keeps (rs ++ get_or items i d ∷ []) b)
+    → Keeps (take i items) a → Keeps (take (i + 1) items) b
+keeps_next items i d a b within adds keeps = rw (add-one, take-suc items i d within) (adds (take i items) keeps)

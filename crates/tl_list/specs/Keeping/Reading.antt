@@ -5,7 +5,6 @@ use Rattle.tl_record.specs.declared.stop.Cause.{Cause}
 use Rattle.tl_record.specs.declared.reader.RecordReader.{RecordReader}
 use Rattle.std.specs.Option.{option_map}
 use Rattle.tl_record.specs.Records.{Records, joined_where}
-use Rattle.tl_map_join.specs.declared.told.ToldRecords.{ToldRecords}
 use Rattle.tl_map_join.specs.Told.{HasTold, joined_records}
 use Rattle.tl_record.specs.Reader.{skipped_of, standing_of, outcome, refusals_to_come, KeepsRefusals}
 use Rattle.tl_record.specs.Searching.{goes_on}
