@@ -170,7 +170,7 @@ def standing(words):
     """What stands under the name of what these words make, before."""
     if "--geojson" in words:
         return COLLECTION_STANDS
-    return {"draw": PICTURE_STANDS, "border": BORDER_STANDS}.get(words[0], STANDS)
+    return {"draw": PICTURE_STANDS, "border": BORDER_STANDS}.get("".join(words[:1]), STANDS)
 
 
 def answer_over_a_file(words, library, which, asked, folder):
