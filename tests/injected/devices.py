@@ -60,6 +60,8 @@ RUNS = [
     ["build", "--faces", "--out", MADE, EXAMPLES / "faults" / "G7"],
     ["export", "--geojson", MADE, EXAMPLES / "county"],
     ["draw", "--out", MADE, "--faults", EXAMPLES / "faults" / "town"],
+    ["border", "--name", "B", "--out", MADE, EXAMPLES / "county"],
+    ["border", "--name", "B", "--out", MADE, EXAMPLES / "faults" / "G7"],
     ["convert", EXAMPLES / "square.CERT", MADE],
     ["check", "--cert", EXAMPLES / "county.CERT", EXAMPLES / "county"],
     ["check", "--faces", "--cert", EXAMPLES / "county.CERT", EXAMPLES / "county"],

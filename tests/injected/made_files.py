@@ -153,7 +153,7 @@ class Play:
     # The commands that make a file of records, up to its name.
     MAKING = (
         *(["build", "--out"], ["export", "--geojson"], ["audit", "--geojson"], ["audit", "--all", "--geojson"]),
-        *(["draw", "--out"], ["draw", "--faults", "--out"]),
+        *(["draw", "--out"], ["draw", "--faults", "--out"], ["border", "--name", "B", "--out"]),
     )
 
     def inputs(self):

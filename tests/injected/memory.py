@@ -27,6 +27,7 @@ STANDS = b"TIGERCERT 2\na file that stands\n"
 # And of what isn't a certificate: of GeoJSON, and of a picture.
 COLLECTION_STANDS = b'{"type":"FeatureCollection","name":"tigertopo"\n'
 PICTURE_STANDS = b'<svg xmlns="http://www.w3.org/2000/svg" class="tigertopo"\n'
+BORDER_STANDS = b"10000 an old one\n"
 # What is said of words that are no use of a command, where memory was refused for a text that says why.
 NO_USE = (64, b"", b"error: the words are no use of a command\n")
 # What is asked beside what is asked of the small maps.
@@ -86,6 +87,9 @@ RUNS = [
     ["draw", "--out", MADE, "--faults", EXAMPLES / "faults" / "town"],
     ["draw", "--out", MADE, "--at", "@40,30", "--width", "20", EXAMPLES / "county"],
     ["export", "--geojson", MADE, EXAMPLES / "faults" / "L2"],
+    ["border", "--name", "B", "--out", MADE, EXAMPLES / "county"],
+    ["border", "--name", "B", "--out", MADE, EXAMPLES / "faults" / "G7"],
+    ["border", "--name", "240011", "--out", MADE, EXAMPLES / "county"],
     ["draw", "--out", MADE, "--faults", EXAMPLES / "faults" / "M9"],
     ["convert", EXAMPLES / "square.CERT", MADE],
     ["check", "--cert", EXAMPLES / "county.CERT", EXAMPLES / "county"],
@@ -166,7 +170,7 @@ def standing(words):
     """What stands under the name of what these words make, before."""
     if "--geojson" in words:
         return COLLECTION_STANDS
-    return PICTURE_STANDS if words[:1] == ["draw"] else STANDS
+    return {"draw": PICTURE_STANDS, "border": BORDER_STANDS}.get("".join(words[:1]), STANDS)
 
 
 def answer_over_a_file(words, library, which, asked, folder):

@@ -35,6 +35,7 @@ def write_all(folder):
             ["build", "--out", MADE, *records],
             ["export", "--geojson", MADE, *records],
             ["draw", "--out", MADE, "--faults", *records],
+            ["border", "--name", "B", "--out", MADE, *records],
             ["check", "--cert", certificate, *records],
             ["convert", certificate, MADE],
         ]
