@@ -10,7 +10,7 @@ use Rattle.tl_map_county.specs.TheMap.{TheMap}
 use Rattle.tl_check_verdict.specs.declared.fault.MapFault.{MapFault as TheMapFault}
 use Rattle.tl_check_verdict.specs.declared.verdict.Verdict.TheVariants.{MapFault}
 use Rattle.tl_check_verdict.specs.Truth.{IsTrueOfMap}
-use Rattle.tl_check.proofs.Recorded.{map_fault}
+use Rattle.tl_check_verdict.proofs.Recording.{true_of_records}
 use Rattle.tl_check_verdict.proofs.Deciding.{not_sound_records}
 use Rattle.tigertopo_files.specs.Files.{Under}
 use Rattle.tigertopo_files.specs.Log.{Log}
@@ -72,7 +72,7 @@ module _ (u v after : Under) (l m q : Log) (k : Bool) (names : List (List ℕ)) 
       subst (IsSaid (BorderAnswers (record { before = u; after = after; log = l; logged = q; knows = k }) options known wanted)) (sym is) (
         inr (record {
           fault = fault;
-          holds = map_fault (records_of (layout_with options)) known map first.answered options.faces (Ok (MapFault fault)) true;
+          holds = IfSome_then known first.answered (λ text read. true_of_records options.faces (records_of (layout_with options) text) map fault read true);
           unmade = unmade_from u v after m q k (Some wanted.name) first.keeps unmade l;
           is = refl;
           line = refl;
