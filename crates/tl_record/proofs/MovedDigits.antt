@@ -345,8 +345,8 @@ first_leads bytes word count others of some few bits none =
 no_top : (word sum top : ℕ) → bit_and (bit_or sum word) top ≡ 0 → bit_and top word ≡ 0
 no_top word sum top none =
     same_from_bits (bit_and top word) 0 (λ i.
-      let all : bit_at (bit_and (bit_or sum word) top) i ≡ 0 = ap (λ n. bit_at n i) none ∙ bit_at-zero i in
-      omega (arith, all, bit_at_and (bit_or sum word) top i, bit_at_or sum word i, bit_at_and top word i, bit_at-zero i))
+    let all : bit_at (bit_and (bit_or sum word) top) i ≡ 0 = ap (λ n. bit_at n i) none ∙ bit_at-zero i in
+    omega (arith, all, bit_at_and (bit_or sum word) top i, bit_at_or sum word i, bit_at_and top word i, bit_at-zero i))
 
 -- where none of its bits is a top bit, no byte of a word is above 9
 pub none_marked : (bytes : List ℕ) (word : ℕ) → IsWordOf bytes word → word < 2 ^ 64
