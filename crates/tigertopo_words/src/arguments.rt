@@ -96,7 +96,6 @@ fn chosen_by(
         released: is_set(released),
         faces: is_set(faces),
         join: is_set(join),
-        ..PLAIN
     }
 }
 

@@ -1,8 +1,8 @@
 -- Digits at the front of a word, moved to its end, behind zeros.
 use Rattle.std.proofs.Common.{◌≡◌, ℕ, zero, suc, ◌+◌, ◌-◌, ◌*◌, ◌/◌, ◌%◌, ◌^◌, ◌<◌, ◌≤◌, true, List, [], ◌∷◌, ◌++◌, length, length-append, map, take, replicate, refl, sym, ap, ◌∙◌, arith}
 use Rattle.std.proofs.lemmas.List.{length-map, length-replicate, length-take-le}
-use Rattle.std.proofs.lemmas.Nat.{and_block, or_block, xor_block, or_lt, xor_lt, and_le_r, and_mask}
-use Rattle.std.proofs.lemmas.Nat.Bits.{and_high, bit_at_and, bit_at_or, bit_at_cat_low, bit_at_cat_high, bit_at-trailing_zeros}
+use Rattle.std.proofs.lemmas.Nat.{and_block, or_block, xor_block, or_lt, xor_lt, and_le_r, and_mask, and-not, and_comm}
+use Rattle.std.proofs.lemmas.Nat.Bits.{and_high, bit_at_and, bit_at_or, bit_at-zero, same_from_bits, bit_at_cat_low, bit_at_cat_high, bit_at-trailing_zeros}
 use Rattle.std.specs.Int.Bits.{bit_xor, xor_self, xor_add_and}
 use Rattle.std.specs.List.{list_all, slice_index}
 use Rattle.std.specs.Char.{is_ascii_digit}
@@ -339,3 +339,25 @@ first_leads bytes word count others of some few bits none =
     let lanes_are : lanes 8 (map above_nine_bit moved) ≡ 0 = eight_lanes (map above_nine_bit moved) bits.eight ∙ sym bits.is ∙ none in
     let each = none_above moved below (zero_lanes (map above_nine_bit moved) (below_bits moved) lanes_are) in
     lead_by bytes word (bit_xor word 3472328296227680304) count of off some few (starts_small count bytes (each_below bytes of.below) (each_behind (8 - count) (take count (without_zero bytes)) each))
+
+-- ---- a sum that leaves out no top bit
+
+no_top : (word sum top : ℕ) → bit_and (bit_or sum word) top ≡ 0 → bit_and top word ≡ 0
+no_top word sum top none =
+    same_from_bits (bit_and top word) 0 (λ i.
+    let all : bit_at (bit_and (bit_or sum word) top) i ≡ 0 = ap (λ n. bit_at n i) none ∙ bit_at-zero i in
+    omega (arith, all, bit_at_and (bit_or sum word) top i, bit_at_or sum word i, bit_at_and top word i, bit_at-zero i))
+
+-- where none of its bits is a top bit, no byte of a word is above 9
+pub none_marked : (bytes : List ℕ) (word : ℕ) → IsWordOf bytes word → word < 2 ^ 64
+    → bit_and (bit_or ((word + 0x7676767676767676) % 2 ^ 64) word) 0x8080808080808080 ≡ 0 → IsWordOf (map above_nine_bit bytes) 0
+none_marked bytes word of below none =
+    let low : bit_and 0x7f7f7f7f7f7f7f7f word ≡ word =
+    let parts = and-not 64 0x8080808080808080 word (omega arith) below in
+    let no = no_top word ((word + 0x7676767676767676) % 2 ^ 64) 0x8080808080808080 none in omega (arith, parts, no) in
+    let also : bit_and word 0x7f7f7f7f7f7f7f7f ≡ word = and_comm word 0x7f7f7f7f7f7f7f7f ∙ low in
+    let small : word ≤ 0x7f7f7f7f7f7f7f7f = let h = and_le_r word 0x7f7f7f7f7f7f7f7f in omega (arith, h, also) in
+    let sum : (word + 0x7676767676767676) % 2 ^ 64 ≡ bit_and word 0x7f7f7f7f7f7f7f7f + 0x7676767676767676 = omega (arith, also, small) in
+    let same : bit_and (bit_or (bit_and word 0x7f7f7f7f7f7f7f7f + 0x7676767676767676) word) 0x8080808080808080 ≡ 0 =
+    ap (λ n. bit_and (bit_or n word) 0x8080808080808080) (sym sum) ∙ none in
+    rw same at (bits_above bytes word of)

@@ -90,4 +90,4 @@ layout_with options = record {
 
 -- the column table where nothing is chosen: TLID of type I in columns 6 to 15, and no zero-cell ids
 abbrev pub tiger_2006 : Layout
-tiger_2006 = layout_with (record { zero_cells = false; released = false; faces = false; join = false; skip_refused = false })
+tiger_2006 = layout_with (record { zero_cells = false; released = false; faces = false; join = false })

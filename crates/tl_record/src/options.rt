@@ -16,8 +16,6 @@ pub struct Options {
     /// Whether chains that two counties tell, each with its own polygon on its side, are one chain with both. Lines of types 7 and 8 are
     /// then passed over: a LAND is a county's own number.
     pub join: bool,
-    /// Whether lists go on behind refused lines with the records that are left. Other calls take no notice of it.
-    pub skip_refused: bool,
 }
 
 /// The default of [`Options`]: nothing is chosen.
@@ -26,5 +24,4 @@ pub const PLAIN: Options = Options {
     released: false,
     faces: false,
     join: false,
-    skip_refused: false,
 };

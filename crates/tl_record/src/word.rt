@@ -1,6 +1,6 @@
 //! Up to eight digits at once, with no branch for each.
 
-ghost use Rattle.std.specs.Prelude.{◌≡◌, ℕ, List, ◌+◌, ◌<◌, ◌≤◌, ◌^◌, true, take, map, replicate, IfSome};
+ghost use Rattle.std.specs.Prelude.{◌≡◌, ℕ, List, ◌+◌, ◌<◌, ◌≤◌, ◌^◌, true, false, take, map, replicate, IfSome};
 ghost use Rattle.std.specs.List.{list_all};
 ghost use Rattle.std.specs.Char.{is_ascii_digit};
 ghost use Rattle.tl_record.specs.Fields.{decimal};
@@ -39,6 +39,15 @@ fn above_nine(word: u64) -> u64
     ((word & LOWER_BITS) + UP_TO_TOP | word) & TOP_BITS
 }
 
+/// Whether a byte is above 9. Where a sum goes over into the next byte its own byte has its top bit set, so that here no bit has to be left
+/// out before.
+#[inline(always)]
+fn has_above_nine(word: u64) -> bool
+    ensures { result ≡ false → (bytes : List ℕ) → IsWordOf bytes word → IsWordOf (map above_nine_bit bytes) 0 }
+{
+    (word.wrapping_add(UP_TO_TOP) | word) & TOP_BITS != 0
+}
+
 /// The value of the first `count` of eight bytes, where all of these are digits. None says nothing.
 #[inline(always)]
 pub fn first_digits(bytes: [u8; 8], count: usize) -> Option<u64>
@@ -49,7 +58,7 @@ pub fn first_digits(bytes: [u8; 8], count: usize) -> Option<u64>
     ensures fits { IfSome result (λ value. value < 10 ^ 8) }
 {
     let digits = (u64::from_le_bytes(bytes) ^ ZEROS) << (64 - 8 * count);
-    if above_nine(digits) != 0 {
+    if has_above_nine(digits) {
         return None;
     }
     Some(digits_value(digits))
