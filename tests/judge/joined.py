@@ -71,6 +71,13 @@ def has_zero_point(part):
     return any((0, 0) in chain.points[1:-1] for chain in part.chains)
 
 
+def is_tellable(part):
+    """Whether records can tell the part: no point is beyond the limits of a degree's, and no shape pair is (0, 0)."""
+    greatest_x, greatest_y = draw.LIMITS
+    points = [point for chain in part.chains for point in chain.points] + [it.point for it in part.polygons]
+    return all(abs(x) <= greatest_x and abs(y) <= greatest_y for x, y in points) and not has_zero_point(part)
+
+
 # ---------------------------------------------------------------------------------------------------------------------
 # Lines that are spoilt at a seam.
 
@@ -224,7 +231,7 @@ class Player:
         """What is wrong with a drawn map that is cut, or None; none where it can't be cut."""
         chance = random.Random(f"joined {number}")
         cut = parts.cut_of(chance)
-        if cut is None or any(map(has_zero_point, cut.parts.values())):
+        if cut is None or not all(map(is_tellable, cut.parts.values())):
             return None
         texts = [lines_of(part, chance) for part in cut.parts.values()]
         names, held = self.lay(texts)

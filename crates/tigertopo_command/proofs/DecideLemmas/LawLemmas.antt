@@ -26,12 +26,12 @@ use Rattle.tigertopo_command.specs.Decide.Building.{AreSoundWith, BuildAnswers}
 -- ---- the status
 
 -- with the status 0 the records are sound, and so they are where it is that
-done : (options : Options) (known : Option (List ℕ)) (status : ℕ) → status ≡ 0 → IfSome known (λ text. HaveMap (records_of (layout_with options) text) (IsSoundFor options.faces))
+pub done : (options : Options) (known : Option (List ℕ)) (status : ℕ) → status ≡ 0 → IfSome known (λ text. HaveMap (records_of (layout_with options) text) (IsSoundFor options.faces))
     → IsDoneWhereSound options known status
 done options known status is so = IfSome_then known so (λ text have. ((λ again. have), (λ have. is)))
 
 -- with another they aren't
-undone : (options : Options) (known : Option (List ℕ)) (status : ℕ) → status ≡ 1 → (fault : TheMapFault) → IsTrueFault options known fault → IsDoneWhereSound options known status
+pub undone : (options : Options) (known : Option (List ℕ)) (status : ℕ) → status ≡ 1 → (fault : TheMapFault) → IsTrueFault options known fault → IsDoneWhereSound options known status
 undone options known status is fault holds =
     IfSome_then known holds (λ text true. ((λ again. cc (sym again ∙ is)), (λ have. absurd (not_sound_records options.faces (records_of (layout_with options) text) fault true have))))
 

@@ -11,7 +11,6 @@ use Rattle.tl_check_verdict.specs.declared.fault.MapFault.{MapFault as TheMapFau
 use Rattle.tl_check_verdict.specs.declared.verdict.Verdict.TheVariants.{MapFault}
 use Rattle.tl_check_verdict.specs.Truth.{IsTrueOfMap}
 use Rattle.tl_check_verdict.proofs.Recording.{true_of_records}
-use Rattle.tl_check_verdict.proofs.Deciding.{not_sound_records}
 use Rattle.tigertopo_files.specs.Files.{Under}
 use Rattle.tigertopo_files.specs.Log.{Log}
 use Rattle.tigertopo_files.specs.World.{World, Does}
@@ -21,6 +20,7 @@ use Rattle.tigertopo_outcome.specs.declared.said.Answer.{Answer}
 use Rattle.tigertopo_outcome.specs.declared.said.Said.{Said}
 use Rattle.tigertopo_outcome.specs.Answers.{IsSaid, IsReadMap, answer_of}
 use Rattle.tigertopo_outcome.specs.Records.{IsOfRecords, IsTrueFault, IsDoneWhereSound, StopsNever, StopsRecords}
+use Rattle.tigertopo_command.proofs.DecideLemmas.LawLemmas.{done, undone}
 use Rattle.tigertopo_program.specs.Border.Borders.{BorderAnswers, IsBorderAnswerOf, Wanted}
 
 -- ---- what is answered of a map, with no file read before
@@ -94,6 +94,5 @@ module _ (u v after : Under) (l m q : Log) (k : Bool) (names : List (List ℕ)) 
 pub border_is_exact : (w : World) (options : Options) (known : Option (List ℕ)) (wanted : Wanted) (status : ℕ) (said : List ℕ) → BorderAnswers w options known wanted status said
     → IsDoneWhereSound options known status
 border_is_exact w options known wanted status said (inl a) =
-    IfSome_then known a.drawn (λ text read. ((λ again. record { map = a.map; is_read = read; so = a.bordered.sound }), (λ have. a.is)))
-border_is_exact w options known wanted status said (inr a) =
-    IfSome_then known a.holds (λ text true. ((λ again. cc (sym again, a.is)), (λ have. absurd (not_sound_records options.faces (records_of (layout_with options) text) a.fault true have))))
+    done options known status a.is (IfSome_then known a.drawn (λ text read. record { map = a.map; is_read = read; so = a.bordered.sound }))
+border_is_exact w options known wanted status said (inr a) = undone options known status a.is a.fault a.holds
