@@ -71,7 +71,9 @@ class Nation:
         home = self.home(i, j)
         if home is None:
             return None
-        number = (i % self.blocks + (j + SEA) % (4 * self.blocks) * self.blocks) * 2 + (kind == RING)
+        # A county's blocks lie in two columns of squares at most.
+        twice = 2 * self.blocks
+        number = (i % twice + (j + SEA) % (2 * twice) * twice) * 2 + (kind == RING)
         return f"{home[0].upper()}{home[1] % 100:02d}{home[2] % 100:02d}", number + 1
 
     def node(self, i, j):
@@ -89,7 +91,9 @@ class Nation:
         points = [start]
         for step in range(1, count + 1):
             along = SIDE * step // (count + 1)
-            aside = mixed(chance + step) % 199 - 99
+            # Near a node it stays nearer its own line than the other streets from there.
+            most = min(99, along // 3, (SIDE - along) // 3)
+            aside = mixed(chance + step) % (2 * most + 1) - most
             points.append((start[0] + (aside if across else along), start[1] + (along if across else aside)))
         return [*points, end], ((i - 1, j), (i, j)) if across else ((i, j), (i, j - 1))
 
