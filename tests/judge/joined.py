@@ -71,6 +71,11 @@ def has_zero_point(part):
     return any((0, 0) in chain.points[1:-1] for chain in part.chains)
 
 
+def in_order(part, lines):
+    """The part with its polygons in the order of their lines."""
+    return judge.Map(part.chains, sorted(part.polygons, key=lambda it: lines.index(polygon_line(it))), [])
+
+
 def is_tellable(part):
     """Whether records can tell the part: no point is beyond the limits of a degree's, and no shape pair is (0, 0)."""
     greatest_x, greatest_y = draw.LIMITS
@@ -192,14 +197,14 @@ class Player:
         counted = f"bordered chains={len(chains)} segments={sum(len(it[1]) - 1 for it in chains)}\n".encode()
         return None if said == counted else f"border: {said}, and not {counted}"
 
-    def parts_complaint(self, cut, names):
+    def parts_complaint(self, cut, texts, names):
         """What is wrong with what is answered of the parts and their borders, or None."""
         whole, border = parts.is_sound(cut.whole), parts.is_sound(cut.border)
         each = [parts.is_sound(it) for it in cut.parts.values()]
         made = []
-        for (number, part), name in zip(cut.parts.items(), names):
+        for (number, part), lines, name in zip(cut.parts.items(), texts, names):
             made.append(f"border{number}")
-            complaint = self.border_complaint([name], f"P{number}", made[-1], part)
+            complaint = self.border_complaint([name], f"P{number}", made[-1], in_order(part, lines))
             if complaint:
                 return complaint
         answer = self.table.ask("audit", "--join", "--faces", *names)
@@ -211,7 +216,8 @@ class Player:
         if (answer[0] == 0) != border or (answer[0] == 0) != whole:
             return f"audit --join --faces of borders: {answer}, where the border is {'sound' if border else 'unsound'}"
         self.seen["told by borders"] += whole
-        return self.border_complaint(["--join", *made], "STATE", "state", cut.border)
+        borders = [parts.border_of(in_order(part, lines), number) for (number, part), lines in zip(cut.parts.items(), texts)]
+        return self.border_complaint(["--join", *made], "STATE", "state", parts.joined(borders))
 
     def joined_complaint(self, chance, names, held):
         """What is wrong with what other commands answer of the files together, or None."""
@@ -235,7 +241,7 @@ class Player:
             return None
         texts = [lines_of(part, chance) for part in cut.parts.values()]
         names, held = self.lay(texts)
-        complaint = self.parts_complaint(cut, names) or self.joined_complaint(chance, names, held)
+        complaint = self.parts_complaint(cut, texts, names) or self.joined_complaint(chance, names, held)
         way = spoil(chance, texts)
         if complaint or way is None:
             return complaint
