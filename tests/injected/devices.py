@@ -199,7 +199,9 @@ def play_names(count, program, folder, runs):
             for name in UNWRITABLE if is_made else UNREADABLE:
                 asked = [*words[:place], name, *words[place + 1 :]]
                 answer, left = answer_to(program, folder, asked)
-                count.count((answer, left) == (wanted, standing(words)), f"{' '.join(asked)}: {answer}, and the file {left[:40]}")
+                # Records may be for a pipe, so beside a device nothing is printed but them.
+                due = (wanted[0], b"", wanted[1]) if words[0] == "border" and name == "/dev/full" and wanted is usual else wanted
+                count.count((answer, left) == (due, standing(words)), f"{' '.join(asked)}: {answer}, and the file {left[:40]}")
 
 
 def play_streams(count, program, folder, runs):

@@ -15,7 +15,7 @@ REFUSED = re.compile(rb"refused line (\d+) L\d \w+ ?(\w+)?\n")
 # What the system, and the program's own library, says of a file that can't be made.
 WORDS = {os.strerror(it) for it in range(1, 134)} | {"entity already exists", "operation would block"}
 # The options that have a value, and that of them which names a certificate that is read.
-VALUED = {"--cert", "--out", "--tests", "--most", "--at", "--width", "--geojson", "--layer"}
+VALUED = {"--cert", "--out", "--name", "--tests", "--most", "--at", "--width", "--geojson", "--layer"}
 
 
 class Asked:
