@@ -17,3 +17,4 @@ pub mod DrawnLemmas
 pub mod LawLemmas
 pub mod RecordLemmas
 pub mod TextLemmas
+pub mod Joining

@@ -4,3 +4,5 @@ pub mod Spellable
 pub mod Border
 pub mod Readable
 pub mod Again
+pub mod Parts
+pub mod InParts

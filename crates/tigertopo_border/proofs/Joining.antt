@@ -1,0 +1,22 @@
+-- Lemmas on records, and texts, that are joined.
+pub mod KeyedLemmas
+pub mod ShapeLemmas
+pub mod InLemmas
+pub mod TellLemmas
+pub mod WithoutLemmas
+pub mod SeveralLemmas
+pub mod HomeLemmas
+pub mod FitLemmas
+pub mod AlikeLemmas
+pub mod WalkLemmas
+pub mod NameLemmas
+pub mod DrawnLemmas
+pub mod PartLemmas
+pub mod LineLemmas
+pub mod ProperLemmas
+pub mod StepLemmas
+pub mod RecordsLemmas
+pub mod TextsLemmas
+pub mod BorderLemmas
+pub mod EnoughLemmas
+pub mod GroupLemmas
