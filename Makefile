@@ -7,7 +7,7 @@
 # make full-size           asks for each answer once with a million chains
 # make limits              does so, and says how long each answer took and in how much memory
 # make memory              refuses each allocation of the program, and of `bench tree`, in its turn
-# make devices             fails each read and each write of the program in its turn
+# make devices             fails each read and each write of the program in its turn, and where strace is there counts how often files are read
 # make examples            runs the commands of README.md, docs/commands.md, examples/README.md and docs/faults.md, and compares what they print
 # make counties            runs the commands of docs/many-counties.md on a few counties
 # make bench               measures the program on record files of 1,000 to 1,000,000 chains, checks of counties, maps
@@ -28,11 +28,12 @@
 # make uninstall PREFIX=.. takes these away
 # make dist                makes in dist/ an archive and a Debian package of the program with its documents, and their sums
 # make dist-check          makes them twice, compares their bytes, and installs, runs and removes the package
+# make dist-anew           proves and builds the program in two clones from nothing, makes them in each, and compares their bytes
 
 PREFIX = /usr/local
 PROGRAM = crates/tigertopo/out/tigertopo
 
-.PHONY: build check wrong-bodies rows certificates judge full-size limits memory devices examples counties bench ways speed geojson pictures pages real-maps promises install uninstall dist dist-check
+.PHONY: build check wrong-bodies rows certificates judge full-size limits memory devices examples counties bench ways speed geojson pictures pages real-maps promises install uninstall dist dist-check dist-anew
 
 build:
 	python3 proving/prove.py
@@ -72,6 +73,7 @@ memory: build
 
 devices: build
 	python3 tests/injected/devices.py
+	python3 tests/injected/readings.py
 
 counties: build
 	python3 tests/installed/counties.py
@@ -130,6 +132,9 @@ dist: build
 
 dist-check: build
 	python3 tests/installed/packaged.py
+
+dist-anew:
+	python3 tests/installed/anew.py
 
 uninstall:
 	rm -f $(DESTDIR)$(PREFIX)/bin/tigertopo $(SHARE)/man/man1/tigertopo.1 \

@@ -33,6 +33,7 @@ import parts as maps_in_parts
 import pictures
 import progress
 import promises
+import readings
 import rows
 import run as examples
 import skipped
@@ -93,6 +94,8 @@ def parts():
     ]
     if geojson.can_play():
         found.append(("files of GeoJSON", geojson.play_all))
+    if readings.can_play():
+        found.append(("how often files are read", readings.play_all))
     if ways.can_play():
         found.append(("sweeps of each command", ways.play_all))
     return found

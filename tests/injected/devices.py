@@ -242,14 +242,25 @@ def play_pipes(count, program, folder):
         done = subprocess.run([program, "audit", "--all", "--geojson", MADE, "/dev/stdin"], **ask)
         answer = (done.returncode, done.stdout, done.stderr)
         county = judge.County([text])
-        if county.records.refusals:
-            count.count(answer == listed and not made.exists(), f"{name} through a pipe: {answer}, or a file was made")
-            continue
         told = [it for it in listed[1].decode().split("\n") if it.startswith("map fault ")]
-        wanted = county.drawn_faults(["/dev/stdin"], [text]).features(told)
+        faults = county.drawn_faults(["/dev/stdin"], [text])
+        refused = county.records.refusals
+        wanted = faults.refused_features(refused) if refused else faults.features(told)
         touched = re.search(rb"\ntouched polygons=(\d+) ", listed[1])
         wrong = placed.wrong_collection(made.read_bytes() if made.exists() else b"", wanted, int(touched[1]) if touched else 0)
         count.count(answer == listed and not wrong, f"{name} through a pipe: {answer}: {wrong}")
+
+
+def play_pipes_behind(count, program, folder):
+    """Gives records through a pipe behind a file with a refused line, and through one that is given twice and so isn't kept: of the file
+    is told what is told of it beside a file."""
+    refused, behind = EXAMPLES / "faults" / "L2", EXAMPLES / "square.RT1"
+    ask = {"cwd": folder, "input": behind.read_bytes(), "capture_output": True}
+    for words, pipes in (["audit"], 1), (["show"], 1), (["audit", "--all", "--where"], 2), (["audit", "--all", "--json"], 2):
+        wanted = subprocess.run([program, *words, refused, behind], **ask)
+        done = subprocess.run([program, *words, refused, *["/dev/stdin"] * pipes], **ask)
+        answers = [(it.returncode, it.stdout, it.stderr) for it in (done, wanted)]
+        count.count(answers[0] == answers[1], f"{' '.join(words)} with {pipes} pipes behind a refused line: {answers[0]}, and not {answers[1]}")
 
 
 def play_all(program=PROGRAM):
@@ -262,6 +273,7 @@ def play_all(program=PROGRAM):
         play_names(count, program, folder, small)
         play_streams(count, program, folder, small)
         play_pipes(count, program, folder)
+        play_pipes_behind(count, program, folder)
     return count.passed, count.failed
 
 

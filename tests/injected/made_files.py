@@ -1,5 +1,5 @@
 #!/usr/bin/env python3
-"""Makes certificates, files of GeoJSON and pictures where something stands in the way, and looks for a file of a user's that is
+"""Makes certificates, files of GeoJSON, pictures and borders where something stands in the way, and looks for a file of a user's that is
 lost or half written.
 
 usage: made_files.py [PROGRAM]
@@ -57,7 +57,11 @@ PICTURE = Kind(
     (b"<", b'<svg xmlns="http://www.w3.org/2000/svg" class="tigertopo"'),
     b"picture of tigertopo",
 )
-KINDS = {"build": CERTIFICATE, "convert": CERTIFICATE, "export": COLLECTION, "audit": COLLECTION, "draw": PICTURE}
+BORDER = Kind(b"1EDGE an old one\n", (b"1", b"1EDGE"), b"border of tigertopo")
+KINDS = {
+    **{"build": CERTIFICATE, "convert": CERTIFICATE, "export": COLLECTION, "audit": COLLECTION},
+    **{"draw": PICTURE, "border": BORDER},
+}
 # What is no file of any kind.
 FOREIGN = (b'{"type":"FeatureCollection","features":[]}\n', b'<svg xmlns="http://www.w3.org/2000/svg">\n')
 STRANGERS = (b"a", b"TIGERCERT", *FOREIGN, b"a file that stands\n", COUNTY.read_bytes())
@@ -109,6 +113,7 @@ class Play:
             ("export", ["export", "--geojson", out, "records"]),
             ("audit", ["audit", "--all", "--where", "--geojson", out, "town"]),
             ("draw", ["draw", "--faults", "--out", out, "town"]),
+            ("border", ["border", "--name", "B", "--out", out, "records"]),
         ]
 
     def run(self, words, **more):
@@ -135,7 +140,7 @@ class Play:
     def standing(self):
         """What stands under OUT."""
         for name, words in self.commands():
-            others = [it.old for it in (CERTIFICATE, COLLECTION, PICTURE) if it is not KINDS[name]]
+            others = [it.old for it in (CERTIFICATE, COLLECTION, PICTURE, BORDER) if it is not KINDS[name]]
             for text in (*STRANGERS, *others):
                 self.made.write_bytes(text)
                 answer = self.ask(words)

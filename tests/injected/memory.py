@@ -27,7 +27,7 @@ STANDS = b"TIGERCERT 2\na file that stands\n"
 # And of what isn't a certificate: of GeoJSON, and of a picture.
 COLLECTION_STANDS = b'{"type":"FeatureCollection","name":"tigertopo"\n'
 PICTURE_STANDS = b'<svg xmlns="http://www.w3.org/2000/svg" class="tigertopo"\n'
-BORDER_STANDS = b"10000 an old one\n"
+BORDER_STANDS = b"1EDGE an old one\n"
 # What is said of words that are no use of a command, where memory was refused for a text that says why.
 NO_USE = (64, b"", b"error: the words are no use of a command\n")
 # What is asked beside what is asked of the small maps.

@@ -8,13 +8,14 @@ Where faces agree, each place that is on no chain has to lie in the one polygon 
 outside: so it is proved (`tl_check_faces`), and so it is reckoned here by the counts of a second opinion. `audit --faces` has to answer
 what `audit` does, unless the map is sound and its faces disagree: then a fault that is true by its definition, which is looked at
 here line by line. `check --faces` by a certificate that `build` made has to agree, and `build --faces` makes that certificate where
-faces agree, and none where they don't. `audit --all --faces` has to answer what `audit --all` does, unless the map is sound and its
-faces disagree: then each two segments that differ along a line of one height, which are reckoned here height by height; no two lines
+faces agree, and none where they don't. `audit --all --faces` has to answer what `audit --all` does, and where no segments meet and sides
+agree, behind it each two segments that differ along a line of one height, which are reckoned here height by height; no two of these lines
 are equal, places are in lowest terms, and the faults that `audit`, `build` and `check` name are among them.
 """
 
 import math
 import random
+import re
 import re
 import sys
 import tempfile
@@ -247,25 +248,32 @@ def faces_told(line):
     return [(int(tlid), key, (Fraction(int(x), int(d)), Fraction(int(y), int(d)))) for tlid, key, x, y, d in faces_in], parts[10]
 
 
-def is_whole_list(the_map, text):
-    """Whether the text tells all faces of the map that disagree along lines of one height, each two segments once, and how many."""
+def is_whole_list(the_map, gaps, others, text):
+    """Whether the text tells the other faults, and behind them all faces of the map that disagree at these gaps, each two segments once,
+    and how many that is."""
     *lines, last = text.splitlines(keepends=True)
-    gaps = sorted(odd_gaps(the_map).items())
     wanted = [faces_of(the_map, gap, rise) for gap, rise in gaps]
-    return [faces_told(line) for line in lines] == wanted and len(set(lines)) == len(lines) and last == f"faults={len(wanted)}\n"
+    before, behind = lines[: len(others)], lines[len(others) :]
+    told = [faces_told(line) for line in behind] == wanted and len(set(behind)) == len(behind)
+    return told and before == others and last == f"faults={len(lines)}\n"
 
 
-def list_complaint(table, words, county, agree, named):
-    """What `audit --all --faces` answers otherwise than it has to, or None; these faults were named."""
+def list_complaint(table, words, county, named):
+    """What `audit --all --faces` answers otherwise than it has to, or None; these faults were named. Faces are looked at where no segments
+    meet and sides agree."""
+    plain = table.ask("audit", "--all", *words)
     answer = table.ask("audit", "--all", "--faces", *words)
-    if agree:
-        return None if answer == table.ask("audit", "--all", *words) else f"audit --all --faces: {answer}, and not the list"
-    lines = answer[1].splitlines(keepends=True)
-    if any(line not in lines for line in named):
+    are_looked_at = not (county.faults or county.meets or county.side_faults)
+    gaps = sorted(odd_gaps(county.map).items()) if are_looked_at else []
+    if not gaps:
+        return None if answer == plain else f"audit --all --faces: {answer}, and not {plain}"
+    others = plain[1].decode().splitlines(keepends=True)[:-1] if plain[0] else []
+    text = answer[1].decode()
+    if any(line not in text.splitlines(keepends=True) for line in named):
         return f"audit --all --faces: {answer}, and not {named}"
-    if answer[0] != 1 or answer[2] or not is_whole_list(county.map, answer[1].decode()):
-        return f"audit --all --faces: {answer}, and not all faces that disagree"
-    return shown_complaint(table, words, county, answer[1].decode().splitlines())
+    if answer[0] != 1 or answer[2] or not is_whole_list(county.map, gaps, others, text):
+        return f"audit --all --faces: {answer}, and not {others} and all faces that disagree"
+    return shown_complaint(table, words, county, text.splitlines())
 
 
 def shown_complaint(table, words, county, told):
@@ -286,8 +294,28 @@ def shown_complaint(table, words, county, told):
         return f"audit --all --geojson --faces: {complaint}"
     (table.folder / "picture.svg").unlink(missing_ok=True)
     answer = table.ask("draw", "--faults", "--faces", "--out", "picture.svg", *words)
-    wanted = f"drawn chains={len(county.map.chains)} faults={len(told) - 1}\n".encode()
-    return None if answer == (0, wanted, b"") else f"draw --faults --faces: {answer}, and not {wanted}"
+    drawn = re.fullmatch(rb"drawn chains=(\d+) faults=(\d+)\n", answer[1])
+    least, most = chains_seen(county.map)
+    is_well = drawn and least <= int(drawn[1]) <= most and int(drawn[2]) == len(told) - 1
+    return None if is_well and (answer[0], answer[2]) == (0, b"") else f"draw --faults --faces: {answer}, and not {least} to {most} chains"
+
+
+def chains_seen(the_map):
+    """How many chains of the map are seen in its picture at least, and at most: a chain that is much smaller than a third of a pixel along
+    both axes isn't, and one that is much larger is. Near a pole a degree of longitude takes no room."""
+    points = [it for chain in the_map.chains for it in chain.points] + [it.point for it in the_map.polygons]
+    south, north = min(it.y for it in points), max(it.y for it in points)
+    middle = ((south + north) / 2_000_000) ** 2
+    cosine = max((32_400 - 4 * middle) / (32_400 + middle), 0.0001)
+    width = cosine * (max(it.x for it in points) - min(it.x for it in points))
+    pixel = max(width, north - south) / 980
+
+    def size(chain):
+        xs, ys = [it.x for it in chain.points], [it.y for it in chain.points]
+        return max(cosine * (max(xs) - min(xs)), max(ys) - min(ys)) / pixel
+
+    sizes = [size(it) for it in the_map.chains]
+    return sum(it > 0.5 for it in sizes), sum(it > 0.2 for it in sizes)
 
 
 def answers_complaint(table, text, switches, county):
@@ -318,7 +346,8 @@ def answers_complaint(table, text, switches, county):
         return "build --faces: a certificate was made and faces disagree, or none was and they agree"
     if made[1].exists() and made[0].read_bytes() != made[1].read_bytes():
         return "build --faces: the certificate isn't that of build"
-    return list_complaint(table, words, county, agree, [answer[1] for _, answer, _ in asked])
+    named = [] if agree else [answer[1].decode() for _, answer, _ in asked]
+    return list_complaint(table, words, county, named)
 
 
 def play_worked(table):

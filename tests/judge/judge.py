@@ -1008,8 +1008,28 @@ class Opinion:
         return answer in self.answers or self.the_map is not None and is_true_meet(self.the_map, answer)
 
 
+class Printed:
+    """What is printed as lines, with its status."""
+
+    @property
+    def answers(self):
+        return ["\n".join(self.lines)]
+
+    @property
+    def outputs(self):
+        """All of it is written to the standard output, refused lines too."""
+        return [(self.status, it.encode("latin-1") + b"\n", b"") for it in self.answers]
+
+    def allows(self, status, out, err):
+        """Whether the program's status and its two outputs may be so."""
+        told = out.decode("latin-1").split("\n")
+        wanted = [*self.lines, ""]
+        are_well = len(told) == len(wanted) and all(map(self.is_as_good, told, wanted))
+        return status == self.status and not err and are_well
+
+
 @dataclass
-class Listing:
+class Listing(Printed):
     """What `audit --all` prints of a county that has faults, or lines that are refused: all of them in their order, or
     with `most` so many at most; how many polygons sides at odds name; and how many faults there are, unless nothing is
     counted. The line of two segments that meet where they may not may name any point that is true of them."""
@@ -1032,27 +1052,31 @@ class Listing:
         count = f"{self.counted}={len(self.faults)}" + (f" printed={len(printed)}" if self.most is not None else "")
         return [*printed, *([f"touched polygons={self.touched} not looked at"] if self.touched else []), count]
 
-    @property
-    def answers(self):
-        return ["\n".join(self.lines)]
-
-    @property
-    def outputs(self):
-        """All of it is written to the standard output, refused lines too."""
-        return [(self.status, it.encode("latin-1") + b"\n", b"") for it in self.answers]
-
-    def allows(self, status, out, err):
-        """Whether the program's status and its two outputs may be so."""
-        told = out.decode("latin-1").split("\n")
-        wanted = [*self.lines, ""]
-        are_well = len(told) == len(wanted) and all(map(self.is_as_good, told, wanted))
-        return status == self.status and not err and are_well
-
     def is_as_good(self, line, wanted):
         """It is the line that is wanted, or names another point of the same two segments that is as true."""
         if line == wanted or self.the_map is None:
             return line == wanted
         return line.split(" at ")[0] == wanted.split(" at ")[0] and is_true_meet(self.the_map, line)
+
+
+@dataclass
+class Skipping(Printed):
+    """What `audit --all --skip-refused` prints of a county that has lines that are refused: these, then the faults of what is left."""
+
+    refused: Listing
+    left: Listing
+
+    @property
+    def status(self):
+        return 3
+
+    @property
+    def lines(self):
+        return [*self.refused.lines, *self.left.lines, f"refused lines={len(self.refused.faults)} skipped"]
+
+    def is_as_good(self, line, wanted):
+        """As of a listing."""
+        return self.left.is_as_good(line, wanted)
 
 
 @dataclass
@@ -1094,8 +1118,15 @@ class County:
     """The texts of a county's files, and what is asked of them."""
 
     def __init__(self, texts, zero_cells=False, released=False, join=False):
-        self.released = released
+        self.texts, self.released, self.join, self.zero_cells = texts, released, join, zero_cells
         self.records = read(texts, zero_cells, released, join)
+
+    @cached_property
+    def left(self):
+        """The county of what is left where each refused line is emptied."""
+        refused = {int(it.split(" ")[2]) for it in self.records.refusals}
+        lines = enumerate(raw_lines(self.texts), 1)
+        return County([b"".join((b"" if number in refused else it) + b"\n" for number, it in lines)], self.zero_cells, self.released, self.join)
 
     @cached_property
     def record_faults(self):
@@ -1150,6 +1181,14 @@ class County:
         faults = self.meets + self.side_faults + listed_cell_faults(self.map) + point_faults(self.map, touched)
         return Listing(faults, "faults", most, len(touched), self.map) if faults else self.audit()
 
+    def audit_skipping(self, most=None):
+        """The same, but behind lines that are refused the faults of what is left."""
+        if not self.records.refusals:
+            return self.audit_all(most)
+        listing = self.left.audit_all(most)
+        left = listing if isinstance(listing, Listing) else Listing([], "faults", most)
+        return Skipping(self.audit_all(most), left)
+
     def audit_first(self):
         """The first line of that list and no count, where more than a fault's line is asked for; a refused line as ever."""
         listing = self.audit_all()
@@ -1161,6 +1200,14 @@ class County:
         """The faults with the lines of their records in files of these names and texts, and with the map, where there is one; or the
         refused lines with where they stand."""
         return placed.Faults(names, texts, self.released, None if self.faults else self.map, bool(self.records.refusals))
+
+    def left_faults(self, names, texts):
+        """The same of what is left without refused lines, and these with where they stand."""
+        if not self.records.refusals:
+            return self.drawn_faults(names, texts)
+        told = placed.Faults(names, texts, self.released, None if self.left.faults else self.left.map, True)
+        told.lines = placed.lines_left(names, texts, self.left.texts[0], self.released)
+        return told
 
     def build(self):
         """As `audit`, but for the word; the certificate that is made is looked at by `certificate_faults`."""
@@ -1221,7 +1268,7 @@ def asked(words, text_of):
         word = rest.pop(0)
         if word in ("--cert", "--tests", "--out", "--most", "--geojson") and rest:
             values[word] = rest.pop(0)
-        elif word in ("--zero-cells", "--released", "--all", "--where", "--join"):
+        elif word in ("--zero-cells", "--released", "--all", "--where", "--join", "--skip-refused"):
             switches.add(word)
         elif word != "--":
             names.append(word)
@@ -1232,6 +1279,9 @@ def asked(words, text_of):
         return None
     is_all, most = "--all" in switches, values.get("--most")
     is_more = is_all or "--where" in switches or "--geojson" in values
+    skips = "--skip-refused" in switches
+    if skips and not is_all:
+        return None
     if (is_more and command != "audit") or (most is not None and not (is_all and most.isdigit())):
         return None
     texts = [text_of(name) for name in names]
@@ -1239,8 +1289,10 @@ def asked(words, text_of):
     if command == "check":
         return county.check(text_of(values["--cert"]), int(values["--tests"]) if "--tests" in values else None)
     if is_more:
-        told = county.audit_all(None if most is None else int(most)) if is_all else county.audit_first()
-        return Placed(told, county.drawn_faults(names, texts)) if "--where" in switches else told
+        audit = county.audit_skipping if skips else county.audit_all
+        told = audit(None if most is None else int(most)) if is_all else county.audit_first()
+        faults = county.left_faults if skips else county.drawn_faults
+        return Placed(told, faults(names, texts)) if "--where" in switches else told
     return county.locate(point) if point else getattr(county, command)()
 
 

@@ -117,6 +117,8 @@ def complaints(table, case, chance):
     yield from wrong(county.audit(), "audit", *switches, *names)
     yield from wrong(county.audit_all(), "audit", "--all", *switches, *names)
     listed = [it for it in table.printed.decode("latin-1").split("\n") if it.startswith("map fault ")]
+    if county.records.refusals or chance.random() < 0.02:
+        yield from wrong(county.audit_skipping(), "audit", "--all", "--skip-refused", *switches, *names)
     if chance.random() < 0.1:
         most = chance.choice((1, 2, 2, 5))
         yield from wrong(county.audit_all(most), "audit", "--all", "--most", str(most), *switches, *names)
@@ -178,12 +180,16 @@ def placed_complaints(table, chance, county, faults, listed, wrong, words):
     asked = ["audit", *told, "--geojson", out.name, *["--where"] * has_where, *words]
     yield from wrong(where if has_where else plain, *asked)
     made = out.read_bytes() if out.exists() else None
-    if county.records.refusals:
+    if county.records.refusals and not is_all:
         if made != stood:
             yield f"{' '.join(asked)}: a line is refused, and a file was made or changed"
         return
-    touched = getattr(county.audit_all(), "touched", 0)
-    complaint = placed.wrong_collection(made or b"", faults.features(listed if is_all else listed[:1]), touched)
+    if county.records.refusals:
+        complaint = placed.wrong_collection(made or b"", faults.refused_features(county.records.refusals))
+        yield from wrong(judge.Placed(county.audit_skipping(), county.left_faults(faults.names, faults.texts)), "audit", "--all", "--where", "--skip-refused", *words)
+    else:
+        touched = getattr(county.audit_all(), "touched", 0)
+        complaint = placed.wrong_collection(made or b"", faults.features(listed if is_all else listed[:1]), touched)
     if complaint:
         yield f"{' '.join(asked)}: {complaint}"
 

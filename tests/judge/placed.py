@@ -126,6 +126,16 @@ def lines_of(names, texts, released=False):
     return [it for it in found if it is not None]
 
 
+def lines_left(names, texts, left, released=False):
+    """The same of what is left of the files as one text, whose lines these bytes are, without lines that are refused."""
+    raw, found = left.split(b"\n"), []
+    for name, text in zip(names, texts):
+        count = text.count(b"\n") + (not text.endswith(b"\n") and text != b"")
+        mine, raw = raw[:count], raw[count:]
+        found += [line_of(name, number, it.removesuffix(b"\r"), released) for number, it in enumerate(mine, 1)]
+    return [it for it in found if it is not None]
+
+
 @dataclass(frozen=True)
 class Spoken:
     """A record's line as a fault speaks of it: with the ends that it holds of a segment, and the segment's number within its chain."""
@@ -280,6 +290,20 @@ class Faults:
         """Where a refused line stands, as its own line tells it."""
         name, _, number, line = found_line(self.names, self.texts, int(number))
         return place_of_line(name, number, line, field, self.released).decode("latin-1").removesuffix("\n")
+
+    def refused_features(self, told):
+        """The features of the refused lines that these lines tell, each with where it stands."""
+        return [self.refused_feature(*it.split(" ")[2:]) for it in told]
+
+    def refused_feature(self, number, code, cause, field=None):
+        name, _, own, line = found_line(self.names, self.texts, int(number))
+        record = {"file": name, "line": own}
+        if field:
+            first, last = columns_of(line, field, self.released)
+            record |= {"columns": [first, last], "bytes": line[first - 1:last].decode("latin-1")}
+        words = " ".join([code, cause, *([field] if field else [])])
+        told = {"code": code, "name": cause, "refused": words, "line": int(number), "records": [record]}
+        return {"type": "Feature", "geometry": None, "properties": told}
 
     def features(self, told):
         """The features of the faults that these lines tell, and behind them the chains that they name, by rising TLID."""

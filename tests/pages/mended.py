@@ -17,14 +17,12 @@ from folders import PROGRAM
 from layout import line_of
 
 SQUARES, SIDE = 8, 100
-OPTIONS = ["--all", "--where", "--faces", "--zero-cells"]
+OPTIONS = ["--all", "--skip-refused", "--where", "--faces", "--zero-cells"]
 # What each round tells.
 ROUNDS = [
-    ("lines", {"L1", "L2", "L3", "L4"}),
-    ("records", {f"M{k}" for k in range(1, 13)}),
+    ("lines and records", {"L1", "L2", "L3", "L4"} | {f"M{k}" for k in range(1, 13)}),
     ("the map", {"G1", "G2", "G3", "G4", "G5", "G6"}),
-    ("touched polygons", {"touched G4"}),
-    ("faces", {"G7"}),
+    ("what hung on meets and sides", {"touched G4", "G7"}),
 ]
 # The step at which a code is told; that of a polygon that sides at odds name when they don't any more.
 STEP = {code: step for step, (_, codes) in enumerate(ROUNDS) for code in codes}

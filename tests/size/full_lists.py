@@ -99,11 +99,8 @@ def play_list(plays, name, made, switches=()):
     file = Path(plays.folder, "features")
     plays.ends(f"{name}, two and where", ["--all", *switches, "--most", "2", "--where", name], status, None, f"{word}={count} printed=2\n")
     plays.ends(f"{name}, as a file", ["--all", *switches, "--most", "0", "--geojson", file.name, name], status, [], f"{left}{word}={count} printed=0\n")
-    if word == "faults":
-        features = file.read_bytes().count(b'"code":') if file.exists() else 0
-        plays.count(features == count, f"{name}: the file has {features} features")
-    else:
-        plays.count(not file.exists(), f"{name}: a file was made of lines that are refused")
+    features = file.read_bytes().count(b'"code":') if file.exists() else 0
+    plays.count(features == count, f"{name}: the file has {features} features")
     file.unlink(missing_ok=True)
 
 

@@ -1,12 +1,10 @@
 -- The line of a record is read as that record.
-use Rattle.std.proofs.Common.{◌≡◌, ℕ, zero, suc, ◌+◌, ◌-◌, ◌*◌, ◌^◌, ◌<◌, ◌≤◌, Bool, true, false, List, [], ◌∷◌, ◌++◌, length, Option, Some, None, Result, Ok, Err, refl, sym, ap, ◌∙◌, arith, codes, length-append, append_assoc, append-nil}
-use Rattle.std.specs.List.{list_all, flat_map}
-use Rattle.std.specs.Prelude.{nat_lt}
+use Rattle.std.proofs.Common.{◌≡◌, ℕ, ◌+◌, ◌-◌, ◌*◌, ◌^◌, ◌<◌, ◌≤◌, List, [], ◌++◌, length, Option, None, Ok, refl, sym, ap, ◌∙◌, arith, codes, append_assoc, append-nil}
+use Rattle.std.specs.List.{flat_map}
 use Rattle.tl_geom.specs.declared.point.Point.{Point}
 use Rattle.tl_record_key.specs.declared.key.PolyKey.{PolyKey}
 use Rattle.tl_record.specs.declared.record.Record.{Record}
 use Rattle.tl_record.specs.declared.record.Record.TheVariants.{Chain, Shape, Sides, PolyPoint, Landmark, AreaLink}
-use Rattle.tl_record.specs.declared.layout.PointColumns.{PointColumns}
 use Rattle.tl_record.specs.declared.number.Spelt.TheVariants.{Value}
 use Rattle.tl_record.specs.declared.judge.Judgement.TheVariants.{Read}
 use Rattle.tl_record.specs.declared.stop.Field.{Field}
@@ -31,36 +29,36 @@ number_there name line front back range width n some fits small is before wide =
 -- ---- type 1
 
 module _ (tlid : ℕ) (from to : Point) (fits : tlid < 10 ^ 10) (starts : IsPlaced from) (ends : IsPlaced to) where
-  long_head : length (codes "10000" ++ number_field 10 tlid) ≡ 15
-  long_head = longer (codes "10000") (number_field 10 tlid) 5 10 refl (length_number 10 tlid (omega arith) fits (omega (arith, fits)))
+  long_head : length (codes "1EDGE" ++ number_field 10 tlid) ≡ 15
+  long_head = longer (codes "1EDGE") (number_field 10 tlid) 5 10 refl (length_number 10 tlid (omega arith) fits (omega (arith, fits)))
 
-  long_blank : length (codes "10000" ++ number_field 10 tlid ++ blanks 175) ≡ 190
-  long_blank = longer (codes "10000" ++ number_field 10 tlid) (blanks 175) 15 175 long_head (length_blanks 175)
+  long_blank : length (codes "1EDGE" ++ number_field 10 tlid ++ blanks 175) ≡ 190
+  long_blank = longer (codes "1EDGE" ++ number_field 10 tlid) (blanks 175) 15 175 long_head (length_blanks 175)
 
-  long_from : length (codes "10000" ++ number_field 10 tlid ++ blanks 175 ++ point_fields from) ≡ 209
-  long_from = longer (codes "10000" ++ number_field 10 tlid ++ blanks 175) (point_fields from) 190 19 long_blank (length_point from starts)
+  long_from : length (codes "1EDGE" ++ number_field 10 tlid ++ blanks 175 ++ point_fields from) ≡ 209
+  long_from = longer (codes "1EDGE" ++ number_field 10 tlid ++ blanks 175) (point_fields from) 190 19 long_blank (length_point from starts)
 
   pub long_chain : length (chain_line tlid from to) ≡ 228
   unfolding chain_line
-  long_chain = longer (codes "10000" ++ number_field 10 tlid ++ blanks 175 ++ point_fields from) (point_fields to) 209 19 long_from (length_point to ends)
+  long_chain = longer (codes "1EDGE" ++ number_field 10 tlid ++ blanks 175 ++ point_fields from) (point_fields to) 209 19 long_from (length_point to ends)
 
   chain_tlid : number_at field_name.Tlid (columns 6 15) (chain_line tlid from to) ≡ Ok tlid
   unfolding chain_line
   chain_tlid =
-      number_there field_name.Tlid _ (codes "10000") (blanks 175 ++ (point_fields from ++ point_fields to)) (columns 6 15) 10 tlid (omega arith) fits (omega (arith, fits))
-      (append_assoc (codes "10000" ++ number_field 10 tlid ++ blanks 175) (point_fields from) (point_fields to)
-      ∙ append_assoc (codes "10000" ++ number_field 10 tlid) (blanks 175) (point_fields from ++ point_fields to)
-      ∙ append_assoc (codes "10000") (number_field 10 tlid) (blanks 175 ++ (point_fields from ++ point_fields to))) refl refl
+      number_there field_name.Tlid _ (codes "1EDGE") (blanks 175 ++ (point_fields from ++ point_fields to)) (columns 6 15) 10 tlid (omega arith) fits (omega (arith, fits))
+      (append_assoc (codes "1EDGE" ++ number_field 10 tlid ++ blanks 175) (point_fields from) (point_fields to)
+      ∙ append_assoc (codes "1EDGE" ++ number_field 10 tlid) (blanks 175) (point_fields from ++ point_fields to)
+      ∙ append_assoc (codes "1EDGE") (number_field 10 tlid) (blanks 175 ++ (point_fields from ++ point_fields to))) refl refl
 
   pub chain_there : chain_record tiger_2006_chain (chain_line tlid from to) ≡ Ok (Chain tlid from to)
   unfolding chain_record chain_line
   chain_there =
-      let start = point_read (chain_line tlid from to) (codes "10000" ++ number_field 10 tlid ++ blanks 175) (point_fields to) (tiger_2006_chain.from) from 190
+      let start = point_read (chain_line tlid from to) (codes "1EDGE" ++ number_field 10 tlid ++ blanks 175) (point_fields to) (tiger_2006_chain.from) from 190
       (record { long = refl; long_wide = refl; lat = refl; lat_wide = refl }) long_blank starts
-      (append_assoc (codes "10000" ++ number_field 10 tlid ++ blanks 175) (point_fields from) (point_fields to)) field_name.FrLong field_name.FrLat in
-      let end = point_read (chain_line tlid from to) (codes "10000" ++ number_field 10 tlid ++ blanks 175 ++ point_fields from) [] (tiger_2006_chain.to) to 209
+      (append_assoc (codes "1EDGE" ++ number_field 10 tlid ++ blanks 175) (point_fields from) (point_fields to)) field_name.FrLong field_name.FrLat in
+      let end = point_read (chain_line tlid from to) (codes "1EDGE" ++ number_field 10 tlid ++ blanks 175 ++ point_fields from) [] (tiger_2006_chain.to) to 209
       (record { long = refl; long_wide = refl; lat = refl; lat_wide = refl }) long_from ends
-      (ap (λ last. codes "10000" ++ number_field 10 tlid ++ blanks 175 ++ point_fields from ++ last) (sym (append-nil (point_fields to)))) field_name.ToLong field_name.ToLat in
+      (ap (λ last. codes "1EDGE" ++ number_field 10 tlid ++ blanks 175 ++ point_fields from ++ last) (sym (append-nil (point_fields to)))) field_name.ToLong field_name.ToLat in
       rw (chain_tlid, start, end) refl
 
 -- ---- type 2
@@ -74,94 +72,94 @@ pair_places =
     (at_place 18 19 refl refl refl refl, (at_place 37 38 refl refl refl refl, (at_place 56 57 refl refl refl refl, (at_place 75 76 refl refl refl refl, (at_place 94 95 refl refl refl refl, (at_place 113 114 refl refl refl refl, (at_place 132 133 refl refl refl refl, (at_place 151 152 refl refl refl refl, (at_place 170 171 refl refl refl refl, (at_place 189 190 refl refl refl refl, tt))))))))))
 
 module _ (tlid rtsq : ℕ) (pairs : List (Option Point)) (fits : tlid < 10 ^ 10) (small : rtsq < 1000) (ten : length pairs ≡ 10) (fine : ArePairs pairs) where
-  long_second : length (codes "20000" ++ number_field 10 tlid) ≡ 15
-  long_second = longer (codes "20000") (number_field 10 tlid) 5 10 refl (length_number 10 tlid (omega arith) fits (omega (arith, fits)))
+  long_second : length (codes "2EDGE" ++ number_field 10 tlid) ≡ 15
+  long_second = longer (codes "2EDGE") (number_field 10 tlid) 5 10 refl (length_number 10 tlid (omega arith) fits (omega (arith, fits)))
 
-  long_rtsq : length (codes "20000" ++ number_field 10 tlid ++ number_field 3 rtsq) ≡ 18
-  long_rtsq = longer (codes "20000" ++ number_field 10 tlid) (number_field 3 rtsq) 15 3 long_second (length_number 3 rtsq (omega arith) (omega (arith, small)) (omega (arith, small)))
+  long_rtsq : length (codes "2EDGE" ++ number_field 10 tlid ++ number_field 3 rtsq) ≡ 18
+  long_rtsq = longer (codes "2EDGE" ++ number_field 10 tlid) (number_field 3 rtsq) 15 3 long_second (length_number 3 rtsq (omega arith) (omega (arith, small)) (omega (arith, small)))
 
   pub long_shape : length (shape_line tlid rtsq pairs) ≡ 208
   unfolding shape_line
   long_shape =
-      longer (codes "20000" ++ number_field 10 tlid ++ number_field 3 rtsq) (flat_map pair_fields pairs) 18 190 long_rtsq
+      longer (codes "2EDGE" ++ number_field 10 tlid ++ number_field 3 rtsq) (flat_map pair_fields pairs) 18 190 long_rtsq
       (length_pairs pairs fine ∙ ap (λ n. n * 19) ten)
 
   shape_tlid : number_at field_name.Tlid (columns 6 15) (shape_line tlid rtsq pairs) ≡ Ok tlid
   unfolding shape_line
   shape_tlid =
-      number_there field_name.Tlid _ (codes "20000") (number_field 3 rtsq ++ flat_map pair_fields pairs) (columns 6 15) 10 tlid (omega arith) fits (omega (arith, fits))
-      (append_assoc (codes "20000" ++ number_field 10 tlid) (number_field 3 rtsq) (flat_map pair_fields pairs)
-      ∙ append_assoc (codes "20000") (number_field 10 tlid) (number_field 3 rtsq ++ flat_map pair_fields pairs)) refl refl
+      number_there field_name.Tlid _ (codes "2EDGE") (number_field 3 rtsq ++ flat_map pair_fields pairs) (columns 6 15) 10 tlid (omega arith) fits (omega (arith, fits))
+      (append_assoc (codes "2EDGE" ++ number_field 10 tlid) (number_field 3 rtsq) (flat_map pair_fields pairs)
+      ∙ append_assoc (codes "2EDGE") (number_field 10 tlid) (number_field 3 rtsq ++ flat_map pair_fields pairs)) refl refl
 
   shape_rtsq : number_at field_name.Rtsq (columns 16 18) (shape_line tlid rtsq pairs) ≡ Ok rtsq
   unfolding shape_line
   shape_rtsq =
-      number_there field_name.Rtsq _ (codes "20000" ++ number_field 10 tlid) (flat_map pair_fields pairs) (columns 16 18) 3 rtsq (omega arith) (omega (arith, small)) (omega (arith, small))
-      (append_assoc (codes "20000" ++ number_field 10 tlid) (number_field 3 rtsq) (flat_map pair_fields pairs)) long_second refl
+      number_there field_name.Rtsq _ (codes "2EDGE" ++ number_field 10 tlid) (flat_map pair_fields pairs) (columns 16 18) 3 rtsq (omega arith) (omega (arith, small)) (omega (arith, small))
+      (append_assoc (codes "2EDGE" ++ number_field 10 tlid) (number_field 3 rtsq) (flat_map pair_fields pairs)) long_second refl
 
   pub shape_there : shape_record tiger_2006_shape (shape_line tlid rtsq pairs) ≡ Ok (Shape tlid rtsq pairs)
   unfolding shape_record shape_line
   shape_there =
-      let read = pairs_read 1 (tiger_2006_shape.pairs) pairs (shape_line tlid rtsq pairs) (codes "20000" ++ number_field 10 tlid ++ number_field 3 rtsq) 18 pair_places long_rtsq (sym ten) fine refl in
+      let read = pairs_read 1 (tiger_2006_shape.pairs) pairs (shape_line tlid rtsq pairs) (codes "2EDGE" ++ number_field 10 tlid ++ number_field 3 rtsq) 18 pair_places long_rtsq (sym ten) fine refl in
       rw (shape_tlid, shape_rtsq, is_lt rtsq (2 ^ 16) (omega (arith, small)), read) refl
 
 -- ---- type I
 
 module _ (tlid : ℕ) (left right : Option PolyKey) (fits : tlid < 10 ^ 10) (left_fine : IsSideKey left) (right_fine : IsSideKey right) where
-  long_third : length (codes "I0000" ++ number_field 10 tlid) ≡ 15
-  long_third = longer (codes "I0000") (number_field 10 tlid) 5 10 refl (length_number 10 tlid (omega arith) fits (omega (arith, fits)))
+  long_third : length (codes "IEDGE" ++ number_field 10 tlid) ≡ 15
+  long_third = longer (codes "IEDGE") (number_field 10 tlid) 5 10 refl (length_number 10 tlid (omega arith) fits (omega (arith, fits)))
 
-  long_gap : length (codes "I0000" ++ number_field 10 tlid ++ blanks 25) ≡ 40
-  long_gap = longer (codes "I0000" ++ number_field 10 tlid) (blanks 25) 15 25 long_third (length_blanks 25)
+  long_gap : length (codes "IEDGE" ++ number_field 10 tlid ++ blanks 25) ≡ 40
+  long_gap = longer (codes "IEDGE" ++ number_field 10 tlid) (blanks 25) 15 25 long_third (length_blanks 25)
 
-  long_left : length (codes "I0000" ++ number_field 10 tlid ++ blanks 25 ++ side_fields left) ≡ 55
-  long_left = longer (codes "I0000" ++ number_field 10 tlid ++ blanks 25) (side_fields left) 40 15 long_gap (length_side left left_fine)
+  long_left : length (codes "IEDGE" ++ number_field 10 tlid ++ blanks 25 ++ side_fields left) ≡ 55
+  long_left = longer (codes "IEDGE" ++ number_field 10 tlid ++ blanks 25) (side_fields left) 40 15 long_gap (length_side left left_fine)
 
   pub long_sides : length (sides_line tlid left right) ≡ 70
   unfolding sides_line
-  long_sides = longer (codes "I0000" ++ number_field 10 tlid ++ blanks 25 ++ side_fields left) (side_fields right) 55 15 long_left (length_side right right_fine)
+  long_sides = longer (codes "IEDGE" ++ number_field 10 tlid ++ blanks 25 ++ side_fields left) (side_fields right) 55 15 long_left (length_side right right_fine)
 
   sides_tlid_there : number_at field_name.Tlid (columns 6 15) (sides_line tlid left right) ≡ Ok tlid
   unfolding sides_line
   sides_tlid_there =
-      number_there field_name.Tlid _ (codes "I0000") (blanks 25 ++ (side_fields left ++ side_fields right)) (columns 6 15) 10 tlid (omega arith) fits (omega (arith, fits))
-      (append_assoc (codes "I0000" ++ number_field 10 tlid ++ blanks 25) (side_fields left) (side_fields right)
-      ∙ append_assoc (codes "I0000" ++ number_field 10 tlid) (blanks 25) (side_fields left ++ side_fields right)
-      ∙ append_assoc (codes "I0000") (number_field 10 tlid) (blanks 25 ++ (side_fields left ++ side_fields right))) refl refl
+      number_there field_name.Tlid _ (codes "IEDGE") (blanks 25 ++ (side_fields left ++ side_fields right)) (columns 6 15) 10 tlid (omega arith) fits (omega (arith, fits))
+      (append_assoc (codes "IEDGE" ++ number_field 10 tlid ++ blanks 25) (side_fields left) (side_fields right)
+      ∙ append_assoc (codes "IEDGE" ++ number_field 10 tlid) (blanks 25) (side_fields left ++ side_fields right)
+      ∙ append_assoc (codes "IEDGE") (number_field 10 tlid) (blanks 25 ++ (side_fields left ++ side_fields right))) refl refl
 
   pub sides_there : sides_record (tiger_2006.sides) (sides_line tlid left right) ≡ Ok (Sides tlid None None left right)
   unfolding sides_record sides_line
   sides_there =
-      let l = side_read (sides_line tlid left right) (codes "I0000" ++ number_field 10 tlid ++ blanks 25) (side_fields right) (tiger_2006.sides.left) 40
+      let l = side_read (sides_line tlid left right) (codes "IEDGE" ++ number_field 10 tlid ++ blanks 25) (side_fields right) (tiger_2006.sides.left) 40
       (record { cenid = refl; cenid_wide = refl; polyid = refl; polyid_wide = refl }) long_gap field_name.CenidL field_name.PolyidL left left_fine
-      (append_assoc (codes "I0000" ++ number_field 10 tlid ++ blanks 25) (side_fields left) (side_fields right)) in
-      let r = side_read (sides_line tlid left right) (codes "I0000" ++ number_field 10 tlid ++ blanks 25 ++ side_fields left) [] (tiger_2006.sides.right) 55
+      (append_assoc (codes "IEDGE" ++ number_field 10 tlid ++ blanks 25) (side_fields left) (side_fields right)) in
+      let r = side_read (sides_line tlid left right) (codes "IEDGE" ++ number_field 10 tlid ++ blanks 25 ++ side_fields left) [] (tiger_2006.sides.right) 55
       (record { cenid = refl; cenid_wide = refl; polyid = refl; polyid_wide = refl }) long_left field_name.CenidR field_name.PolyidR right right_fine
-      (ap (λ last. codes "I0000" ++ number_field 10 tlid ++ blanks 25 ++ side_fields left ++ last) (sym (append-nil (side_fields right)))) in
+      (ap (λ last. codes "IEDGE" ++ number_field 10 tlid ++ blanks 25 ++ side_fields left ++ last) (sym (append-nil (side_fields right)))) in
       rw (sides_tlid_there, l, r) refl
 
 -- ---- type P
 
 module _ (key : PolyKey) (point : Point) (fine : IsKey key) (placed : IsPlaced point) where
-  long_five : length (codes "P0000" ++ blanks 5) ≡ 10
-  long_five = longer (codes "P0000") (blanks 5) 5 5 refl (length_blanks 5)
+  long_five : length (codes "PEDGE" ++ blanks 5) ≡ 10
+  long_five = longer (codes "PEDGE") (blanks 5) 5 5 refl (length_blanks 5)
 
-  long_key : length (codes "P0000" ++ blanks 5 ++ key_fields key) ≡ 25
-  long_key = longer (codes "P0000" ++ blanks 5) (key_fields key) 10 15 long_five (length_key key fine)
+  long_key : length (codes "PEDGE" ++ blanks 5 ++ key_fields key) ≡ 25
+  long_key = longer (codes "PEDGE" ++ blanks 5) (key_fields key) 10 15 long_five (length_key key fine)
 
   pub long_point : length (point_line key point) ≡ 44
   unfolding point_line
-  long_point = longer (codes "P0000" ++ blanks 5 ++ key_fields key) (point_fields point) 25 19 long_key (length_point point placed)
+  long_point = longer (codes "PEDGE" ++ blanks 5 ++ key_fields key) (point_fields point) 25 19 long_key (length_point point placed)
 
   pub point_there : poly_point_record tiger_2006_poly_point (point_line key point) ≡ Ok (PolyPoint key point)
   unfolding poly_point_record point_line
   point_there =
-      let k = key_read (point_line key point) (codes "P0000" ++ blanks 5) (point_fields point) (tiger_2006_poly_point.key) 10
+      let k = key_read (point_line key point) (codes "PEDGE" ++ blanks 5) (point_fields point) (tiger_2006_poly_point.key) 10
       (record { cenid = refl; cenid_wide = refl; polyid = refl; polyid_wide = refl }) long_five key fine
-      (append_assoc (codes "P0000" ++ blanks 5) (key_fields key) (point_fields point)) field_name.Cenid field_name.Polyid in
-      let p = point_read (point_line key point) (codes "P0000" ++ blanks 5 ++ key_fields key) [] (tiger_2006_poly_point.point) point 25
+      (append_assoc (codes "PEDGE" ++ blanks 5) (key_fields key) (point_fields point)) field_name.Cenid field_name.Polyid in
+      let p = point_read (point_line key point) (codes "PEDGE" ++ blanks 5 ++ key_fields key) [] (tiger_2006_poly_point.point) point 25
       (record { long = refl; long_wide = refl; lat = refl; lat_wide = refl }) long_key placed
-      (ap (λ last. codes "P0000" ++ blanks 5 ++ key_fields key ++ last) (sym (append-nil (point_fields point)))) field_name.PolyLong field_name.PolyLat in
+      (ap (λ last. codes "PEDGE" ++ blanks 5 ++ key_fields key ++ last) (sym (append-nil (point_fields point)))) field_name.PolyLong field_name.PolyLat in
       rw (k, p) refl
 
 -- ---- all

@@ -1,6 +1,6 @@
 -- The text of records has these records.
-use Rattle.std.proofs.Common.{◌≡◌, ◌≢◌, ℕ, zero, suc, ◌+◌, ◌-◌, ◌^◌, ◌<◌, ◌≤◌, ◌==◌, ◌&&◌, Bool, true, false, cond, List, [], ◌∷◌, ◌++◌, length, map, replicate, get_or, Option, Some, None, inl, refl, sym, ap, ◌∙◌, arith, codes, decimal, append_assoc}
-use Rattle.std.specs.List.{list_all, flat_map, enumerate_from}
+use Rattle.std.proofs.Common.{◌≡◌, ℕ, zero, suc, ◌+◌, ◌-◌, ◌^◌, ◌<◌, ◌≤◌, ◌==◌, ◌&&◌, Bool, true, false, cond, List, [], ◌∷◌, ◌++◌, length, map, replicate, get_or, Option, Some, None, inl, refl, ap, ◌∙◌, arith, codes, decimal, append_assoc}
+use Rattle.std.specs.List.{list_all, flat_map}
 use Rattle.std.specs.Char.{is_ascii_digit}
 use Rattle.std.specs.Prelude.{unsigned_abs, nat_le, nat_lt, pos, negsuc, ℤ}
 use Rattle.std.proofs.lemmas.Bool.Decides.{nat_tests}
@@ -15,11 +15,10 @@ use Rattle.tl_record.specs.Layout.{tiger_2006}
 use Rattle.tl_record.specs.Limits.{most_lines, most_line_bytes}
 use Rattle.tl_record.specs.Lines.{line_feed, line_feeds, raw_lines, joined_lines, HoldNoLineFeed, content}
 use Rattle.tl_record.specs.Fields.{is_cenid_byte}
-use Rattle.tl_record.specs.Judgement.{judgement, content_judgement}
+use Rattle.tl_record.specs.Judgement.{judgement}
 use Rattle.tl_record.specs.Records.{Records, records_of, records_judged, judgements}
 use Rattle.tl_record.proofs.TextLemmas.{only_raw_lines}
 use Rattle.tl_record.proofs.RecordLemmas.{records_read}
-use Rattle.tl_cert_output.specs.Writing.{line_of}
 use Rattle.tigertopo_border.specs.Spelling.{filled, blanks, number_field, coordinate_field, point_fields, pair_fields, key_fields, side_fields, chain_line, shape_line, sides_line, point_line, record_line, records_text}
 use Rattle.tigertopo_border.specs.Spellable.{IsPlaced, IsPair, ArePairs, IsKey, IsSideKey, IsSpellable}
 use Rattle.tigertopo_border.proofs.FieldLemmas.{all_digits}
@@ -101,20 +100,20 @@ tlid_above n fits = number_above 10 n (omega (arith, fits))
 pub line_above : (r : Record) → IsSpellable r → AreAbove (record_line r)
 unfolding chain_line shape_line sides_line point_line
 line_above (Chain tlid from to) fine =
-    both (codes "10000" ++ number_field 10 tlid ++ blanks 175 ++ point_fields from) (point_fields to)
-    (both (codes "10000" ++ number_field 10 tlid ++ blanks 175) (point_fields from)
-    (both (codes "10000" ++ number_field 10 tlid) (blanks 175) (both (codes "10000") (number_field 10 tlid) refl (tlid_above tlid fine.0)) (blanks_above 175)) (point_above from fine.1)) (point_above to fine.2)
+    both (codes "1EDGE" ++ number_field 10 tlid ++ blanks 175 ++ point_fields from) (point_fields to)
+    (both (codes "1EDGE" ++ number_field 10 tlid ++ blanks 175) (point_fields from)
+    (both (codes "1EDGE" ++ number_field 10 tlid) (blanks 175) (both (codes "1EDGE") (number_field 10 tlid) refl (tlid_above tlid fine.0)) (blanks_above 175)) (point_above from fine.1)) (point_above to fine.2)
 line_above (Shape tlid rtsq pairs) fine =
     let small = fine.1 in
-    both (codes "20000" ++ number_field 10 tlid ++ number_field 3 rtsq) (flat_map pair_fields pairs)
-    (both (codes "20000" ++ number_field 10 tlid) (number_field 3 rtsq) (both (codes "20000") (number_field 10 tlid) refl (tlid_above tlid fine.0)) (number_above 3 rtsq (omega (arith, small)))) (pairs_above pairs fine.3)
+    both (codes "2EDGE" ++ number_field 10 tlid ++ number_field 3 rtsq) (flat_map pair_fields pairs)
+    (both (codes "2EDGE" ++ number_field 10 tlid) (number_field 3 rtsq) (both (codes "2EDGE") (number_field 10 tlid) refl (tlid_above tlid fine.0)) (number_above 3 rtsq (omega (arith, small)))) (pairs_above pairs fine.3)
 line_above (Sides tlid start end left right) fine =
-    both (codes "I0000" ++ number_field 10 tlid ++ blanks 25 ++ side_fields left) (side_fields right)
-    (both (codes "I0000" ++ number_field 10 tlid ++ blanks 25) (side_fields left)
-    (both (codes "I0000" ++ number_field 10 tlid) (blanks 25) (both (codes "I0000") (number_field 10 tlid) refl (tlid_above tlid fine.0)) (blanks_above 25)) (side_above left fine.3)) (side_above right fine.4)
+    both (codes "IEDGE" ++ number_field 10 tlid ++ blanks 25 ++ side_fields left) (side_fields right)
+    (both (codes "IEDGE" ++ number_field 10 tlid ++ blanks 25) (side_fields left)
+    (both (codes "IEDGE" ++ number_field 10 tlid) (blanks 25) (both (codes "IEDGE") (number_field 10 tlid) refl (tlid_above tlid fine.0)) (blanks_above 25)) (side_above left fine.3)) (side_above right fine.4)
 line_above (PolyPoint key point) fine =
-    both (codes "P0000" ++ blanks 5 ++ key_fields key) (point_fields point)
-    (both (codes "P0000" ++ blanks 5) (key_fields key) (both (codes "P0000") (blanks 5) refl (blanks_above 5)) (key_above key fine.0)) (point_above point fine.1)
+    both (codes "PEDGE" ++ blanks 5 ++ key_fields key) (point_fields point)
+    (both (codes "PEDGE" ++ blanks 5) (key_fields key) (both (codes "PEDGE") (blanks 5) refl (blanks_above 5)) (key_above key fine.0)) (point_above point fine.1)
 line_above (Landmark land point) fine = absurd fine
 line_above (AreaLink key land) fine = absurd fine
 

@@ -49,28 +49,28 @@ side_fields (Some key) = key_fields key
 -- type 1: record type and VERSION, TLID, columns 16 to 190, and both ends
 unfoldable pub chain_line : (tlid : ℕ) → (from to : Point) → List ℕ
 chain_line tlid from to =
-    codes "10000" ++ number_field 10 tlid
+    codes "1EDGE" ++ number_field 10 tlid
     ++ blanks 175
     ++ point_fields from ++ point_fields to
 
 -- type 2: record type and VERSION, TLID, RTSQ, and the shape pairs
 unfoldable pub shape_line : (tlid rtsq : ℕ) → List (Option Point) → List ℕ
 shape_line tlid rtsq pairs =
-    codes "20000" ++ number_field 10 tlid
+    codes "2EDGE" ++ number_field 10 tlid
     ++ number_field 3 rtsq
     ++ flat_map pair_fields pairs
 
 -- type I: record type and VERSION, TLID, columns 16 to 40, and both sides
 unfoldable pub sides_line : (tlid : ℕ) → (left right : Option PolyKey) → List ℕ
 sides_line tlid left right =
-    codes "I0000" ++ number_field 10 tlid
+    codes "IEDGE" ++ number_field 10 tlid
     ++ blanks 25
     ++ side_fields left ++ side_fields right
 
 -- type P: record type and VERSION, columns 6 to 10, the key, and the point
 unfoldable pub point_line : PolyKey → Point → List ℕ
 point_line key point =
-    codes "P0000" ++ blanks 5
+    codes "PEDGE" ++ blanks 5
     ++ key_fields key
     ++ point_fields point
 

@@ -23,7 +23,7 @@ pub fn print_chain_line<S: Sink>(
 )
     ensures { Prints S.contents S.failure_count (out.old, printer.old) (out.new, printer.new) (line_of (chain_line tlid from to)) }
 {
-    printer.add(b"10000", out);
+    printer.add(b"1EDGE", out);
     print_number(10, tlid, printer, out);
     print_blanks(175, printer, out);
     print_point(from, printer, out);
@@ -44,7 +44,7 @@ pub fn print_shape_line<S: Sink>(
     ensures { Prints S.contents S.failure_count (out.old, printer.old) (out.new, printer.new)
         (line_of (shape_line tlid rtsq (pairs_from (inner points.now) first 10))) }
 {
-    printer.add(b"20000", out);
+    printer.add(b"2EDGE", out);
     print_number(10, tlid, printer, out);
     print_number(3, rtsq, printer, out);
     print_pairs(points, first, 10, printer, out);
@@ -90,7 +90,7 @@ pub fn print_sides_line<S: Sink>(
 )
     ensures { Prints S.contents S.failure_count (out.old, printer.old) (out.new, printer.new) (line_of (sides_line tlid left right)) }
 {
-    printer.add(b"I0000", out);
+    printer.add(b"IEDGE", out);
     print_number(10, tlid, printer, out);
     print_blanks(25, printer, out);
     print_side(left, printer, out);
@@ -102,7 +102,7 @@ pub fn print_sides_line<S: Sink>(
 pub fn print_point_line<S: Sink>(key: PolyKey, point: Point, printer: &mut Printer, out: &mut S)
     ensures { Prints S.contents S.failure_count (out.old, printer.old) (out.new, printer.new) (line_of (point_line key point)) }
 {
-    printer.add(b"P0000", out);
+    printer.add(b"PEDGE", out);
     print_blanks(5, printer, out);
     print_key(key, printer, out);
     print_point(point, printer, out);

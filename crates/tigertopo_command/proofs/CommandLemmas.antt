@@ -39,7 +39,7 @@ makes_none One Lines None plain = refl
 makes_none One Lines (Some name) plain = absurd plain
 makes_none One Records made plain = absurd plain
 makes_none One Objects made plain = absurd plain
-makes_none (All most) form made plain = absurd plain
+makes_none (All most skips) form made plain = absurd plain
 
 -- a file that may be made beside what is read
 pub may_make : (asked : Asked) (names : List (List ℕ)) (under : Under) → IsRoomWith under (made_of asked) (inputs_with asked names) (kind_of asked) Free → MayMake under (made_of asked) (names_with asked names) (kind_of asked)
@@ -70,7 +70,7 @@ is_one (Audit One Lines None) test = tt
 is_one (Audit One Lines (Some name)) test = absurd (cc)
 is_one (Audit One Records made) test = absurd (cc)
 is_one (Audit One Objects made) test = absurd (cc)
-is_one (Audit (All most) form made) test = absurd (cc)
+is_one (Audit (All most skips) form made) test = absurd (cc)
 is_one (Build made) test = tt
 is_one (Check cert budget) test = tt
 is_one (Convert cert made) test = tt
@@ -86,7 +86,7 @@ is_none (Audit One Lines None) test = absurd (cc)
 is_none (Audit One Lines (Some name)) test = λ no. no
 is_none (Audit One Records made) test = λ no. no
 is_none (Audit One Objects made) test = λ no. no
-is_none (Audit (All most) form made) test = λ no. no
+is_none (Audit (All most skips) form made) test = λ no. no
 is_none (Build made) test = absurd (cc)
 is_none (Check cert budget) test = absurd (cc)
 is_none (Convert cert made) test = absurd (cc)

@@ -1,7 +1,8 @@
 //! The faults of a county as GeoJSON, to be laid over the map that they speak of.
 //!
 //! [`print_faults`] writes one FeatureCollection of RFC 7946: a point for each fault, with all that the fault names and the
-//! records that it speaks of, and behind them the line of each chain that a fault names. It says exactly which bytes are written.
+//! records that it speaks of, behind them the line of each chain that a fault names, and last each refused line. It says exactly which
+//! bytes are written.
 //! As a [`FaultsText`] the same can be handed to whoever makes a file of it.
 
 mod chains;

@@ -9,5 +9,5 @@ mod fault;
 mod place;
 mod text;
 
-pub use end::{refusals_end, sound_object};
+pub use end::{refusals_end, skipped_end, sound_object};
 pub use text::FaultObjects;

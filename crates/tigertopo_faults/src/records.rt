@@ -14,8 +14,10 @@ mod subject;
 mod walk;
 mod wanted;
 
+pub(crate) use kept::KeptLines;
 pub use line::{Part, RecordLine, SegmentEnds};
 pub use lines::RecordLines;
-pub use read::record_lines;
+pub(crate) use read::RecordsIn;
 pub use segment::segment_within;
 pub use subject::{Subject, Subjects, subjects_of, tlid_of};
+pub(crate) use wanted::wanted_subjects;

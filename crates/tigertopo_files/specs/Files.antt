@@ -43,7 +43,7 @@ abbrev pub beginning_of : FileKind → List ℕ
 beginning_of Certificate = codes "TIGERCERT "
 beginning_of Collection = codes "{\"type\":\"FeatureCollection\",\"name\":\"tigertopo\""
 beginning_of Picture = codes "<svg xmlns=\"http://www.w3.org/2000/svg\" class=\"tigertopo\""
-beginning_of Records = codes "10000"
+beginning_of Records = codes "1EDGE"
 
 -- may a file of these bytes be written over by one of the kind: there are none, or they begin as those of the kind do
 abbrev pub may_go : FileKind → List ℕ → Bool

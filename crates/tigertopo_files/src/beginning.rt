@@ -12,7 +12,7 @@ pub enum FileKind {
     Collection,
     /// A picture, in SVG.
     Picture,
-    /// Records, of a map's border: their VERSION is 0000, which no county's are.
+    /// Records, of a map's border: their VERSION is EDGE, which no county has, since those are numbers.
     Records,
 }
 
@@ -28,7 +28,7 @@ pub fn first_bytes<'a>(kind: FileKind) -> &'a [u8]
         FileKind::Certificate => b"TIGERCERT ",
         FileKind::Collection => b"{\"type\":\"FeatureCollection\",\"name\":\"tigertopo\"",
         FileKind::Picture => b"<svg xmlns=\"http://www.w3.org/2000/svg\" class=\"tigertopo\"",
-        FileKind::Records => b"10000",
+        FileKind::Records => b"1EDGE",
     }
 }
 

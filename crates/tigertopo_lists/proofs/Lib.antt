@@ -1,2 +1,3 @@
 -- Lemmas on lists.
 pub mod ListLemmas
+pub mod LeftLemmas

@@ -1,6 +1,6 @@
 -- What is answered of what was found.
-use Rattle.std.proofs.Common.{◌≡◌, ◌⊎◌, inl, inr, ℕ, zero, suc, ◌+◌, ◌≤◌, take, Bool, true, List, [], ◌∷◌, ◌++◌, map, Some, None, Option, Result, Ok, Err, refl, sym, ap, subst, ◌∙◌, arith, append-nil}
-use Rattle.std.specs.Prelude.{slice_get, Vec, IfOk, IfErr, codes, length, false}
+use Rattle.std.proofs.Common.{◌≡◌, ◌⊎◌, inl, inr, ℕ, zero, suc, ◌+◌, ◌≤◌, take, Bool, true, ◌||◌, List, [], ◌∷◌, ◌++◌, map, Some, None, Option, Result, Ok, Err, refl, sym, ap, subst, ◌∙◌, arith, append-nil}
+use Rattle.std.specs.Prelude.{slice_get, Vec, IfErr, codes, is_some, length, false}
 use Rattle.std.specs.List.{filter_map, enumerate_from}
 use Rattle.std.specs.Global.{Global}
 use Rattle.std.specs.Option.{IfSome}
@@ -25,7 +25,7 @@ use Rattle.tigertopo_files.specs.Files.{Under}
 use Rattle.tigertopo_files.specs.Log.{Log, LogsAgain}
 use Rattle.tigertopo_files.specs.World.{World, Does, Failed, Keeps, MayStop, Made, Unmade}
 use Rattle.tigertopo_where.specs.Hint.Again.{FailsAgain, SomeUnread}
-use Rattle.tigertopo_files.proofs.WorldLemmas.{all_kept, none_made, unmade_from, may_stop, does_so, does_then}
+use Rattle.tigertopo_files.proofs.WorldLemmas.{all_kept, none_made, may_stop, does_then}
 use Rattle.tigertopo_words.specs.declared.budget.Told.{Told}
 use Rattle.tigertopo_words.specs.declared.budget.Told.TheVariants.{One, All}
 use Rattle.tigertopo_words.specs.declared.form.Form.{Form}
@@ -33,9 +33,10 @@ use Rattle.tigertopo_words.specs.declared.form.Form.TheVariants.{Lines as FormLi
 use Rattle.tl_cert_output.specs.declared.stop.Stop.{Stop}
 use Rattle.tl_cert_output.specs.declared.stop.Stop.TheVariants.{Record, Memory, Device, Budget}
 use Rattle.tl_cert_output.specs.Stops.{StopsFor}
-use Rattle.tl_cert_output.proofs.StopLemmas.{stops_for}
 use Rattle.tl_list_text.specs.Texts.{lines, printed, told_refusal, count_line}
-use Rattle.tigertopo_where.specs.Hint.Placed.{placed_text, refused_text, RiseFrom}
+use Rattle.tigertopo_where.specs.Hint.Placed.{placed_text, refused_text, RiseFrom, TellsPlaces}
+use Rattle.tigertopo_where.specs.declared.hint.form.RefusedForm.TheVariants.{Features as RefusedFeatures}
+use Rattle.tigertopo_where.specs.declared.hint.form.RefusedForm.TheVariants.{Lines as RefusedLines}
 use Rattle.tigertopo_where.specs.Hint.Telling.{HaveTexts}
 use Rattle.tl_check_verdict.specs.declared.fault.MapFault.{MapFault}
 use Rattle.tl_check_verdict.specs.declared.verdict.Report.{Report}
@@ -43,6 +44,9 @@ use Rattle.tl_check_verdict.proofs.OneMap.{weaker}
 use Rattle.tl_list_text.specs.declared.listing.Listing.TheVariants.{Sound, Refused, Faults}
 use Rattle.tl_list_text.specs.Listings.{IsListingOf}
 use Rattle.tl_list.specs.Findings.{AreFindingsOf}
+use Rattle.tigertopo_where.specs.Left.{left_from, left_of, numbers_of}
+use Rattle.tigertopo_lists.specs.declared.left.LeftFaults.{LeftFaults}
+use Rattle.tigertopo_lists.specs.declared.skipping.LeftTexts.{LeftTexts}
 use Rattle.tl_list.proofs.Listed.{sound_alone}
 use Rattle.tigertopo_faults.specs.Records.Keeping.{held}
 use Rattle.tigertopo_faults.specs.declared.lines.again.Spoken.{Spoken}
@@ -52,8 +56,10 @@ use Rattle.tigertopo_outcome.specs.Records.{StopsNever}
 use Rattle.tigertopo_outcome.specs.declared.said.Answer.{Answer}
 use Rattle.tigertopo_lists.specs.declared.listed.Listed.{Listed}
 use Rattle.tigertopo_lists.specs.declared.listed.Listed.TheVariants.{Listing, Lines}
-use Rattle.tigertopo_lists.specs.Listed.{Asked, ListAnswers, IsSoundList, IsFaultList, StopsList, StopsAgain, has_places, listed_text, most_of, told_text, featured, reads_again, stops_refused}
-use Rattle.tigertopo_lists.specs.Keeping.{ArePlaced, IsPrepared, IsRefusedList, first_stop, faults_answer}
+use Rattle.tigertopo_lists.specs.Listed.{Asked, ListAnswers, IsSoundList, IsFaultList, StopsList, StopsAgain, has_places, listed_text, most_of, told_text, featured, may_read_again, reads_again, refused_form, is_skipping, stops_refused}
+use Rattle.tigertopo_lists.specs.Listed.{AreLeft, AreRefused}
+use Rattle.tigertopo_lists.specs.Listed.{refused_text as refused_collection}
+use Rattle.tigertopo_lists.specs.Keeping.{AreFeatures, ArePlaced, ArePrepared, HasLeft, IsLeft, IsLeftPrepared, IsPrepared, IsRefusedList, first_stop, faults_answer}
 
 -- ---- what is done with files
 
@@ -86,14 +92,28 @@ module _ {T : Type 0} (w : World) (same : w.after ≡ w.before) (logs : w.knows 
   does_not failed stop why device (Ok t) is = absurd is
   does_not failed stop why device (Err other) is = subst (λ s. Does {T = T} w [] made P S (Err s)) (sym is) (stops_still stop (may_stop failed S stop why) (λ e. device (subst (StopsFor failed) e why)))
 
--- files were read again for the records, and that failed
-fails_again : (w : World) (asked : Asked) → FailsAgain w asked.names → reads_again asked.form asked.made ≡ true → Failed w [] ⊎ StopsAgain w asked Device
+or_right : (a b : Bool) → b ≡ true → (a || b) ≡ true
+or_right true b is = refl
+or_right false b is = is
+
+or_left : (a b : Bool) → a ≡ true → (a || b) ≡ true
+or_left true b is = refl
+or_left false b is = absurd (cc is)
+
+pub may_again : (asked : Asked) → reads_again asked.form asked.made ≡ true → may_read_again asked ≡ true
+may_again asked = or_right (is_skipping asked.told) (reads_again asked.form asked.made)
+
+pub may_skip : (asked : Asked) → is_skipping asked.told ≡ true → may_read_again asked ≡ true
+may_skip asked = or_left (is_skipping asked.told) (reads_again asked.form asked.made)
+
+-- files were read again, and that failed
+fails_again : (w : World) (asked : Asked) → FailsAgain w asked.names → may_read_again asked ≡ true → Failed w [] ⊎ StopsAgain w asked Device
 fails_again w asked (inl (inl missing)) again = inr (again, inl missing)
 fails_again w asked (inl (inr failed)) again = inl (inr failed)
 fails_again w asked (inr endless) again = inr (again, inr endless)
 
 module _ (A : Type 0) {T : Type 0} (w : World) (asked : Asked) (same : w.after ≡ w.before) (P : T → Type 0) where
-  stops_behind : (stop : Stop) → StopsFor ((reads_again asked.form asked.made ≡ true) × FailsAgain w asked.names) stop → (w.knows ≡ true → LogsAgain {T = A} w.log w.logged (Err stop))
+  stops_behind : (stop : Stop) → StopsFor ((may_read_again asked ≡ true) × FailsAgain w asked.names) stop → (w.knows ≡ true → LogsAgain {T = A} w.log w.logged (Err stop))
       → Does {T = T} w [] asked.made P (StopsAgain w asked) (Err stop)
   stops_behind (Record line cause) why logs = absurd why
   stops_behind Memory why logs = stops_still w same logs asked.made P (StopsAgain w asked) Memory tt (λ e. absurd (cc))
@@ -107,7 +127,7 @@ module _ (A : Type 0) {T : Type 0} (w : World) (asked : Asked) (same : w.after �
   }
   stops_behind Budget why logs = absurd why
 
-  pub does_not_read_again : (stop : Stop) → StopsFor ((reads_again asked.form asked.made ≡ true) × FailsAgain w asked.names) stop → (w.knows ≡ true → LogsAgain {T = A} w.log w.logged (Err stop))
+  pub does_not_read_again : (stop : Stop) → StopsFor ((may_read_again asked ≡ true) × FailsAgain w asked.names) stop → (w.knows ≡ true → LogsAgain {T = A} w.log w.logged (Err stop))
       → (r : Result T Stop) → IsErrAnd r (λ told. told ≡ stop) → Does w [] asked.made P (StopsAgain w asked) r
   does_not_read_again stop why logs (Ok t) is = absurd is
   does_not_read_again stop why logs (Err other) is = subst (λ s. Does {T = T} w [] asked.made P (StopsAgain w asked) (Err s)) (sym is) (stops_behind stop why logs)
@@ -129,9 +149,13 @@ made_behind u v after l m q k asked same logs text r makes =
 
 -- ---- what is answered of what was found
 
-reads_where_placed : (form : Form) (made : Option (List ℕ)) → has_places form ≡ true → reads_again form made ≡ true
+pub reads_where_placed : (form : Form) (made : Option (List ℕ)) → has_places form ≡ true → reads_again form made ≡ true
 reads_where_placed form None asks = asks
 reads_where_placed form (Some name) asks = refl
+
+pub reads_where_made : (form : Form) (made : Option (List ℕ)) → is_some made ≡ true → reads_again form made ≡ true
+reads_where_made form None asks = absurd (cc asks)
+reads_where_made form (Some name) asks = refl
 
 -- each refused line comes behind the one before, and the first is of this number or a greater one
 abbrev RiseUp : ℕ → List (ℕ × Cause) → Type 0
@@ -168,11 +192,37 @@ rise_printed : (most : Option ℕ) (n : ℕ) (list : List Refusal) → RiseFrom 
 rise_printed None n list rise = rise
 rise_printed (Some count) n list rise = rise_taken count n list rise
 
+rise_featured : (told : Told) (n : ℕ) (list : List Refusal) → RiseFrom n list → RiseFrom n (featured told list)
+rise_featured One n list rise = rise_taken 1 n list rise
+rise_featured (All most skips) n list rise = rise
+
 -- with no places they are printed as they are listed
-pub plain_lines_are : (refusals : List Refusal) → placed_text FormLines refusals [] ≡ lines told_refusal refusals
+pub plain_lines_are : (refusals : List Refusal) → placed_text RefusedLines refusals [] ≡ lines told_refusal refusals
 plain_lines_are [] = refl
 plain_lines_are (refusal ∷ rest) =
-    ap (λ t. t ++ placed_text FormLines rest []) (append-nil (refused_text FormLines refusal)) ∙ ap (λ t. refused_text FormLines refusal ++ t) (plain_lines_are rest)
+    ap (λ t. t ++ placed_text RefusedLines rest []) (append-nil (refused_text RefusedLines refusal)) ∙ ap (λ t. refused_text RefusedLines refusal ++ t) (plain_lines_are rest)
+
+-- the file that is made of refused lines has the features of them, each with where it stands
+made_of : (w : World) (made : Option (List ℕ)) (layout : Layout) (under : Under) (names : List (List ℕ)) (list : List Refusal) (text : List ℕ) (collection : List ℕ → List ℕ)
+    → AreFeatures made layout under names list text → (told : List (List ℕ)) × ((is_some made ≡ true → TellsPlaces RefusedFeatures layout under names list told)
+    × (Made w made (collection text) → Made w made (collection (placed_text RefusedFeatures list told))))
+made_of w None layout under names list text collection are = ([], (λ asks. absurd (cc asks), λ made. tt))
+made_of w (Some name) layout under names list text collection are =
+    let placed = are refl in
+    (placed.0, (λ asks. placed.2, λ made. subst (λ (t : List ℕ). Made w (Some name) (collection t)) placed.1 made))
+
+-- what is left without refused lines, by the lines that are listed
+numbers_same : (list : List Refusal) → numbers_of list ≡ map (λ (refusal : ℕ × Cause). refusal.0) (map pair_of list)
+numbers_same [] = refl
+numbers_same (refusal ∷ rest) = ap (λ (numbers : List ℕ). refusal.line ∷ numbers) (numbers_same rest)
+
+left_same : (layout : Layout) (text : List ℕ) (list : List Refusal) → map pair_of list ≡ refusals_of layout text → left_from 0 (numbers_of list) text ≡ left_of layout text
+left_same layout text list is =
+    ap (λ (numbers : List ℕ). left_from 0 numbers text) (numbers_same list ∙ ap (λ (refusals : List (ℕ × Cause)). map (λ (refusal : ℕ × Cause). refusal.0) refusals) is)
+
+if_both : {A : Type 0} (P Q : A → Type 0) (known : Option A) → IfSome known P → IfSome known Q → IfSome known (λ t. P t × Q t)
+if_both P Q None p q = tt
+if_both P Q (Some t) p q = (p, q)
 
 first_is : (layout : Layout) (text : List ℕ) → slice_get (refusals_of layout text) 0 ≡ (records_of layout text).refusal
 first_is layout text = first_of_judged (judgements layout 0 (raw_lines text))
@@ -253,32 +303,71 @@ module _ (options : Options) (known : Option (List ℕ)) (asked : Asked) where
         → Does {T = Answer Listed} w [] asked.made (λ answer. ListAnswers w options known asked answer.status (listed_text answer.text)) (StopsList w options known asked) (Err (first_stop list.items))
     first_refused same logs one = stops_still w same logs asked.made _ (StopsList w options known asked) (first_stop list.items) (first_stops list.items one refl) (no_device list.items)
 
-    refused_answer : (same : w.after ≡ w.before) → stops_refused asked.told asked.form ≡ false → (answer : Answer Listed)
-        → IsRefusedList (layout_with options) w.before asked.names asked.form (most_of asked.told) list answer → ListAnswers w options known asked answer.status (listed_text answer.text)
-    refused_answer same all answer so = inr (inr (record {
-      told_all = all;
-      list = list;
-      are_all = are;
-      unmade = none_made w asked.made same;
-      is = so.is;
-      told = so.told;
-      places = IfSome_then known are (λ text lists asks texts have. so.stand asks texts have (rise_printed (most_of asked.told) 0 list.items (rise_listed (layout_with options) text list.items lists.1)));
-      plain = so.plain;
-      lines = so.lines;
-    }))
+    -- they are told with where they stand
+    told_where : (features told : List (List ℕ)) → (is_some asked.made ≡ true → TellsPlaces RefusedFeatures (layout_with options) w.before asked.names (featured asked.told list.items) features)
+        → (has_places asked.form ≡ true → TellsPlaces (refused_form asked.form) (layout_with options) w.before asked.names (printed (most_of asked.told) list.items) told)
+        → (has_places asked.form ≡ false → told ≡ []) → AreRefused w options known asked list.items features told
+    told_where features told stand places plain = record {
+      stand = IfSome_then known are (λ text lists asks texts have. stand asks texts have (rise_featured asked.told 0 list.items (rise_listed (layout_with options) text list.items lists.1)));
+      places = IfSome_then known are (λ text lists asks texts have. places asks texts have (rise_printed (most_of asked.told) 0 list.items (rise_listed (layout_with options) text list.items lists.1)));
+      plain = plain;
+    }
 
     -- or all are answered
-    pub refused_answers : (same : w.after ≡ w.before) → stops_refused asked.told asked.form ≡ false → (r : Result (Answer Listed) Stop)
-        → IfOk r (IsRefusedList (layout_with options) w.before asked.names asked.form (most_of asked.told) list)
-        → IfErr r (StopsFor ((has_places asked.form ≡ true) × FailsAgain w asked.names)) → (w.knows ≡ true → LogsAgain w.log w.logged r)
-        → Does w [] asked.made (λ answer. ListAnswers w options known asked answer.status (listed_text answer.text)) (StopsList w options known asked) r
-    refused_answers same all (Ok answer) so stops logs = does_nothing w same logs asked.made _ (StopsList w options known asked) answer (refused_answer same all answer so)
-    refused_answers same all (Err stop) so stops logs =
-        does_so w [] asked.made _ _ (StopsAgain w asked) (StopsList w options known asked) (λ t is. is) (fault_stops w) (Err stop)
-        (stops_behind (Answer Listed) w asked same (λ answer. ListAnswers w options known asked answer.status (listed_text answer.text)) stop
-        (stops_for _ _ stop (λ why. (reads_where_placed asked.form asked.made why.0, why.1)) stops) logs)
+    pub refused_answers : stops_refused asked.told asked.form ≡ false → IsLeft options (is_skipping asked.told) known (numbers_of list.items) None → (prepared : Answer Listed × Vec ℕ Global) → ArePrepared (layout_with options) w.before asked list prepared
+        → Made w asked.made (refused_collection asked.names prepared.1.items) → ListAnswers w options known asked prepared.0.status (listed_text prepared.0.text)
+    refused_answers all nothing prepared so made =
+        let drawn = made_of w asked.made (layout_with options) w.before asked.names (featured asked.told list.items) prepared.1.items (refused_collection asked.names) so.features in
+        inr (inr (inl (record {
+          told_all = all;
+          list = list;
+          are_all = are;
+          alone = λ skipped. IfSome_then known (if_both (λ text. IsListingOf options text (Refused list)) (λ text. HasLeft options (left_from 0 (numbers_of list.items) text) None) known are (nothing skipped)) (λ text both.
+              (both.1.0, subst (λ (left : List ℕ). IsListingOf options left (Refused both.1.0)) (left_same (layout_with options) text list.items both.0.1) both.1.1));
+          features = drawn.0;
+          told = so.answer.told;
+          refused = told_where drawn.0 so.answer.told drawn.1.0 so.answer.stand so.answer.plain;
+          kept = drawn.1.1 made;
+          is = so.answer.is;
+          lines = so.answer.lines;
+        })))
+
+    -- or they are skipped
+    pub left_answers : (left : LeftFaults) → IsLeft options (is_skipping asked.told) known (numbers_of list.items) (Some left) → (texts : LeftTexts)
+        → IsLeftPrepared (layout_with options) w.before asked list.items left texts
+        → Made w asked.made (faults_text asked.names texts.spoken.counts.items left.map (held texts.spoken.lines) texts.spoken.places.items (featured asked.told left.faults.items) left.touched texts.features.items)
+        → ListAnswers w options known asked 3 texts.text.items
+    left_answers left found texts so made =
+        let drawn = made_of w asked.made (layout_with options) w.before asked.names (featured asked.told list.items) texts.features.items
+        (faults_text asked.names texts.spoken.counts.items left.map (held texts.spoken.lines) texts.spoken.places.items (featured asked.told left.faults.items) left.touched) so.features in
+        inr (inr (inr (record {
+          skipped = found.0;
+          list = list;
+          are_all = are;
+          map = left.map;
+          left = record { faults = left.faults; touched = left.touched };
+          are = IfSome_then known (if_both (λ text. IsListingOf options text (Refused list)) (λ text. HasLeft options (left_from 0 (numbers_of list.items) text) (Some left)) known are found.1) (λ text both.
+              subst (λ (rest : List ℕ). AreLeft options rest left.map (record { faults = left.faults; touched = left.touched })) (left_same (layout_with options) text list.items both.0.1) both.1);
+          spoken = texts.spoken;
+          speak = so.speak;
+          features = drawn.0;
+          told = so.told;
+          refused = told_where drawn.0 so.told drawn.1.0 so.stand so.plain;
+          kept = drawn.1.1 made;
+          is = refl;
+          lines = so.lines;
+        })))
 
 -- ---- the same behind reading
+
+refused_from : (u v after : Under) (l m q : Log) (k : Bool) (options : Options) (known : Option (List ℕ)) (asked : Asked) (list : List Refusal) (features told : List (List ℕ)) → v ≡ u
+    → AreRefused (record { before = v; after = after; log = m; logged = q; knows = k }) options known asked list features told
+    → AreRefused (record { before = u; after = after; log = l; logged = q; knows = k }) options known asked list features told
+refused_from u v after l m q k options known asked list features told same refused = record {
+  stand = IfSome_then known refused.stand (λ text stand asks texts have. stand asks texts (subst (λ x. HaveTexts x asked.names texts) (sym same) have));
+  places = IfSome_then known refused.places (λ text stand asks texts have. stand asks texts (subst (λ x. HaveTexts x asked.names texts) (sym same) have));
+  plain = refused.plain;
+}
 
 pub answers_from : (u v after : Under) (l m q : Log) (k : Bool) (options : Options) (known : Option (List ℕ)) (asked : Asked) (status : ℕ) (text : List ℕ) → v ≡ u
     → ListAnswers (record { before = v; after = after; log = m; logged = q; knows = k }) options known asked status text
@@ -292,22 +381,39 @@ answers_from u v after l m q k options known asked status text same (inr (inl fa
   are = faults.are;
   unsound = faults.unsound;
   spoken = faults.spoken;
-  speak = λ again. subst (λ x. AreSpoken (layout_with options) x asked.names faults.map (featured asked.told faults.faults.items) faults.spoken) same (faults.speak again);
+  speak = λ again. subst (λ x. AreSpoken (layout_with options) [] x asked.names faults.map (featured asked.told faults.faults.items) faults.spoken) same (faults.speak again);
   kept = made_from u v after l m q k asked.made _ faults.kept;
   is = faults.is;
   lines = faults.lines;
 }))
-answers_from u v after l m q k options known asked status text same (inr (inr refused)) = inr (inr (record {
+answers_from u v after l m q k options known asked status text same (inr (inr (inl refused))) = inr (inr (inl (record {
   told_all = refused.told_all;
   list = refused.list;
   are_all = refused.are_all;
-  unmade = unmade_from u v after m q k asked.made same refused.unmade l;
-  is = refused.is;
+  alone = refused.alone;
+  features = refused.features;
   told = refused.told;
-  places = IfSome_then known refused.places (λ text stand asks texts have. stand asks texts (subst (λ x. HaveTexts x asked.names texts) (sym same) have));
-  plain = refused.plain;
+  refused = refused_from u v after l m q k options known asked refused.list.items refused.features refused.told same refused.refused;
+  kept = made_from u v after l m q k asked.made _ refused.kept;
+  is = refused.is;
   lines = refused.lines;
-}))
+})))
+answers_from u v after l m q k options known asked status text same (inr (inr (inr left))) = inr (inr (inr (record {
+  skipped = left.skipped;
+  list = left.list;
+  are_all = left.are_all;
+  map = left.map;
+  left = left.left;
+  are = left.are;
+  spoken = left.spoken;
+  speak = λ again. subst (λ x. AreSpoken (layout_with options) (numbers_of left.list.items) x asked.names left.map (featured asked.told left.left.faults.items) left.spoken) same (left.speak again);
+  features = left.features;
+  told = left.told;
+  refused = refused_from u v after l m q k options known asked left.list.items left.features left.told same left.refused;
+  kept = made_from u v after l m q k asked.made _ left.kept;
+  is = left.is;
+  lines = left.lines;
+})))
 
 pub stops_from : (u v after : Under) (l m q : Log) (k : Bool) (options : Options) (known : Option (List ℕ)) (asked : Asked) → v ≡ u → (stop : Stop)
     → StopsList (record { before = v; after = after; log = m; logged = q; knows = k }) options known asked stop → StopsList (record { before = u; after = after; log = l; logged = q; knows = k }) options known asked stop
@@ -315,6 +421,18 @@ stops_from u v after l m q k options known asked same (Record line cause) why = 
 stops_from u v after l m q k options known asked same Memory why = why
 stops_from u v after l m q k options known asked same Device why = (why.0, subst (λ x. SomeUnread x asked.names) same why.1)
 stops_from u v after l m q k options known asked same Budget why = why
+
+-- what is answered behind files that were read again
+pub answers_behind : (u v after : Under) (l m q : Log) (k : Bool) (asked : Asked) → v ≡ u → (k ≡ true → m ≡ l) → (options : Options) (known : Option (List ℕ)) (r : Result (Answer Listed) Stop)
+    → Does (record { before = v; after = after; log = m; logged = q; knows = k }) [] asked.made
+    (λ answer. ListAnswers (record { before = v; after = after; log = m; logged = q; knows = k }) options known asked answer.status (listed_text answer.text))
+    (StopsList (record { before = v; after = after; log = m; logged = q; knows = k }) options known asked) r
+    → Does (record { before = u; after = after; log = l; logged = q; knows = k }) [] asked.made
+    (λ answer. ListAnswers (record { before = u; after = after; log = l; logged = q; knows = k }) options known asked answer.status (listed_text answer.text))
+    (StopsList (record { before = u; after = after; log = l; logged = q; knows = k }) options known asked) r
+answers_behind u v after l m q k asked same logs options known r does =
+    does_then {A = Unit {0}} u v after l m q k [] asked.made (λ _. Unit {0}) _ tt (does_nothing (record { before = u; after = v; log = l; logged = m; knows = k }) same logs None _ _ tt tt) _ _ _ r does
+    (λ answer. answers_from u v after l m q k options known asked answer.status _ same) (stops_from u v after l m q k options known asked same)
 
 -- ---- behind what changes nothing
 
@@ -352,13 +470,14 @@ does_later u after l m q false names made P S r same does = record {
 pub answer_text : (names : List (List ℕ)) (chains : List MapChain) (spoken : Spoken) (form : Form) (told : Told) (faults : Vec MapFault Global) (touched : ℕ) (text : Option (Vec ℕ Global))
     → IsPrepared names chains spoken form told faults.items touched text → listed_text (faults_answer text faults touched told).text ≡ told_text names chains spoken form told faults.items touched
 answer_text names chains spoken form told faults touched (Some text) is = is
-answer_text names chains spoken form told faults touched None is = rw (is.0, is.1.1) refl
+answer_text names chains spoken form told faults touched None is = rw (is.0, is.1.2) refl
 
 pub answer_status : (told : Told) (faults : Vec MapFault Global) (touched : ℕ) (text : Option (Vec ℕ Global)) → (faults_answer text faults touched told).status ≡ 1
 answer_status told faults touched (Some text) = refl
 answer_status told faults touched None = refl
 
 -- the collection of no fault
-pub no_features : (names : List (List ℕ)) (spoken : Spoken) → faults_text names spoken.counts.items None (held spoken.lines) spoken.places.items [] 0 ≡ faults_text names [] None (λ s. []) [] [] 0
+pub no_faults : (names : List (List ℕ)) (spoken : Spoken) (refused : List ℕ)
+    → faults_text names spoken.counts.items None (held spoken.lines) spoken.places.items [] 0 refused ≡ refused_collection names refused
 unfolding faults_text
-no_features names spoken = refl
+no_faults names spoken refused = refl

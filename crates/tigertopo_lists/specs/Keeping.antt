@@ -1,5 +1,5 @@
 -- Kept on the way: what is prepared before it is told. No public contract cites this file.
-use Rattle.std.specs.Prelude.{◌≡◌, ℕ, true, false, List, [], ◌∷◌, Option, Some, None, Vec}
+use Rattle.std.specs.Prelude.{◌≡◌, ℕ, Bool, true, false, is_some, length, List, [], ◌∷◌, ◌++◌, Option, Some, None, IfSome, Vec}
 use Rattle.std.specs.Global.{Global}
 use Rattle.tl_map_county.specs.TheMap.{MapChain}
 use Rattle.tigertopo_words.specs.declared.budget.Told.{Told}
@@ -20,19 +20,27 @@ use Rattle.tigertopo_words.specs.declared.form.Form.{Form}
 use Rattle.tigertopo_words.specs.declared.form.Form.TheVariants.{Lines}
 use Rattle.tl_record.specs.declared.layout.Layout.{Layout}
 use Rattle.tigertopo_files.specs.Files.{Under}
-use Rattle.tigertopo_where.specs.Hint.Placed.{TellsPlaces}
-use Rattle.tigertopo_lists.specs.Listed.{has_places, listed_text, most_of, refusals_text, told_text}
+use Rattle.tigertopo_where.specs.Hint.Placed.{IsPlaced, TellsPlaces}
+use Rattle.tigertopo_where.specs.declared.hint.form.RefusedForm.TheVariants.{Features}
+use Rattle.tl_record.specs.declared.options.Options.{Options}
+use Rattle.tl_list_text.specs.Listings.{IsListingOf}
+use Rattle.tigertopo_where.specs.Left.{left_from, numbers_of}
+use Rattle.tigertopo_lists.specs.declared.left.LeftFaults.{LeftFaults}
+use Rattle.tigertopo_lists.specs.declared.skipping.LeftTexts.{LeftTexts}
+use Rattle.tigertopo_faults.specs.Lines.Again.{AreSpoken}
+use Rattle.tigertopo_faults.specs.Records.SpokenOf.{chains_of}
+use Rattle.tigertopo_lists.specs.Listed.{AreLeft, Asked, featured, has_places, listed_text, most_of, reads_again, refused_form, refusals_text, skipped_text, told_text}
 
 -- the line of the first fault, or nothing where all are told
 abbrev pub IsPlain : Told → List MapFault → Option (Vec ℕ Global) → Type 0
 IsPlain One faults (Some text) = text.items ≡ lines map_fault_text (chosen One faults)
 IsPlain One faults None = ⊥
-IsPlain (All most) faults text = text ≡ None
+IsPlain (All most skips) faults text = text ≡ None
 
 -- the text of faults, or nothing where they are printed as they are listed
 abbrev pub IsPrepared : List (List ℕ) → List MapChain → Spoken → Form → Told → List MapFault → ℕ → Option (Vec ℕ Global) → Type 0
 IsPrepared names chains spoken form told faults touched (Some text) = text.items ≡ told_text names chains spoken form told faults touched
-IsPrepared names chains spoken form told faults touched None = (form ≡ Lines) × ((most : Option ℕ) × (told ≡ All most))
+IsPrepared names chains spoken form told faults touched None = (form ≡ Lines) × ((most : Option ℕ) × (skips : Bool) × (told ≡ All most skips))
 
 -- why there is no answer, where these lines are refused: the first of them
 abbrev pub first_stop : List Refusal → Stop
@@ -47,12 +55,42 @@ faults_answer None faults touched told = record { status = 1; text = listed.List
 -- a text of refused lines, all or so many from the front, each with where it stands, and how many there are
 abbrev pub ArePlaced : Form → Layout → Under → List (List ℕ) → Option ℕ → List Refusal → List ℕ → Type 0
 ArePlaced form layout under names most refusals text =
-    (told : List (List ℕ)) × (text ≡ refusals_text form most refusals told) × TellsPlaces form layout under names (printed most refusals) told
+    (told : List (List ℕ)) × (text ≡ refusals_text form most refusals told) × TellsPlaces (refused_form form) layout under names (printed most refusals) told
 
 -- refused lines are answered, all or so many from the front, with where they stand if the form has that
 pub record IsRefusedList (layout : Layout) (under : Under) (names : List (List ℕ)) (form : Form) (most : Option ℕ) (list : Vec Refusal Global) (answer : Answer Listed) : Type 0 where
   pub told : List (List ℕ)
-  pub stand : has_places form ≡ true → TellsPlaces form layout under names (printed most list.items) told
+  pub stand : has_places form ≡ true → TellsPlaces (refused_form form) layout under names (printed most list.items) told
   pub plain : has_places form ≡ false → told ≡ []
   pub is : answer.status ≡ 3
   pub lines : listed_text answer.text ≡ refusals_text form most list.items told
+
+-- the features of refused lines, each with where it stands, if they are asked for
+abbrev pub AreFeatures : Option (List ℕ) → Layout → Under → List (List ℕ) → List Refusal → List ℕ → Type 0
+AreFeatures made layout under names refusals text = is_some made ≡ true → IsPlaced Features layout under names refusals text
+
+-- what is answered of refused lines, and the features of those that the file has
+pub record ArePrepared (layout : Layout) (under : Under) (asked : Asked) (list : Vec Refusal Global) (prepared : Answer Listed × Vec ℕ Global) : Type 0 where
+  pub answer : IsRefusedList layout under asked.names asked.form (most_of asked.told) list prepared.0
+  pub features : AreFeatures asked.made layout under asked.names (featured asked.told list.items) prepared.1.items
+
+-- what is listed of a text: faults, or that there are none; or where there is nothing, lines are refused
+abbrev pub HasLeft : Options → List ℕ → Option LeftFaults → Type 0
+HasLeft options text (Some left) = AreLeft options text left.map (record { faults = left.faults; touched = left.touched })
+HasLeft options text None = (rest : Vec Refusal Global) × IsListingOf options text (listing.Refused rest)
+
+-- the same of what is left of a text without the lines with these numbers, if these are skipped
+abbrev pub IsLeft : Options → Bool → (known : Option (List ℕ)) → List ℕ → Option LeftFaults → Type 0
+IsLeft options skips known numbers (Some left) = (skips ≡ true) × IfSome known (λ held. HasLeft options (left_from 0 numbers held) (Some left))
+IsLeft options skips known numbers None = skips ≡ true → IfSome known (λ held. HasLeft options (left_from 0 numbers held) None)
+
+-- what is answered of refused lines and of what is left, the records that its faults speak of, and the features of the refused lines that
+-- the file has
+pub record IsLeftPrepared (layout : Layout) (under : Under) (asked : Asked) (list : List Refusal) (left : LeftFaults) (texts : LeftTexts) : Type 0 where
+  pub told : List (List ℕ)
+  pub stand : has_places asked.form ≡ true → TellsPlaces (refused_form asked.form) layout under asked.names (printed (most_of asked.told) list) told
+  pub plain : has_places asked.form ≡ false → told ≡ []
+  pub lines : texts.text.items ≡ refusals_text asked.form (most_of asked.told) list told
+      ++ told_text asked.names (chains_of left.map) texts.spoken asked.form asked.told left.faults.items left.touched ++ skipped_text asked.form (length list)
+  pub speak : reads_again asked.form asked.made ≡ true → AreSpoken layout (numbers_of list) under asked.names left.map (featured asked.told left.faults.items) texts.spoken
+  pub features : AreFeatures asked.made layout under asked.names (featured asked.told list) texts.features.items

@@ -6,16 +6,19 @@
 //! as lines or as objects of JSON (`tigertopo_faults::objects`).
 //!
 //! Where one fault is asked for as a line, a refused line is a stop. Else all refused lines are answered, or
-//! so many from the front, with where they stand if that is asked for (`tigertopo_where::hint`), and no file is made. Beside a file that
-//! failed, a device is said to have failed only where files are read again for the records of faults or for refused lines, and one of
-//! them may not be read.
+//! so many from the front, with where they stand if that is asked for (`tigertopo_where::hint`), and the file is made of them. Where they
+//! are skipped, the files are read again without them, and the faults of what is left stand behind them. Beside a file that failed, a
+//! device is said to have failed only where files are read again, and one of them may not be read.
 #![tactic(auto)]
 
 mod collection;
 mod found;
+mod left;
 mod listed;
 mod listing;
 mod prepared;
+mod refused;
+mod skipping;
 mod speaking;
 
 pub use listed::Listed;

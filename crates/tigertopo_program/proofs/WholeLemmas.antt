@@ -1,5 +1,5 @@
 -- What the program answers, by what is asked.
-use Rattle.std.proofs.Common.{◌≡◌, ℕ, Bool, true, false, List, Option, Some, None}
+use Rattle.std.proofs.Common.{◌≡◌, ℕ, true, false, List, Option, Some, None}
 use Rattle.std.specs.Prelude.{string_bytes, option_map, String}
 use Rattle.std.specs.Global.{Global}
 use Rattle.tl_record.specs.declared.options.Options.{Options}
@@ -25,7 +25,7 @@ plain_answers (Audit One Lines None) options names w status text plain so = so
 plain_answers (Audit One Lines (Some name)) options names w status text plain so = absurd (cc)
 plain_answers (Audit One Records made) options names w status text plain so = absurd (cc)
 plain_answers (Audit One Objects made) options names w status text plain so = absurd (cc)
-plain_answers (Audit (All most) form made) options names w status text plain so = absurd (cc)
+plain_answers (Audit (All most skips) form made) options names w status text plain so = absurd (cc)
 plain_answers (Build made) options names w status text plain so = so
 plain_answers (Check cert budget) options names w status text plain so = so
 plain_answers (Convert cert made) options names w status text plain so = so
@@ -41,7 +41,7 @@ plain_stops (Audit One Lines None) options names w stop plain so = so
 plain_stops (Audit One Lines (Some name)) options names w stop plain so = absurd (cc)
 plain_stops (Audit One Records made) options names w stop plain so = absurd (cc)
 plain_stops (Audit One Objects made) options names w stop plain so = absurd (cc)
-plain_stops (Audit (All most) form made) options names w stop plain so = absurd (cc)
+plain_stops (Audit (All most skips) form made) options names w stop plain so = absurd (cc)
 plain_stops (Build made) options names w stop plain so = so
 plain_stops (Check cert budget) options names w stop plain so = so
 plain_stops (Convert cert made) options names w stop plain so = so
@@ -57,7 +57,7 @@ list_answers One Lines None options names w status text plain so = absurd (cc)
 list_answers One Lines (Some name) options names w status text plain so = so
 list_answers One Records made options names w status text plain so = so
 list_answers One Objects made options names w status text plain so = so
-list_answers (All most) form made options names w status text plain so = so
+list_answers (All most skips) form made options names w status text plain so = so
 
 pub list_stops : (told : Told) (form : Form) (made : Option (String Global)) (options : Options) (names : List (List ℕ)) (w : World) (stop : Stop) → is_plain (Audit told form made) ≡ false
     → StopsList w options (text_under w.before names) (record { names = names; told = told; form = form; made = option_map string_bytes made }) stop
@@ -66,4 +66,4 @@ list_stops One Lines None options names w stop plain so = absurd (cc)
 list_stops One Lines (Some name) options names w stop plain so = so
 list_stops One Records made options names w stop plain so = so
 list_stops One Objects made options names w stop plain so = so
-list_stops (All most) form made options names w stop plain so = so
+list_stops (All most skips) form made options names w stop plain so = so

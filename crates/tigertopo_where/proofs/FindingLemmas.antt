@@ -1,5 +1,5 @@
 -- Lines that are passed on the way to another, or to the end.
-use Rattle.std.proofs.Common.{◌≡◌, ℕ, zero, suc, ◌+◌, ◌-◌, ◌^◌, ◌≤◌, ◌<◌, true, false, List, [], ◌∷◌, Option, None, Some, Result, Ok, Err, length, drop, slice_get, refl, sym, ap, ◌∙◌, arith, inl, inr}
+use Rattle.std.proofs.Common.{◌≡◌, ℕ, zero, suc, ◌+◌, ◌-◌, ◌^◌, ◌≤◌, ◌<◌, Bool, true, false, List, [], ◌∷◌, Option, None, Some, Result, Ok, Err, length, drop, slice_get, refl, sym, ap, ◌∙◌, arith, inl, inr}
 use Rattle.std.proofs.lemmas.Bool.{cases_Bool}
 use Rattle.std.proofs.lemmas.Option.{slice_get_past}
 use Rattle.std.specs.Io.KnownBytes.{Keeps, prepend_known}
@@ -9,8 +9,9 @@ use Rattle.tl_record.specs.declared.refusal.RefusalStop.TheVariants.{Device, End
 use Rattle.tl_record.specs.Lines.{line_feed, raw_lines, first_line, after_first_line}
 use Rattle.tl_record.proofs.LineLemmas.{raw_lines-first}
 use Rattle.tigertopo_where.specs.declared.lines.Found.{Found}
-use Rattle.tigertopo_where.specs.declared.lines.Found.TheVariants.{Missing}
-use Rattle.tigertopo_where.specs.Finding.{Answers, IsCount, IsFound, Passes, PassesTo}
+use Rattle.tigertopo_where.specs.declared.lines.Found.TheVariants.{Line, Missing}
+use Rattle.tigertopo_where.specs.LinePlaces.{line_at}
+use Rattle.tigertopo_where.specs.Finding.{Answers, CountsAll, IsFound, Passes, PassesTo, Shows}
 
 pub passes_none : (text : Option (List ℕ)) → PassesTo 0 text text
 passes_none None = tt
@@ -59,13 +60,6 @@ passes_more count (Some text) (Some (byte ∷ rest)) new so_far passes =
     let more = drop_one (raw_lines text) (raw_lines (after_first_line (byte ∷ rest))) (first_line (byte ∷ rest)) count (sym lines ∙ so_far.0) in
     let less = shorter byte rest in
     rw passes.1 (more.0, more.1, omega (arith, less, so_far.2))
-
--- no line is left
-pub counts_whole : (count : ℕ) (first old new : Option (List ℕ)) → PassesTo count first old → Answers old (Passes new) (Ok false) → Answers first IsCount (Ok count)
-counts_whole count None old new so_far passes = tt
-counts_whole count (Some text) None new so_far passes = absurd so_far
-counts_whole count (Some text) (Some rest) new so_far passes =
-    let none = drop_none (raw_lines text) count (sym (ap raw_lines passes.0) ∙ so_far.0) in omega (arith, none, so_far.1)
 
 pub finds_none : (buffer : List ℕ) (count number : ℕ) (first old new : Option (List ℕ)) → count < number → PassesTo count first old → Answers old (Passes new) (Ok false)
     → Answers first (IsFound number buffer) (Ok Missing)
@@ -123,3 +117,33 @@ passes_still count None old new so_far kept = tt
 passes_still count (Some text) None new so_far kept = absurd so_far
 passes_still count (Some text) (Some rest) None so_far kept = absurd kept
 passes_still count (Some text) (Some rest) (Some same) so_far kept = rw kept so_far
+
+-- no line is left: so many were passed, and these are all
+pub counts_none : (count : ℕ) (first old new : Option (List ℕ)) → PassesTo count first old → Answers old (Passes new) (Ok false) → Answers first (CountsAll count) (Ok Missing)
+counts_none count None old new so_far passes = tt
+counts_none count (Some text) None new so_far passes = absurd so_far
+counts_none count (Some text) (Some rest) new so_far passes =
+    let none = drop_none (raw_lines text) count (sym (ap raw_lines passes.0) ∙ so_far.0) in omega (arith, none, so_far.1)
+
+no_line : (lines : List (List ℕ)) (bytes : List ℕ) → Shows (line_at 1 lines) bytes Missing → [] ≡ lines
+no_line [] bytes shows = refl
+no_line (line ∷ lines) bytes shows = absurd shows
+
+counts_found : (buffer : List ℕ) (count : ℕ) (text rest : List ℕ) (found : Found) → PassesTo count (Some text) (Some rest) → IsFound 1 buffer rest found → CountsAll count text found
+counts_found buffer count text rest (Line len goes_on) so_far shown = tt
+counts_found buffer count text rest Missing so_far shown =
+    let none = drop_none (raw_lines text) count (no_line (raw_lines rest) buffer shown ∙ so_far.0) in omega (arith, none, so_far.1)
+
+pub counts_shown : (buffer : List ℕ) (count : ℕ) (first old : Option (List ℕ)) (result : Result Found RefusalStop) → PassesTo count first old → Answers old (IsFound 1 buffer) result
+    → Answers first (CountsAll count) result
+counts_shown buffer count None old (Ok found) so_far shown = tt
+counts_shown buffer count (Some text) None (Ok found) so_far shown = absurd so_far
+counts_shown buffer count (Some text) (Some rest) (Ok found) so_far shown = counts_found buffer count text rest found so_far shown
+counts_shown buffer count first old (Err stop) so_far shown = stops (IsFound 1 buffer) (CountsAll count) count first old stop so_far shown
+
+-- a line that was found is one of the text
+pub line_within : (lines : List (List ℕ)) (number : ℕ) (bytes : List ℕ) (len : ℕ) (goes_on : Bool) → Shows (line_at number lines) bytes (Line len goes_on) → number ≤ length lines
+line_within lines zero bytes len goes_on shows = omega arith
+line_within [] (suc n) bytes len goes_on shows = absurd (let wrong = shows in cc)
+line_within (line ∷ lines) (suc zero) bytes len goes_on shows = omega arith
+line_within (line ∷ lines) (suc (suc n)) bytes len goes_on shows = let more = line_within lines (suc n) bytes len goes_on shows in omega (arith, more)

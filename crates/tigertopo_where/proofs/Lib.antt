@@ -6,3 +6,4 @@ pub mod DegreeLemmas
 pub mod LocationLemmas
 pub mod HintLemmas
 pub mod PlacedLemmas
+pub mod LeftLemmas

@@ -1,4 +1,4 @@
--- What counting the lines of a text and looking for one of them answer.
+-- What looking for a line of a text answers.
 use Rattle.std.specs.Prelude.{◌≡◌, ◌≢◌, ℕ, ◌+◌, ◌≤◌, ◌^◌, nat_lt, Bool, true, false, List, [], length, take, drop, Option, None, Some, Result, Ok, Err, ⊤}
 use Rattle.tl_record.specs.declared.refusal.RefusalStop.{RefusalStop}
 use Rattle.tl_record.specs.declared.refusal.RefusalStop.TheVariants.{Device, Endless}
@@ -15,10 +15,6 @@ Answers (Some text) holds (Ok value) = holds text value
 Answers (Some text) holds (Err Device) = ⊤
 Answers (Some text) holds (Err Endless) = 2 ^ 64 ≤ length text + 1
 
--- so many lines
-abbrev pub IsCount : List ℕ → ℕ → Type 0
-IsCount text count = count ≡ line_count text
-
 -- what is found of a line: its first bytes, 1,024 at most, which are the first of a buffer, and whether it has more
 abbrev pub Shows : Option (List ℕ) → List ℕ → Found → Type 0
 Shows None bytes found = found ≡ Missing
@@ -29,6 +25,11 @@ Shows (Some line) bytes (Line len goes_on) =
 -- what is found of the line with this number
 abbrev pub IsFound : ℕ → List ℕ → List ℕ → Found → Type 0
 IsFound number bytes text found = Shows (line_at number (raw_lines text)) bytes found
+
+-- where a line is missing, so many lines were passed, and the text has no more
+abbrev pub CountsAll : ℕ → List ℕ → Found → Type 0
+CountsAll passed text Missing = passed ≡ line_count text
+CountsAll passed text (Line len goes_on) = ⊤
 
 -- a buffer has what is found in it
 abbrev pub IsWithin : List ℕ → Found → Type 0

@@ -5,13 +5,13 @@
 //! which file can't be read, and why.
 
 mod advice;
-mod again;
+mod form;
 mod object;
 mod placed;
 mod refused;
 mod shown;
 mod tell;
 
-pub use again::count_all;
+pub use form::RefusedForm;
 pub use placed::place_refusals;
 pub use tell::{say_hint, trouble_line};

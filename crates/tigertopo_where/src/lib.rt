@@ -1,7 +1,7 @@
 //! Where a fault and a refused line lie: in which of the files that are read as one text, in which of its lines, in which
 //! of its columns, and at which place of the map.
 //!
-//! [`place_of`] gives the file and the line of a line of all files as one text, [`count_lines`] and [`find_line`] read
+//! [`place_of`] gives the file and the line of a line of all files as one text, [`show_line`] and [`pass_line`] read
 //! what that takes, and [`columns_of`] says which columns a field has.
 #![tactic(auto)]
 
@@ -10,6 +10,7 @@ mod degrees;
 mod field_columns;
 pub mod hint;
 pub mod laws;
+mod left;
 mod lines;
 mod place;
 mod words;
@@ -17,6 +18,7 @@ mod words;
 pub use columns::columns_of;
 pub use degrees::{COORDINATE_ROOM, LOCATION_ROOM, is_in_reach, push_degrees, push_location};
 pub use field_columns::FieldColumns;
-pub use lines::{BLOCK, Found, count_lines, find_line, show_line};
+pub use left::Left;
+pub use lines::{BLOCK, Found, pass_line, show_line};
 pub use place::{TextLine, place_of};
 pub use words::split_word;

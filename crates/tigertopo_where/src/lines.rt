@@ -5,7 +5,7 @@ ghost use Rattle.std.specs.Io.KnownBytes.{Keeps, prepend_known};
 ghost use Rattle.tl_record.specs.Searching.{CountsSkip};
 ghost use Rattle.tl_record.specs.Limits.{most_line_bytes};
 ghost use Rattle.tigertopo_where.specs.declared.lines.Found.TheVariants.{Line};
-ghost use Rattle.tigertopo_where.specs.Finding.{Answers, IsCount, IsFound, IsWithin, Passes, PassesTo};
+ghost use Rattle.tigertopo_where.specs.Finding.{Answers, CountsAll, IsFound, IsWithin, Passes, PassesTo};
 
 use tl_record::{Fetched, LineBuffer, MAX_LINE_BYTES, RefusalStop, Source, fetch_line, skip_line};
 
@@ -21,45 +21,6 @@ pub enum Found {
     Missing,
 }
 
-/// Counts the lines that a source has left.
-pub fn count_lines<R: Source>(source: &mut R) -> Result<u64, RefusalStop>
-    // Where the bytes are known: how many lines they have. `Endless` is answered of no text that has an end within 2^64 - 1
-    // bytes.
-    ensures count { Answers (R.remaining source.old) IsCount result }
-    // `Device` is answered where a read failed in this call, and nowhere else.
-    ensures failures { CountsSkip (R.failure_count source.old) (R.failure_count source.new) result }
-{
-    let mut buffer = LineBuffer::new();
-    'lines: for count in 0..u64::MAX {
-        match pass_line(&mut buffer, source) {
-            Ok(true) => {}
-            Ok(false) => return Ok(count),
-            Err(stop) => return Err(stop),
-        }
-    }
-    Err(RefusalStop::Endless)
-}
-
-/// Looks for the line with this number, counted from 1, among those that a buffer holds and a source has left, and leaves it at
-/// the front of the buffer.
-pub fn find_line<R: Source>(
-    buffer: &mut LineBuffer<BLOCK>,
-    source: &mut R,
-    number: u64,
-) -> Result<Found, RefusalStop>
-    // Where the bytes are known: the line's first bytes, or that there are fewer lines.
-    ensures found { Answers (prepend_known buffer.old (R.remaining source.old)) (IsFound number buffer.new) result }
-    ensures within { IfOk result (IsWithin buffer.new) }
-    // `Device` is answered where a read failed in this call, and nowhere else.
-    ensures failures { CountsSkip (R.failure_count source.old) (R.failure_count source.new) result }
-{
-    if number == 0 {
-        return Ok(Found::Missing);
-    }
-    let mut passed = 0;
-    find_ahead(buffer, source, &mut passed, number)
-}
-
 // Looks for the line with this number of a text of which so many lines were passed, and what follows them is in the buffer and
 // left in the source. It is left at the front of the buffer, and the lines before it are passed.
 pub(crate) fn find_ahead<R: Source>(
@@ -73,6 +34,8 @@ pub(crate) fn find_ahead<R: Source>(
         → Answers text (IsFound number buffer.new) result }
     ensures passed { (text : Option (List ℕ)) → PassesTo passed.old text (prepend_known buffer.old (R.remaining source.old))
         → OnOk result (PassesTo passed.new text (prepend_known buffer.new (R.remaining source.new))) }
+    ensures counted { (text : Option (List ℕ)) → PassesTo passed.old text (prepend_known buffer.old (R.remaining source.old))
+        → Answers text (CountsAll passed.new) result }
     ensures before { passed.new < number }
     ensures within { IfOk result (IsWithin buffer.new) }
     ensures failures { CountsSkip (R.failure_count source.old) (R.failure_count source.new) result }
@@ -122,8 +85,11 @@ fn shown(len: usize) -> Found
     }
 }
 
-// Takes the next line off, and says whether there was one.
-fn pass_line<R: Source>(buffer: &mut LineBuffer<BLOCK>, source: &mut R) -> Result<bool, RefusalStop>
+/// Takes the next line off, and says whether there was one.
+pub fn pass_line<R: Source>(
+    buffer: &mut LineBuffer<BLOCK>,
+    source: &mut R,
+) -> Result<bool, RefusalStop>
     ensures passes { Answers (prepend_known buffer.old (R.remaining source.old))
         (Passes (prepend_known buffer.new (R.remaining source.new))) result }
     ensures failures { CountsSkip (R.failure_count source.old) (R.failure_count source.new) result }

@@ -45,11 +45,12 @@ pub word_given : (word : Option (String Global)) (given : Option Text) (made : S
 word_given word given made same is = sym same ∙ ap (option_map string_bytes) is
 
 -- what was given is the same, however it is told
-pub told_the_same : (result : Option Told) (all each most number : Option Text) → all ≡ each → most ≡ number
-    → MatchOption result (¬ AskForFaults all most) (AskForTold all most) → MatchOption result (¬ AskForFaults each number) (AskForTold each number)
-told_the_same result all each most number e f told =
-    subst (λ (given : Option Text). MatchOption result (¬ AskForFaults each given) (AskForTold each given)) f
-    (subst (λ (given : Option Text). MatchOption result (¬ AskForFaults given most) (AskForTold given most)) e told)
+pub told_the_same : (result : Option Told) (all each most number skipped passed : Option Text) → all ≡ each → most ≡ number → skipped ≡ passed
+    → MatchOption result (¬ AskForFaults all most skipped) (AskForTold all most skipped) → MatchOption result (¬ AskForFaults each number passed) (AskForTold each number passed)
+told_the_same result all each most number skipped passed e f h told =
+    subst (λ (given : Option Text). MatchOption result (¬ AskForFaults each number given) (AskForTold each number given)) h
+    (subst (λ (given : Option Text). MatchOption result (¬ AskForFaults each given skipped) (AskForTold each given skipped)) f
+    (subst (λ (given : Option Text). MatchOption result (¬ AskForFaults given most skipped) (AskForTold given most skipped)) e told))
 
 pub chosen_the_same : (columns released zero_cells ids faces faced join joined : Option Text) (options : Options) → columns ≡ released → zero_cells ≡ ids → faces ≡ faced
     → join ≡ joined → AreChosen columns zero_cells faces join options → AreChosen released ids faced joined options

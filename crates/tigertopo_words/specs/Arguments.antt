@@ -53,24 +53,26 @@ IsMost None (Some number) = ⊥
 IsMost (Some text) None = ⊥
 IsMost (Some text) (Some number) = IsSpelt text number
 
--- what was given for --all and for --most asks for one fault
-pub record AskForOne (all most : Option Text) : Type 0 where
+-- what was given for --all, for --most and for --skip-refused asks for one fault
+pub record AskForOne (all most skipped : Option Text) : Type 0 where
   pub one : all ≢ Some (codes "true")
   pub no_most : most ≡ None
+  pub no_skip : skipped ≢ Some (codes "true")
 
--- or for all faults, of which so many are to be told, or each
-pub record AskForAll (all most : Option Text) (number : Option ℕ) : Type 0 where
+-- or for all faults, of which so many are to be told, or each, and whether refused lines are passed over
+pub record AskForAll (all most skipped : Option Text) (number : Option ℕ) (skips : Bool) : Type 0 where
   pub each : all ≡ Some (codes "true")
   pub told : IsMost most number
+  pub passed : IsSwitch skipped skips
 
 -- so many faults are asked for
-abbrev pub AskForTold : (all most : Option Text) → Told → Type 0
-AskForTold all most One = AskForOne all most
-AskForTold all most (All number) = AskForAll all most number
+abbrev pub AskForTold : (all most skipped : Option Text) → Told → Type 0
+AskForTold all most skipped One = AskForOne all most skipped
+AskForTold all most skipped (All number skips) = AskForAll all most skipped number skips
 
 -- some are
-abbrev pub AskForFaults : (all most : Option Text) → Type 0
-AskForFaults all most = (told : Told) × AskForTold all most told
+abbrev pub AskForFaults : (all most skipped : Option Text) → Type 0
+AskForFaults all most skipped = (told : Told) × AskForTold all most skipped told
 
 -- what was given for --where and for --json asks for this form: --json for objects, whatever --where says
 abbrev pub IsForm : (places objects : Option Text) → Form → Type 0

@@ -45,7 +45,7 @@ made_of other = None
 
 -- the request asks for so many faults, in this form, and for this file of GeoJSON, word for word, or for none
 pub record AsksToAudit (given : Request) (told : Told) (form : Form) (made : Option Text) : Type 0 where
-  pub asked : AskForTold given.all given.most told
+  pub asked : AskForTold given.all given.most given.skipped told
   pub formed : IsForm given.places given.objects form
   pub to : given.geojson ≡ made
 

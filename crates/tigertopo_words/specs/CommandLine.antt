@@ -69,7 +69,7 @@ abbrev pub HasAnswer : Kinds → Type 0
 HasAnswer kinds = (kind : ErrorKind) × IsAmong kind kinds × IsAnswer kind
 
 -- Why the words make no command: they are no use of a command, and either a mistake, a wish for help or for the version, or
--- taken by clap, as those with a number, a point or a CENID that isn't spelt as one, with --most and no --all, or that ask for a picture with
+-- taken by clap, as those with a number, a point or a CENID that isn't spelt as one, with --most or --skip-refused and no --all, or that ask for a picture with
 -- --faces and no --faults; or memory was refused, and the first of them doesn't show that they are no use of a command.
 abbrev pub StopsPlanning : List Text → WordsStop → Type 0
 StopsPlanning words (Usage text) = (¬ AreAUse words) × (HasMistake (fault_of command_line words) ⊎ (fault_of command_line words ≡ []))

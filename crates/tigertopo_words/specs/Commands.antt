@@ -42,6 +42,10 @@ named_argument id = record (new_rule id) { long = Some id; value_names = 1; requ
 abbrev pub all_argument : Rule
 all_argument = switch (codes "all")
 
+-- --skip-refused: lines that are refused are passed over
+abbrev pub skip_argument : Rule
+skip_argument = switch (codes "skip-refused")
+
 -- --where: behind each fault stand the records that it speaks of
 abbrev pub where_argument : Rule
 where_argument = switch (codes "where")
@@ -103,14 +107,14 @@ abbrev pub on_a_map : App → App
 on_a_map app =
     with_rule (with_rule (with_rule (with_rule (with_rule app faces_argument) zero_cells_argument) join_argument) released_argument) files_argument
 
--- audit [--all] [--most N] [--where] [--json] [--geojson OUT] [--progress] [--faces] [--zero-cells] [--join] [--released] FILES..
+-- audit [--all] [--most N] [--skip-refused] [--where] [--json] [--geojson OUT] [--progress] [--faces] [--zero-cells] [--join] [--released] FILES..
 abbrev pub audit_name : Text
 audit_name = codes "audit"
 
 abbrev pub audit_app : App
 audit_app =
-    on_a_map (with_rule (with_rule (with_rule (with_rule (with_rule (with_rule (new_app audit_name) all_argument) most_argument) where_argument)
-    json_argument) (value_argument (codes "geojson"))) progress_argument)
+    on_a_map (with_rule (with_rule (with_rule (with_rule (with_rule (with_rule (with_rule (new_app audit_name) all_argument) most_argument) skip_argument)
+    where_argument) json_argument) (value_argument (codes "geojson"))) progress_argument)
 
 -- build --out CERT [--progress] [--faces] [--zero-cells] [--join] [--released] FILES..
 abbrev pub build_name : Text

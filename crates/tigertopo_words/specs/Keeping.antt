@@ -8,10 +8,10 @@ use Rattle.clap.specs.declared.builder.command.Command.TheViews.{out-Command}
 use Rattle.tigertopo_words.specs.declared.command_line.Named.{Named}
 use Rattle.tigertopo_words.specs.declared.command_line.Named.TheVariants.{Show, Landmarks, Locate, Audit, Build, Check, Convert, Export, Draw, Border}
 use Rattle.tigertopo_words.specs.declared.command_line.Argument.{Argument}
-use Rattle.tigertopo_words.specs.declared.command_line.Argument.TheVariants.{All, Most, Progress, Where, Json, FacesOfDrawing, Faces, FaultsOption, ZeroCells, Join, Released, Files, Point}
+use Rattle.tigertopo_words.specs.declared.command_line.Argument.TheVariants.{All, Most, SkipRefused, Progress, Where, Json, FacesOfDrawing, Faces, FaultsOption, ZeroCells, Join, Released, Files, Point}
 use Rattle.tigertopo_words.specs.declared.command_line.Argument.TheVariants.{CertOption, OutOption, Tests, Cert, Out, LayerOption, CollectionOption, PictureOption, At, Width, Faults}
 use Rattle.tigertopo_words.specs.declared.command_line.Argument.TheVariants.{NameOption, BorderOption}
-use Rattle.tigertopo_words.specs.Commands.{all_argument, most_argument, zero_cells_argument, join_argument, released_argument, files_argument}
+use Rattle.tigertopo_words.specs.Commands.{all_argument, most_argument, skip_argument, zero_cells_argument, join_argument, released_argument, files_argument}
 use Rattle.tigertopo_words.specs.Commands.{progress_argument, where_argument, json_argument, faces_argument, faults_argument, value_argument}
 use Rattle.tigertopo_words.specs.Commands.{name_argument, named_argument, tests_argument}
 use Rattle.tigertopo_words.specs.Commands.{command_on_files, show_app, landmarks_name}
@@ -21,6 +21,7 @@ use Rattle.tigertopo_words.specs.Commands.{locate_app, audit_app, build_app, che
 abbrev pub rule_for : Argument → Rule
 rule_for All = all_argument
 rule_for Most = most_argument
+rule_for SkipRefused = skip_argument
 rule_for ZeroCells = zero_cells_argument
 rule_for Join = join_argument
 rule_for Released = released_argument
@@ -88,7 +89,7 @@ abbrev pub arguments_for : Named → List Argument
 arguments_for Show = Join ∷ Released ∷ Files ∷ []
 arguments_for Landmarks = Released ∷ Files ∷ []
 arguments_for Locate = Join ∷ Released ∷ Point ∷ Files ∷ []
-arguments_for Audit = All ∷ Most ∷ Where ∷ Json ∷ FaultsOption ∷ Progress ∷ Faces ∷ ZeroCells ∷ Join ∷ Released ∷ Files ∷ []
+arguments_for Audit = All ∷ Most ∷ SkipRefused ∷ Where ∷ Json ∷ FaultsOption ∷ Progress ∷ Faces ∷ ZeroCells ∷ Join ∷ Released ∷ Files ∷ []
 arguments_for Build = OutOption ∷ Progress ∷ Faces ∷ ZeroCells ∷ Join ∷ Released ∷ Files ∷ []
 arguments_for Check = CertOption ∷ Tests ∷ Progress ∷ Faces ∷ ZeroCells ∷ Join ∷ Released ∷ Files ∷ []
 arguments_for Convert = Cert ∷ Out ∷ []

@@ -15,7 +15,7 @@ use Rattle.tigertopo_words.specs.Arguments.{IsGiven, AreSome, IsSwitch, AreChose
 
 -- a command; what was given for its FILES, if anything was, and the values of its --released, its --zero-cells, its --faces, its
 -- --join and its --all, each of which is the word true where the switch is given; and what was given for its @X,Y, its CERT or --cert, its OUT or
--- --out, its --tests, and its --most; its --progress, its --faults, its --where and its --json, which are switches; its --geojson, its --layer, its --at,
+-- --out, its --tests, and its --most; its --skip-refused, its --progress, its --faults, its --where and its --json, which are switches; its --geojson, its --layer, its --at,
 -- its --width and its --name
 pub record Request : Type 0 where
   pub command : Text
@@ -30,6 +30,7 @@ pub record Request : Type 0 where
   pub tests : Option Text
   pub all : Option Text
   pub most : Option Text
+  pub skipped : Option Text
   pub progress : Option Text
   pub faults : Option Text
   pub places : Option Text
@@ -55,6 +56,7 @@ request_in found = record {
   tests = first_of (codes "tests") found.1;
   all = first_of (codes "all") found.1;
   most = first_of (codes "most") found.1;
+  skipped = first_of (codes "skip-refused") found.1;
   progress = first_of (codes "progress") found.1;
   faults = first_of (codes "faults") found.1;
   places = first_of (codes "where") found.1;
@@ -101,13 +103,13 @@ IsWatched Check given watched = IsSwitch given.progress watched
 IsWatched named given watched = watched ≡ false
 
 -- a command is given what it needs beside files: the names of a certificate or of what is made, a budget that is a number, a point, a
--- number of faults only where all are asked for, a layer or none, a view or none, faces only where faults are asked for, and a
+-- number of faults and --skip-refused only where all are asked for, a layer or none, a view or none, faces only where faults are asked for, and a
 -- CENID
 abbrev pub HasNeeds : Named → Request → Type 0
 HasNeeds Show given = ⊤
 HasNeeds Landmarks given = ⊤
 HasNeeds Locate given = (point : Point) × IsPlace given.point point
-HasNeeds Audit given = AskForFaults given.all given.most
+HasNeeds Audit given = AskForFaults given.all given.most given.skipped
 HasNeeds Build given = IsGiven given.out
 HasNeeds Check given = IsGiven given.cert × ((budget : ℕ) × IsBudget given.tests budget)
 HasNeeds Convert given = IsGiven given.cert × IsGiven given.out

@@ -117,8 +117,8 @@ pub fn switch_of(found: &ArgMatches<'_>, name: &str) -> bool
     is_set(found.get_str(name))
 }
 
-// Whether a switch's value is the one that it has where it is given.
-fn is_set(value: Option<&str>) -> bool
+/// Whether a switch's value is the one that it has where it is given.
+pub(crate) fn is_set(value: Option<&str>) -> bool
     ensures { IsTrue result ↔ (option_map (λ text. text.now) value.entry ≡ Some (codes "true")) }
 {
     match value {

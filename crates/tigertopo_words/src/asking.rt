@@ -71,7 +71,7 @@ fn location_of(found: &ArgMatches<'_>) -> Option<Asked>
     }
 }
 
-// An audit, where a number of faults is given only beside --all.
+// An audit, where a number of faults and --skip-refused are given only beside --all.
 fn audit_of(alloc: Global, found: &ArgMatches<'_>) -> Result<Option<Asked>, AllocError>
     ensures { IfOk result (IsAskedBy Named.Audit (rows_of (found_of found.now))) }
 {
@@ -99,13 +99,19 @@ fn form_of(found: &ArgMatches<'_>) -> Form
     }
 }
 
-// How many faults are asked for, by --all and --most. A number without --all asks for none, and so does one that isn't spelt as one.
+// How many faults are asked for, by --all, --most and --skip-refused. A number or --skip-refused without --all asks for none, and so does a
+// number that isn't spelt as one.
 fn told_of(found: &ArgMatches<'_>) -> Option<Told>
     ensures { let each = first_of (codes "all") (rows_of (found_of found.now)) in
         let number = first_of (codes "most") (rows_of (found_of found.now)) in
-        MatchOption result (¬ AskForFaults each number) (AskForTold each number) }
+        let passed = first_of (codes "skip-refused") (rows_of (found_of found.now)) in
+        MatchOption result (¬ AskForFaults each number passed) (AskForTold each number passed) }
 {
-    asked_by(found.get_str("all"), found.get_str("most"))
+    asked_by(
+        found.get_str("all"),
+        found.get_str("most"),
+        found.get_str("skip-refused"),
+    )
 }
 
 // A certificate that is built, where it is named.

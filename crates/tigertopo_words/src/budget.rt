@@ -4,13 +4,16 @@ ghost use Rattle.std.specs.Prelude.{ℕ, ◌↔◌, MatchOption, IsTrue, option_
 ghost use Rattle.tigertopo_words.specs.Arguments.{IsBudget, IsSpelt, AskForFaults, AskForTold};
 ghost use Rattle.tigertopo_words.specs.Spelling.{MaySpell};
 
+use crate::arguments::is_set;
+
 /// What an audit is asked to tell.
 #[derive(Clone, Copy)]
 pub enum Told {
     /// One fault, where there is one.
     One,
-    /// All of them, or the first so many, and how many there are.
-    All(Option<u64>),
+    /// All of them, or the first so many, and how many there are. Where `skips`, lines that are refused are passed over: the faults of
+    /// the records that are left are told too.
+    All { most: Option<u64>, skips: bool },
 }
 
 /// The budget that was given, or the greatest where none was. A number is spelt with no sign and no leading zero; of a
@@ -25,18 +28,28 @@ pub fn budget_of(given: Option<&str>) -> Option<u64>
     }
 }
 
-/// What an audit is asked to tell, by the values that were given for --all and for --most: one fault, or all of them or the
-/// first so many. A number without --all asks for nothing, and neither does a text that spells no number.
-pub fn asked_by(all: Option<&str>, most: Option<&str>) -> Option<Told>
+/// What an audit is asked to tell, by the values that were given for --all, for --most and for --skip-refused: one fault, or all of them
+/// or the first so many. A number or --skip-refused without --all asks for nothing, and neither does a text that spells no number.
+pub fn asked_by(all: Option<&str>, most: Option<&str>, skipped: Option<&str>) -> Option<Told>
     ensures { let each = option_map (λ text. text.now) all.entry in
         let number = option_map (λ text. text.now) most.entry in
-        MatchOption result (¬ AskForFaults each number) (AskForTold each number) }
+        let passed = option_map (λ text. text.now) skipped.entry in
+        MatchOption result (¬ AskForFaults each number passed) (AskForTold each number passed) }
 {
-    match (all, most) {
-        (Some("true"), None) => Some(Told::All(None)),
-        (Some("true"), Some(text)) => Some(Told::All(Some(number_of(text)?))),
-        (_, None) => Some(Told::One),
-        (_, Some(_)) => None,
+    let skips = is_set(skipped);
+    if !is_set(all) {
+        return if skips || most.is_some() {
+            None
+        } else {
+            Some(Told::One)
+        };
+    }
+    match most {
+        Some(text) => Some(Told::All {
+            most: Some(number_of(text)?),
+            skips,
+        }),
+        None => Some(Told::All { most: None, skips }),
     }
 }
 

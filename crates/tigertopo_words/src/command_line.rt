@@ -16,14 +16,14 @@ use crate::help::{
     BUILD_EXAMPLE, CHECK_ABOUT, CHECK_EXAMPLE, CONVERT_ABOUT, CONVERT_EXAMPLE, DRAW_ABOUT,
     DRAW_EXAMPLE, EXAMPLES, EXPORT_ABOUT, EXPORT_EXAMPLE, FACES, FACES_OF_DRAWING, FAULTS,
     FAULTS_COLLECTION, JOIN, JSON, LANDMARKS_ABOUT, LANDMARKS_EXAMPLE, LAYER, LOCATE_ABOUT,
-    LOCATE_EXAMPLE, MOST, NAME, PROGRESS, RELEASED, SHOW_ABOUT, SHOW_EXAMPLE, TESTS, WHERE, WIDTH,
-    ZERO_CELLS,
+    LOCATE_EXAMPLE, MOST, NAME, PROGRESS, RELEASED, SHOW_ABOUT, SHOW_EXAMPLE, SKIP_REFUSED, TESTS,
+    WHERE, WIDTH, ZERO_CELLS,
 };
 use clap::{Arg, ArgAction, Command};
 use std::alloc::{AllocError, Global};
 
 // The version, and the line of the kit that the program is proved with.
-const VERSION: &str = "0.3.0, proved with rattle-kit-13b logic dac8208d650f15bf";
+const VERSION: &str = "0.4.0, proved with rattle-kit-13f logic dac8208d650f15bf";
 
 /// A command of the program.
 #[derive(Clone, Copy)]
@@ -46,6 +46,8 @@ enum Argument {
     All,
     // --most N
     Most,
+    // --skip-refused
+    SkipRefused,
     // --zero-cells
     ZeroCells,
     // --join
@@ -239,6 +241,7 @@ fn arguments_of<'a>(named: &Named) -> &'a [Argument]
         Named::Audit => &[
             Argument::All,
             Argument::Most,
+            Argument::SkipRefused,
             Argument::Where,
             Argument::Json,
             Argument::FaultsOption,
@@ -330,6 +333,7 @@ fn arg_of<'a>(alloc: Global, argument: &Argument) -> Arg<'a>
     match argument {
         Argument::All => switch(alloc, "all", ALL),
         Argument::Most => option(alloc, "most", "N", MOST),
+        Argument::SkipRefused => switch(alloc, "skip-refused", SKIP_REFUSED),
         Argument::ZeroCells => switch(alloc, "zero-cells", ZERO_CELLS),
         Argument::Join => switch(alloc, "join", JOIN),
         Argument::Released => switch(alloc, "released", RELEASED),

@@ -71,7 +71,8 @@ With --all each fault has its line, or each line that is refused, on the standar
 line is `faults=K` or `refused=K`. Where a record is refused no fault is looked for, and where records
 have a fault their map isn't looked at. Sides that don't agree touch the polygons that they name: whether
 points lie in these isn't looked at, as `touched polygons=N not looked at` says. With --most N the last
-line is `faults=K printed=P`.
+line is `faults=K printed=P`. With --skip-refused the list goes on behind `refused=K` with the faults of the
+records that are left, and the last line is `refused lines=K skipped`: whether the map is sound isn't said.
 
 With --where each fault has a line behind it for each record that it speaks of, behind two blanks: the
 file, the line, the record's type, the TLID, polygon or landmark, and where the fault lies, in degrees:
@@ -80,16 +81,17 @@ With --json each fault, or each line that is refused, is an object of JSON on a 
 its name, what it is about, where it lies and its records; and the last line is an object that says `sound`,
 `faults` or `refusals` and how many. --where adds nothing to that.
 With --geojson OUT the faults that are told are made a collection of features of RFC 7946, with --all
-all of them: each where it lies, with its code, what it is about and its records, and then the chains
-that they name. Of a sound map the collection is empty. OUT is written as OUT.unfinished and takes its
-name when it is whole. A file that this program hasn't made, or that is one of FILES, is not replaced.
+all of them: each where it lies, with its code, what it is about and its records, then the chains that
+they name, and last each line that is refused. Of a sound map the collection is empty. OUT is written as
+OUT.unfinished and takes its name when it is whole. A file that this program hasn't made, or that is one
+of FILES, is not replaced.
 
 With --faces the map has to be such, too, that each place on no chain lies in exactly one polygon or
 outside of all, and each side of each chain names what lies there. Else the line is `map fault G7
 FaceDisagree ..`, with the TLIDs of two chains that face one another, or of one with nothing beyond it,
 the polygons that their sides name, and of each a point: X and Y over one denominator. With --all too,
-where nothing else is wrong, each two segments that face one another along a line of one height and differ
-have their line, once.
+where no chains meet and no sides disagree, each two segments that face one another along a line of one
+height and differ have their line, once.
 
 Examples:
   tigertopo audit TGR24001.RT*
@@ -195,7 +197,7 @@ pub const JSON: &str =
 
 pub const LAYER: &str = "Writes features of one kind alone: chains, points, polygons or landmarks";
 
-pub const FAULTS_COLLECTION: &str = "The file of GeoJSON that is made of the faults";
+pub const FAULTS_COLLECTION: &str = "The file of GeoJSON that is made of faults and refused lines";
 
 pub const FACES: &str = "Asks too that sides that face one another name one polygon";
 
@@ -221,5 +223,8 @@ pub const ZERO_CELLS: &str =
 pub const ALL: &str = "Tells each fault, or each line that is refused, and how many there are";
 
 pub const MOST: &str = "Tells the first N of them, and how many there are; needs --all";
+
+pub const SKIP_REFUSED: &str =
+    "Tells the faults of the records that are left where lines are refused; needs --all";
 
 pub const TESTS: &str = "Stops where more than N pairs of segments would have to be tested";

@@ -19,6 +19,9 @@ const SPELLING: &str =
 // What is said of a number of faults where there is no --all.
 const NO_ALL: &str = "the argument '--most <N>' needs '--all'";
 
+// What is wrong with --skip-refused beside no --all.
+const NO_ALL_TO_SKIP: &str = "the argument '--skip-refused' needs '--all'";
+
 // What is said of faces where a picture's faults aren't asked for.
 const NO_FAULTS: &str = "the argument '--faces' needs '--faults'";
 
@@ -127,6 +130,9 @@ fn usage_of(
     }
     if let Some(most) = word_of(matches, "audit", "most") {
         return misused_most(alloc, matches, most);
+    }
+    if word_of(matches, "audit", "skip-refused") == Some("true") {
+        return refusal_text(alloc, &Named::Audit, "tigertopo audit", NO_ALL_TO_SKIP);
     }
     if let Some(layer) = word_of(matches, "export", "layer") {
         return misspelt(

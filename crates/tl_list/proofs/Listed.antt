@@ -25,10 +25,10 @@ use Rattle.tl_list_text.specs.declared.listing.Listing.{Listing}
 use Rattle.tl_list_text.specs.declared.listing.Listing.TheVariants.{Sound, Refused, Faults}
 use Rattle.tl_list_text.specs.MapFaults.{AreFaultsFor}
 use Rattle.tl_list_text.specs.Listings.{AreRecordFaults, AreFaults, IsListingOf}
-use Rattle.tl_list.specs.Telling.{IsTold, Tells, SaysSound, EachFault}
+use Rattle.tl_list.specs.Telling.{IsTold, Tells, SaysSound, EachFault, IsTrueAmong, IsTrueAmongFaults}
 use Rattle.tl_list.proofs.Emptiness.{map_empty}
 use Rattle.tl_list.proofs.Lists.{held_map, some_first, none_first}
-use Rattle.tl_list.proofs.Truth.{each_is_true_for}
+use Rattle.tl_list.proofs.Truth.{each_is_true_for, among_denies}
 use Rattle.tl_list.proofs.Told.{told_for}
 use Rattle.tl_list.proofs.Assembling.{first_is}
 
@@ -37,7 +37,7 @@ held_so P xs x each held = subst P held.2 (each held.0 x held.1)
 
 -- ---- what is told is true
 
-map_fault_true : (faces : Bool) (all : Records) (f : MapFault) → HaveMap all (λ m. IsTrueOfMap faces m f) → IsTrueOfRecords faces all f
+map_fault_true : (faces : Bool) (all : Records) (f : MapFault) → HaveMap all (λ m. IsTrueAmong faces m f) → IsTrueAmongFaults faces all f
 map_fault_true faces all (fault.Records f) have = absurd have.so
 map_fault_true faces all (fault.Meet meet) have = have
 map_fault_true faces all (fault.Side node first next) have = have
@@ -45,16 +45,40 @@ map_fault_true faces all (fault.PolygonPoint misplaced) have = have
 map_fault_true faces all (fault.Cell odds) have = have
 map_fault_true faces all (fault.Face f) have = have
 
+-- a fault that is true alone is true among others
+pub among_others : (faces : Bool) (all : Records) (f : MapFault) → IsTrueOfRecords faces all f → IsTrueAmongFaults faces all f
+among_others faces all (fault.Records f) true_one = true_one
+among_others faces all (fault.Meet meet) true_one = true_one
+among_others faces all (fault.Side node first next) true_one = true_one
+among_others faces all (fault.PolygonPoint misplaced) true_one = true_one
+among_others faces all (fault.Cell odds) true_one = true_one
+among_others faces all (fault.Face f) true_one =
+    weaker all (λ m. IsTrueOfMap faces m (fault.Face f)) (λ m. IsTrueAmong faces m (fault.Face f)) (λ m so. ((so.0, (so.1.0.planar, so.1.0.sides)), so.1.1)) true_one
+
+-- and denies that the map keeps what is asked of it
+among_denies_map : (faces : Bool) (all : Records) (f : MapFault) → HaveMap all (λ m. IsTrueAmong faces m f) → ¬ HaveMap all (IsSoundFor faces)
+among_denies_map faces all f true_one have =
+    let one = both all (λ m. IsTrueAmong faces m f) (IsSoundFor faces) true_one have in
+    among_denies faces one.map f one.so.0 one.so.1
+
+among_denies_records : (faces : Bool) (all : Records) (f : MapFault) → IsTrueAmongFaults faces all f → ¬ HaveMap all (IsSoundFor faces)
+among_denies_records faces all (fault.Records f) true_one have = not_sound_records faces all (fault.Records f) true_one have
+among_denies_records faces all (fault.Meet meet) true_one have = among_denies_map faces all (fault.Meet meet) true_one have
+among_denies_records faces all (fault.Side node first next) true_one have = among_denies_map faces all (fault.Side node first next) true_one have
+among_denies_records faces all (fault.PolygonPoint misplaced) true_one have = among_denies_map faces all (fault.PolygonPoint misplaced) true_one have
+among_denies_records faces all (fault.Cell odds) true_one have = among_denies_map faces all (fault.Cell odds) true_one have
+among_denies_records faces all (fault.Face f) true_one have = among_denies_map faces all (fault.Face f) true_one have
+
 faults_true : (faces : Bool) (all : Records) (faults : List MapFault) (touched : ℕ) → all.refusal ≡ None → AreFaults faces all faults touched
-    → All (IsTrueOfRecords faces all) faults
+    → All (IsTrueAmongFaults faces all) faults
 faults_true faces all faults touched unrefused (inl of_records) =
-    rw of_records.0.are (All-map (IsTrueOfRecords faces all) fault.Records of_records.0.told (λ k d lt. (unrefused, of_records.0.are_all.each k d lt)))
+    rw of_records.0.are (All-map (IsTrueAmongFaults faces all) fault.Records of_records.0.told (λ k d lt. (unrefused, of_records.0.are_all.each k d lt)))
 faults_true faces all faults touched unrefused (inr have) = λ k d lt.
     map_fault_true faces all _
     (record { map = have.map; is_read = have.is_read; so = each_is_true_for faces have.map faults touched have.so k d lt })
 
 pub each_true : (options : Options) (text : List ℕ) (listing : Listing) → IsListingOf options text listing → EachFault listing
-    (IsTrueOfRecords options.faces (records_of (layout_with options) text))
+    (IsTrueAmongFaults options.faces (records_of (layout_with options) text))
 each_true options text (Sound report) is = tt
 each_true options text (Refused list) is = tt
 each_true options text (Faults faults touched) is =
@@ -79,13 +103,13 @@ sound_alone options text (Faults faults touched) is = (
   λ have.
       let all = records_of (layout_with options) text in
       let some = some_first faults.items is.0 in
-      absurd (not_sound_records options.faces all some.0
-      (held_so (IsTrueOfRecords options.faces all) faults.items some.0 (faults_true options.faces all faults.items touched is.1 is.2) some.1) have),
+      absurd (among_denies_records options.faces all some.0
+      (held_so (IsTrueAmongFaults options.faces all) faults.items some.0 (faults_true options.faces all faults.items touched is.1 is.2) some.1) have),
 )
 
 -- ---- what is true is told
 
-unrefused_where_true : (faces : Bool) (all : Records) (f : MapFault) → IsTrueOfRecords faces all f → all.refusal ≡ None
+unrefused_where_true : (faces : Bool) (all : Records) (f : MapFault) → IsTrueAmongFaults faces all f → all.refusal ≡ None
 unrefused_where_true faces all (fault.Records f) true_one = true_one.0
 unrefused_where_true faces all (fault.Meet meet) true_one = true_one.is_read.no_refusal
 unrefused_where_true faces all (fault.Side node first next) true_one = true_one.is_read.no_refusal
@@ -100,32 +124,32 @@ module _ (faces : Bool) (all : Records) (faults : List MapFault) (touched : ℕ)
       let first = some_first of_records.told (λ none. some (rw none at of_records.are)) in
       have.is_read.no_fault first.0 (held_so (IsTrueOf (records_in all)) of_records.told first.0 of_records.are_all.each first.1)
 
-  map_told : (f : MapFault) → faults ≢ [] → HaveMap all (λ m. AreFaultsFor faces m faults touched) → HaveMap all (λ m. IsTrueOfMap faces m f)
+  map_told : (f : MapFault) → HaveMap all (λ m. AreFaultsFor faces m faults touched) → HaveMap all (λ m. IsTrueAmong faces m f)
       → IsTold faults touched f
-  map_told f some have true_one =
-      let one = both all (λ m. AreFaultsFor faces m faults touched) (λ m. IsTrueOfMap faces m f) have true_one in
-      told_for faces one.map faults touched some one.so.0 f one.so.1
+  map_told f have true_one =
+      let one = both all (λ m. AreFaultsFor faces m faults touched) (λ m. IsTrueAmong faces m f) have true_one in
+      told_for faces one.map faults touched one.so.0 f one.so.1
 
-  fault_told : (f : MapFault) → faults ≢ [] → AreFaults faces all faults touched → IsTrueOfRecords faces all f → IsTold faults touched f
+  fault_told : (f : MapFault) → faults ≢ [] → AreFaults faces all faults touched → IsTrueAmongFaults faces all f → IsTold faults touched f
   fault_told (fault.Records f) some (inl of_records) true_one =
       rw of_records.0.are (held_map fault.Records of_records.0.told f (of_records.0.are_all.every f true_one.1))
   fault_told (fault.Records f) some (inr have) true_one = absurd (have.is_read.no_fault f true_one.1)
   fault_told (fault.Meet meet) some (inl of_records) true_one = absurd (no_map _ some of_records.0 true_one)
-  fault_told (fault.Meet meet) some (inr have) true_one = map_told (fault.Meet meet) some have true_one
+  fault_told (fault.Meet meet) some (inr have) true_one = map_told (fault.Meet meet) have true_one
   fault_told (fault.Side node first next) some (inl of_records) true_one = absurd (no_map _ some of_records.0 true_one)
-  fault_told (fault.Side node first next) some (inr have) true_one = map_told (fault.Side node first next) some have true_one
+  fault_told (fault.Side node first next) some (inr have) true_one = map_told (fault.Side node first next) have true_one
   fault_told (fault.PolygonPoint misplaced) some (inl of_records) true_one = absurd (no_map _ some of_records.0 true_one)
-  fault_told (fault.PolygonPoint misplaced) some (inr have) true_one = map_told (fault.PolygonPoint misplaced) some have true_one
+  fault_told (fault.PolygonPoint misplaced) some (inr have) true_one = map_told (fault.PolygonPoint misplaced) have true_one
   fault_told (fault.Cell odds) some (inl of_records) true_one = absurd (no_map _ some of_records.0 true_one)
-  fault_told (fault.Cell odds) some (inr have) true_one = map_told (fault.Cell odds) some have true_one
+  fault_told (fault.Cell odds) some (inr have) true_one = map_told (fault.Cell odds) have true_one
   fault_told (fault.Face f) some (inl of_records) true_one = absurd (no_map _ some of_records.0 true_one)
-  fault_told (fault.Face f) some (inr have) true_one = map_told (fault.Face f) some have true_one
+  fault_told (fault.Face f) some (inr have) true_one = map_told (fault.Face f) have true_one
 
 pub each_told : (options : Options) (text : List ℕ) (listing : Listing) (f : MapFault) → IsListingOf options text listing
-    → IsTrueOfRecords options.faces (records_of (layout_with options) text) f → Tells listing f
+    → IsTrueAmongFaults options.faces (records_of (layout_with options) text) f → Tells listing f
 each_told options text (Sound report) f is true_one =
     let all = records_of (layout_with options) text in
-    absurd (not_sound_records options.faces all f true_one
+    absurd (among_denies_records options.faces all f true_one
     (weaker all (λ m. IsSoundFor options.faces m × IsReport m report) (IsSoundFor options.faces) (λ m so. so.0) is))
 each_told options text (Refused list) f is true_one =
     let all = records_of (layout_with options) text in

@@ -36,13 +36,12 @@ use Rattle.tl_check_verdict.specs.Records.{HaveMap}
 use Rattle.tl_check_verdict.proofs.OneMap.{both}
 use Rattle.tl_list_text.specs.declared.listing.Listing.{Listing}
 use Rattle.tl_list_text.specs.declared.listing.Listing.TheVariants.{Sound, Refused, Faults}
-use Rattle.tl_list_text.specs.MapFaults.{side_fault, AreMapFaults, AreFaceFaults, AreFaultsFor}
+use Rattle.tl_list_text.specs.MapFaults.{side_fault, AreMapFaults, AreFacesTold, AreFaultsFor}
 use Rattle.tl_list_text.specs.Listings.{AreFaults, IsListingOf}
 use Rattle.tl_list.specs.Alike.{IsSameFault, AreSameFaults, HaveSameNumbers, AreAlike}
 use Rattle.tl_list.proofs.OneOrder.{AreOne, AreInOne, one_order}
 use Rattle.tl_list.proofs.Listed.{none_is_refused, sound_alone, no_map}
 use Rattle.tl_list.proofs.Emptiness.{map_empty}
-use Rattle.tl_list.proofs.Told.{unsound}
 use Rattle.tl_check_planar.specs.ByHeight.Heights.{height, widest}
 use Rattle.tl_check_faces.specs.declared.odd.OddGap.{OddGap}
 use Rattle.tl_check_faces.specs.declared.fault.FaceFault.{FaceFault}
@@ -223,14 +222,13 @@ module _ (m : TheMap) where
       ap₂ (λ h t. h ∷ t) (one_gap x y a b (low 0 x (omega arith)) (low' 0 y (omega arith)) one.0 each.0 other.0)
       (one_each xs ys f g (λ k d lt. low (suc k) d (omega (arith, lt))) (λ k d lt. low' (suc k) d (omega (arith, lt))) one.1 each.1 other.1)
 
-  same_faces : (f g : List MapFault) → AreFaceFaults m f → AreFaceFaults m g → AreSameFaults f g
-  same_faces f g a b =
-      one_list_same f g
-      (a.are
-      ∙ ap (map fault.Face)
-      (one_each a.all.gaps b.all.gaps a.told b.told (all_lowest widest m.chains a.all.gaps a.all.are) (all_lowest widest m.chains b.all.gaps b.all.are)
-      (gaps_in_one a.all.gaps b.all.gaps a.all.are b.all.are) a.all.each b.all.each)
-      ∙ sym b.are)
+  same_faces : (faces : Bool) (s t : List FaceFault) → AreFacesTold faces m s → AreFacesTold faces m t → s ≡ t
+  same_faces faces s t (inl a) (inl b) =
+      one_each a.1.all.gaps b.1.all.gaps s t (all_lowest widest m.chains a.1.all.gaps a.1.all.are) (all_lowest widest m.chains b.1.all.gaps b.1.all.are)
+      (gaps_in_one a.1.all.gaps b.1.all.gaps a.1.all.are b.1.all.are) a.1.all.each b.1.all.each
+  same_faces faces s t (inl a) (inr b) = absurd (b.0 a.0)
+  same_faces faces s t (inr a) (inl b) = absurd (a.0 b.0)
+  same_faces faces s t (inr a) (inr b) = a.1 ∙ sym b.1
 
 -- ---- listings
 
@@ -238,12 +236,13 @@ module _ (m : TheMap) where
 abbrev pub OnePoints : Type 0
 OnePoints = (m : TheMap) (a b : List Misplaced) → AreAllMisplaced (IsTouched m.chains) m a → AreAllMisplaced (IsTouched m.chains) m b → a ≡ b
 
-same_for : OnePoints → (faces : Bool) (m : TheMap) (f g : List MapFault) (l r : ℕ) → f ≢ [] → g ≢ [] → AreFaultsFor faces m f l
+same_for : OnePoints → (faces : Bool) (m : TheMap) (f g : List MapFault) (l r : ℕ) → AreFaultsFor faces m f l
     → AreFaultsFor faces m g r → AreSameFaults f g × (l ≡ r)
-same_for one_points faces m f g l r some_f some_g (inl a) (inl b) = same_of_map m (one_points m) f g l r a b
-same_for one_points faces m f g l r some_f some_g (inl a) (inr b) = absurd (unsound faces m f l some_f a b.1.1.sound)
-same_for one_points faces m f g l r some_f some_g (inr a) (inl b) = absurd (unsound faces m g r some_g b a.1.1.sound)
-same_for one_points faces m f g l r some_f some_g (inr a) (inr b) = (same_faces m f g a.1.1 b.1.1, a.1.0 ∙ sym b.1.0)
+same_for one_points faces m f g l r a b =
+    let others = same_of_map m (one_points m) a.others b.others l r a.all_others b.all_others in
+    let told : AreSameFaults (a.others ++ map fault.Face a.told) (b.others ++ map fault.Face b.told) = joined a.others b.others _ _ others.0
+    (one_list_same _ _ (ap (map fault.Face) (same_faces m faces a.told b.told a.all_faces b.all_faces))) in
+    (rw (a.are, b.are) told, others.1)
 
 same_faults : OnePoints → (faces : Bool) (all : Records) (f g : List MapFault) (l r : ℕ) → f ≢ [] → g ≢ [] → AreFaults faces all f l
     → AreFaults faces all g r → AreSameFaults f g × (l ≡ r)
@@ -255,7 +254,7 @@ same_faults one_points faces all f g l r some_f some_g (inl a) (inr have) = absu
 same_faults one_points faces all f g l r some_f some_g (inr have) (inl b) = absurd (no_map faces all g r _ some_g b.0 have)
 same_faults one_points faces all f g l r some_f some_g (inr have) (inr other) =
     let one = both all (λ m. AreFaultsFor faces m f l) (λ m. AreFaultsFor faces m g r) have other in
-    same_for one_points faces one.map f g l r some_f some_g one.so.0 one.so.1
+    same_for one_points faces one.map f g l r one.so.0 one.so.1
 
 same_refusals : (a b : List Refusal) → map pair_of a ≡ map pair_of b → a ≡ b
 same_refusals [] [] same = refl

@@ -1,6 +1,6 @@
 -- Each fault that is true of a map is told by the list of all.
-use Rattle.std.proofs.Common.{◌≡◌, ◌≢◌, ℕ, inl, inr, Bool, false, Some, List, [], ◌++◌, map, refl, sym, subst, arith}
-use Rattle.std.specs.List.{Contains}
+use Rattle.std.proofs.Common.{◌≡◌, ◌≢◌, ℕ, inl, inr, Bool, false, Some, List, [], ◌++◌, map, refl, subst, arith}
+use Rattle.std.specs.List.{Any, Contains}
 use Rattle.std.proofs.lemmas.List.Elements.{All-contains, Contains-append_left, Contains-append_right}
 use Rattle.tl_geom.specs.declared.point.Point.{Point}
 use Rattle.tl_map_county.specs.TheMap.{TheMap}
@@ -17,16 +17,14 @@ use Rattle.tl_list_map.proofs.NodesLemmas.Emptiness.{cells_agree}
 use Rattle.tl_check_verdict.specs.declared.fault.MapFault.{MapFault}
 use Rattle.tl_check_verdict.specs.declared.fault.MapFault.TheVariants as fault
 use Rattle.tl_check_verdict.specs.Truth.{IsTrueOfMap}
-use Rattle.tl_check_verdict.specs.Sound.{IsSound}
-use Rattle.tl_check_verdict.proofs.Denials.{not_sound_alone}
 use Rattle.tl_check_faces.specs.declared.fault.FaceFault.{FaceFault}
 use Rattle.tl_check_faces.specs.Faults.{IsTrueFaceFault}
 use Rattle.tl_check_sweep.proofs.FaceSearch.Exact.{told as of_all_gaps}
-use Rattle.tl_list_text.specs.MapFaults.{side_fault, AreMapFaults, AreFaceFaults, AreFaultsFor}
-use Rattle.tl_list.specs.Telling.{IsMeetOf, IsOfSides, IsOfCells, HangsOnSides, IsTold}
+use Rattle.tl_list_text.specs.MapFaults.{side_fault, AreMapFaults, AreLookedAt, AreFacesTold, AreFaultsFor}
+use Rattle.tl_list.specs.Telling.{IsMeetOf, IsOfSides, IsOfCells, HangsOnSides, IsTold, IsTrueAmong}
 use Rattle.tl_list.proofs.Emptiness.{odds_deny}
 use Rattle.tl_list.proofs.Lists.{held_map, named_by, some_first, contains_or}
-use Rattle.tl_list.proofs.Truth.{start_is, each_is_true}
+use Rattle.tl_list.proofs.Truth.{start_is}
 
 module _ (m : TheMap) (faults : List MapFault) (touched : ℕ) (all : AreMapFaults m faults touched) where
   among_meets : (f : MapFault) → Contains (map fault.Meet all.meets) f → Contains faults f
@@ -111,27 +109,40 @@ module _ (m : TheMap) (faults : List MapFault) (touched : ℕ) (all : AreMapFaul
 
 -- ---- where faces may be asked for
 
-module _ (faces : Bool) (m : TheMap) (faults : List MapFault) (touched : ℕ) (some : faults ≢ []) where
-  -- where faults are told that aren't of faces, the map isn't sound
-  pub unsound : AreMapFaults m faults touched → ¬ IsSound m
-  unsound all =
-      let first = some_first faults some in
-      not_sound_alone m first.0 (subst (IsTrueOfMap false m) first.1.2 (each_is_true m faults touched all first.1.0 first.0 first.1.1))
+-- what is told by a list is told by a longer one
+module _ (others rest faults : List MapFault) (touched : ℕ) (are : faults ≡ others ++ rest) where
+  held_more : (f : MapFault) → Contains others f → Contains faults f
+  held_more f held = rw are (Contains-append_left others rest f held)
 
-  face_told : AreFaceFaults m faults → (f : FaceFault) → IsTrueFaceFault m f → IsTold faults touched (fault.Face f)
-  face_told all f true_one =
-      subst (λ (fs : List MapFault). Contains fs (fault.Face f)) (sym all.are) (held_map fault.Face all.told f (of_all_gaps m all.told all.all f true_one))
+  any_more : (P : MapFault → Type 0) → Any P others → Any P faults
+  any_more P named = named_by P faults named.1 (held_more named.1 (named.0, named.2, named.3)) named.4
 
-  pub told_for : AreFaultsFor faces m faults touched → (f : MapFault) → IsTrueOfMap faces m f → IsTold faults touched f
-  told_for (inl all) (fault.Records f) true_one = absurd true_one
-  told_for (inl all) (fault.Meet meet) true_one = told m faults touched all (fault.Meet meet) true_one
-  told_for (inl all) (fault.Side node first next) true_one = told m faults touched all (fault.Side node first next) true_one
-  told_for (inl all) (fault.PolygonPoint misplaced) true_one = told m faults touched all (fault.PolygonPoint misplaced) true_one
-  told_for (inl all) (fault.Cell odds) true_one = told m faults touched all (fault.Cell odds) true_one
-  told_for (inl all) (fault.Face f) true_one = absurd (unsound all true_one.1.0)
-  told_for (inr of_faces) (fault.Records f) true_one = absurd true_one
-  told_for (inr of_faces) (fault.Meet meet) true_one = absurd (not_sound_alone m (fault.Meet meet) true_one of_faces.1.1.sound)
-  told_for (inr of_faces) (fault.Side node first next) true_one = absurd (not_sound_alone m (fault.Side node first next) true_one of_faces.1.1.sound)
-  told_for (inr of_faces) (fault.PolygonPoint misplaced) true_one = absurd (not_sound_alone m (fault.PolygonPoint misplaced) true_one of_faces.1.1.sound)
-  told_for (inr of_faces) (fault.Cell odds) true_one = absurd (not_sound_alone m (fault.Cell odds) true_one of_faces.1.1.sound)
-  told_for (inr of_faces) (fault.Face f) true_one = face_told of_faces.1.1 f true_one.1.1.0
+  told_more : (f : MapFault) → IsTold others touched f → IsTold faults touched f
+  told_more (fault.Records f) told_one = held_more (fault.Records f) told_one
+  told_more (fault.Meet meet) told_one = any_more (IsMeetOf meet.s meet.t) told_one
+  told_more (fault.Side node first next) told_one = held_more (fault.Side node first next) told_one
+  told_more (fault.PolygonPoint misplaced) (inl held) = inl (held_more (fault.PolygonPoint misplaced) held)
+  told_more (fault.PolygonPoint misplaced) (inr hangs) = inr (hangs.0, (hangs.1.0, any_more IsOfSides hangs.1.1))
+  told_more (fault.Cell odds) told_one = any_more IsOfCells told_one
+  told_more (fault.Face f) told_one = held_more (fault.Face f) told_one
+
+module _ (faces : Bool) (m : TheMap) (faults : List MapFault) (touched : ℕ) (all : AreFaultsFor faces m faults touched) where
+  other_told : (f : MapFault) → IsTrueOfMap false m f → IsTold faults touched f
+  other_told f true_one = told_more all.others (map fault.Face all.told) faults touched all.are f (told m all.others touched all.all_others f true_one)
+
+  face_told : (f : FaceFault) → AreLookedAt faces m → IsTrueFaceFault m f → IsTold faults touched (fault.Face f)
+  face_told f looked true_one = go all.all_faces
+    where
+      go : AreFacesTold faces m all.told → IsTold faults touched (fault.Face f)
+      go (inl are) =
+          rw all.are
+          (Contains-append_right all.others (map fault.Face all.told) (fault.Face f) (held_map fault.Face all.told f (of_all_gaps m all.told are.1.all f true_one)))
+      go (inr none) = absurd (none.0 looked)
+
+  pub told_for : (f : MapFault) → IsTrueAmong faces m f → IsTold faults touched f
+  told_for (fault.Records f) true_one = absurd true_one
+  told_for (fault.Meet meet) true_one = other_told (fault.Meet meet) true_one
+  told_for (fault.Side node first next) true_one = other_told (fault.Side node first next) true_one
+  told_for (fault.PolygonPoint misplaced) true_one = other_told (fault.PolygonPoint misplaced) true_one
+  told_for (fault.Cell odds) true_one = other_told (fault.Cell odds) true_one
+  told_for (fault.Face f) true_one = face_told f true_one.0 true_one.1.0

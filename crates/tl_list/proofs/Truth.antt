@@ -1,5 +1,5 @@
 -- Each fault that is told of a map is true of it.
-use Rattle.std.proofs.Common.{◌≡◌, ℕ, Bool, false, Some, List, sym, ap, ◌∙◌, inl, inr}
+use Rattle.std.proofs.Common.{◌≡◌, ℕ, Bool, false, Some, List, map, length, sym, subst, ap, ◌∙◌, inl, inr, arith}
 use Rattle.std.specs.Option.{unwrap_or}
 use Rattle.std.specs.List.{All}
 use Rattle.std.proofs.lemmas.List.Elements.{All-append, All-map}
@@ -12,8 +12,11 @@ use Rattle.tl_list_map.proofs.NodesLemmas.Agreeing.{at_odds}
 use Rattle.tl_check_verdict.specs.declared.fault.MapFault.{MapFault}
 use Rattle.tl_check_verdict.specs.declared.fault.MapFault.TheVariants as fault
 use Rattle.tl_check_verdict.specs.Truth.{IsTrueOfMap}
-use Rattle.tl_check_verdict.proofs.Denials.{true_still}
-use Rattle.tl_list_text.specs.MapFaults.{nowhere, start_of, side_fault, AreMapFaults, AreFaultsFor}
+use Rattle.tl_check_verdict.specs.Sound.{IsSoundFor}
+use Rattle.tl_check_verdict.proofs.Denials.{not_sound_alone}
+use Rattle.tl_check_faces.specs.declared.fault.FaceFault.{FaceFault}
+use Rattle.tl_list_text.specs.MapFaults.{nowhere, start_of, side_fault, AreMapFaults, AreFacesTold, AreFaultsFor}
+use Rattle.tl_list.specs.Telling.{IsTrueAmong}
 
 -- a dart that starts somewhere starts at the point that is told
 start_known : (chains : List MapChain) (dart : ℕ) (p : Point) → dart_start chains dart ≡ Some p → dart_start chains dart ≡ Some (start_of chains dart)
@@ -34,10 +37,33 @@ each_is_true m faults touched all =
     (All-map P fault.Cell all.cells (λ k d lt. at_odds m.chains _ _ _ _ (all.all_cells.true_ones k d lt))))
     (All-map P fault.PolygonPoint all.points all.all_points.each))
 
--- the same where faces may be asked for
+-- so it is among others, where faces may be asked for
+among_still : (faces : Bool) (m : TheMap) (f : MapFault) → IsTrueOfMap false m f → IsTrueAmong faces m f
+among_still faces m (fault.Records f) true_one = true_one
+among_still faces m (fault.Meet meet) true_one = true_one
+among_still faces m (fault.Side node first next) true_one = true_one
+among_still faces m (fault.PolygonPoint misplaced) true_one = true_one
+among_still faces m (fault.Cell odds) true_one = true_one
+among_still faces m (fault.Face f) true_one = absurd (cc)
+
+-- and each of faces is where these are looked at
+faces_true : (faces : Bool) (m : TheMap) (told : List FaceFault) → AreFacesTold faces m told → All (IsTrueAmong faces m) (map fault.Face told)
+faces_true faces m told (inl looked) =
+    All-map (IsTrueAmong faces m) fault.Face told
+    (λ k d lt. (looked.0, (looked.1.true_ones k d lt, looked.1.untrue (λ none. let e : length told ≡ 0 = ap length none in omega (arith, lt, e)))))
+faces_true faces m told (inr none) = subst (λ (fs : List FaceFault). All (IsTrueAmong faces m) (map fault.Face fs)) (sym none.1) (λ k d lt. absurd (omega (arith, lt)))
+
 pub each_is_true_for : (faces : Bool) (m : TheMap) (faults : List MapFault) (touched : ℕ) → AreFaultsFor faces m faults touched
-    → All (IsTrueOfMap faces m) faults
-each_is_true_for faces m faults touched (inl all) = λ k d lt. true_still faces m _ (each_is_true m faults touched all k d lt)
-each_is_true_for faces m faults touched (inr of_faces) =
-    let told = of_faces.1.1 in
-    rw told.are (All-map (IsTrueOfMap faces m) fault.Face told.told (λ k d lt. (of_faces.0, (told.sound, (told.true_ones k d lt, told.untrue)))))
+    → All (IsTrueAmong faces m) faults
+each_is_true_for faces m faults touched all =
+    rw all.are (All-append (IsTrueAmong faces m) all.others (map fault.Face all.told)
+    (λ k d lt. among_still faces m _ (each_is_true m all.others touched all.all_others k d lt)) (faces_true faces m all.told all.all_faces))
+
+-- what is true among others denies what is asked
+pub among_denies : (faces : Bool) (m : TheMap) (f : MapFault) → IsTrueAmong faces m f → ¬ IsSoundFor faces m
+among_denies faces m (fault.Records f) true_one sound = absurd true_one
+among_denies faces m (fault.Meet meet) true_one sound = not_sound_alone m (fault.Meet meet) true_one sound.sound
+among_denies faces m (fault.Side node first next) true_one sound = not_sound_alone m (fault.Side node first next) true_one sound.sound
+among_denies faces m (fault.PolygonPoint misplaced) true_one sound = not_sound_alone m (fault.PolygonPoint misplaced) true_one sound.sound
+among_denies faces m (fault.Cell odds) true_one sound = not_sound_alone m (fault.Cell odds) true_one sound.sound
+among_denies faces m (fault.Face f) true_one sound = true_one.1.1 (sound.facing true_one.0.0)

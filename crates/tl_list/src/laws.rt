@@ -9,7 +9,7 @@ ghost use Rattle.tl_check_verdict.specs.Sound.{IsSoundFor};
 ghost use Rattle.tl_check_verdict.specs.Records.{HaveMap, IsTrueOfRecords};
 ghost use Rattle.tl_list_text.specs.declared.listing.Listing.{Listing};
 ghost use Rattle.tl_list_text.specs.Listings.{IsListingOf};
-ghost use Rattle.tl_list.specs.Telling.{SaysSound, EachFault, Tells};
+ghost use Rattle.tl_list.specs.Telling.{SaysSound, EachFault, Tells, IsTrueAmongFaults};
 ghost use Rattle.tl_list.specs.Alike.{AreAlike};
 
 use tl_list_map::points::laws::a_map_has_one_list_of_all_misplaced;
@@ -23,14 +23,20 @@ pub fn a_sound_map_alone_is_listed_as_sound()
 /// Each fault that is listed is true.
 pub fn each_fault_that_is_listed_is_true()
     ensures { (options : Options) (text : List ℕ) (listing : Listing) → IsListingOf options text listing →
-        EachFault listing (IsTrueOfRecords options.faces (records_of (layout_with options) text)) }
+        EachFault listing (IsTrueAmongFaults options.faces (records_of (layout_with options) text)) }
 {}
 
-/// The list tells each fault that is true, so that the one of several which `tl_build` names is among them: itself, but
-/// for the point at which two segments meet, the pair of zero-cell ids, and what hangs on polygons that sides at odds name.
+/// The list tells each fault that is true: itself, but for the point at which two segments meet, the pair of zero-cell ids, and what hangs
+/// on polygons that sides at odds name.
 pub fn each_fault_that_is_true_is_told()
     ensures { (options : Options) (text : List ℕ) (listing : Listing) (fault : MapFault) →
-        IsListingOf options text listing → IsTrueOfRecords options.faces (records_of (layout_with options) text) fault → Tells listing fault }
+        IsListingOf options text listing → IsTrueAmongFaults options.faces (records_of (layout_with options) text) fault → Tells listing fault }
+{}
+
+/// So the one of several faults which `tl_build` names is among them.
+pub fn a_fault_that_is_true_alone_is_true_among_others()
+    ensures { (options : Options) (text : List ℕ) (fault : MapFault) → IsTrueOfRecords options.faces (records_of (layout_with options) text) fault →
+        IsTrueAmongFaults options.faces (records_of (layout_with options) text) fault }
 {}
 
 /// A text has one listing, but for the points at which segments meet, and the nodes and rings of a sound map.

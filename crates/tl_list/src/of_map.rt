@@ -1,6 +1,6 @@
 //! All faults of a map, or that it is sound.
 
-ghost use Rattle.std.specs.Prelude.{◌≡◌, ◌↔◌, ℕ, [], IfOk, IfSome, length, true, Contains};
+ghost use Rattle.std.specs.Prelude.{◌≡◌, ◌≢◌, ◌↔◌, ℕ, [], IfOk, IfSome, OnOk, length, true, Contains};
 ghost use Rattle.tl_map_county.specs.Segments.{segments_before};
 ghost use Rattle.tl_check_planar.specs.Planar.{IsPlanar};
 ghost use Rattle.tl_check_planar.specs.Rectangles.{segment_rect};
@@ -15,7 +15,9 @@ ghost use Rattle.tl_map_county.specs.Remaining.{remaining};
 ghost use Rattle.tl_list_map.specs.Nodes.Disagreements.{AreAllDisagreements};
 ghost use Rattle.tl_list_map.specs.Nodes.Touched.{AreAllTouched};
 ghost use Rattle.tl_list_map.specs.Points.Hidden.{IsMarked, AreMapsAlikeBut};
-ghost use Rattle.tl_list.specs.Keeping.OfMap.{IsListingOfMap, IsListingFor};
+ghost use Rattle.tl_check_sides.specs.Sides.{SidesAgree};
+ghost use Rattle.tl_list_text.specs.MapFaults.{AreMapFaults};
+ghost use Rattle.tl_list.specs.Keeping.OfMap.{IsListingOfMap, IsListingFor, AddsFaces, begins_with_chains};
 
 use crate::met::{Differing, list_met};
 use crate::planar::list_planar;
@@ -27,7 +29,7 @@ use tl_check_meets::laws::planar_where_no_meet_is_listed;
 use tl_check_planar::{Meet, Segments};
 use tl_check_sweep::face_search::all_face_faults;
 use tl_check_sweep::{Gaps, PlanarPart, SweepReport, Swept, planar_part, sweep};
-use tl_check_verdict::Report;
+use tl_check_verdict::{MapFault, Report};
 use tl_list_map::nodes::{all_disagreements, touched_polygons};
 use tl_list_map::points::{hide_polygons, marks_of};
 use tl_list_text::Listing;
@@ -41,7 +43,8 @@ const FEW: u32 = 16;
 
 /// All faults of a map, or its report where it is sound: by a sweep, and where that tells that segments meet, by a
 /// search for all their meets. Of polygons' points those are looked at that the sweep doesn't know to be placed. Where
-/// `faces` are asked for, those that disagree are listed of a map that is sound otherwise. An error says that memory was refused.
+/// `faces` are asked for, those that disagree are listed of a map whose chains are planar and whose sides agree. An error says that memory
+/// was refused.
 pub fn list_map(alloc: Global, map: &Map, faces: bool) -> Result<Listing, Memory>
     ensures { IfOk result (IsListingFor faces map.now) }
 {
@@ -81,7 +84,9 @@ fn list_for(
     match list_swept(alloc, map, swept, suspects)? {
         Listing::Sound(report) => list_faces(alloc, map, report, faces, gaps),
         Listing::Refused(_) => unreachable!(),
-        Listing::Faults { faults, touched } => Ok(Listing::Faults { faults, touched }),
+        Listing::Faults { faults, touched } => {
+            list_faces_behind(alloc, map, faults, touched, faces, gaps)
+        }
     }
 }
 
@@ -101,17 +106,66 @@ fn list_faces(
     if !faces {
         return Ok(Listing::Sound(report));
     }
+    let mut faults = Vec::new(alloc);
+    add_faces(alloc, map, gaps, &mut faults)?;
+    if faults.is_empty() {
+        return Ok(Listing::Sound(report));
+    }
+    Ok(Listing::Faults { faults, touched: 0 })
+}
+
+/// All faults of a map of which these are all others: where no segments meet and sides agree, all faces that disagree come behind
+/// them, if they are asked for.
+fn list_faces_behind(
+    alloc: Global,
+    map: &Map,
+    mut faults: Vec<MapFault>,
+    touched: u64,
+    faces: bool,
+    gaps: &[OddGap],
+) -> Result<Listing, Memory>
+    requires some { faults.items ≢ [] }
+    requires others { AreMapFaults map.now faults.items touched }
+    requires all { faces ≡ true → IsPlanar map.now.chains → AreAllOddGaps widest map.now.chains gaps.now }
+    ensures { IfOk result (IsListingFor faces map.now) }
+{
+    // So the first fault tells whether the chains are planar.
+    planar_where_no_meet_is_listed();
+    if !faces || begins_with_chains(&faults) {
+        return Ok(Listing::Faults { faults, touched });
+    }
+    add_faces(alloc, map, gaps, &mut faults)?;
+    Ok(Listing::Faults { faults, touched })
+}
+
+/// Whether the first of these faults is that segments meet, or that sides disagree: where such a fault is told, the first is one.
+fn begins_with_chains(faults: &[MapFault]) -> bool
+    ensures { result ≡ begins_with_chains faults.now }
+{
+    match faults.first() {
+        Some(MapFault::Meet(_) | MapFault::Side { .. }) => true,
+        _ => false,
+    }
+}
+
+/// Appends all faces that disagree of a map whose chains are planar and whose sides agree.
+fn add_faces(
+    alloc: Global,
+    map: &Map,
+    gaps: &[OddGap],
+    faults: &mut Vec<MapFault>,
+) -> Result<(), Memory>
+    requires planar { IsPlanar map.now.chains }
+    requires agree { SidesAgree map.now.chains }
+    requires all { AreAllOddGaps widest map.now.chains gaps.now }
+    ensures { OnOk result (AddsFaces map.now faults.old.items faults.new.items) }
+{
     let Ok(disagreeing) = all_face_faults(alloc, map, gaps) else {
         return Err(Memory);
     };
-    if disagreeing.is_empty() {
-        return Ok(Listing::Sound(report));
-    }
     // so that a fault of faces denies that they are true
     map.has_proper_chains();
-    let mut faults = Vec::new(alloc);
-    push_faces(&mut faults, &disagreeing)?;
-    Ok(Listing::Faults { faults, touched: 0 })
+    push_faces(faults, &disagreeing)
 }
 
 /// All faults but those of faces of a map of which a sweep has said this, or its report where it is sound.

@@ -1,11 +1,13 @@
 -- All faults of a map, in their order.
-use Rattle.std.specs.Prelude.{◌≡◌, ℕ, pos, Bool, List, ◌++◌, map, length, ◌⊎◌, IsTrue, All}
+use Rattle.std.specs.Prelude.{◌≡◌, ◌≢◌, ℕ, pos, Bool, List, [], ◌++◌, map, length, ◌⊎◌, IsTrue, All}
 use Rattle.std.specs.Option.{unwrap_or}
 use Rattle.tl_geom.specs.declared.point.Point.{Point}
 use Rattle.tl_map_county.specs.TheMap.{TheMap, MapChain}
 use Rattle.tl_map_county.specs.Darts.{dart_start}
 use Rattle.tl_check_planar.specs.declared.meet.Meet.{Meet}
+use Rattle.tl_check_planar.specs.Planar.{IsPlanar}
 use Rattle.tl_check_sides.specs.declared.fault.Disagreement.{Disagreement}
+use Rattle.tl_check_sides.specs.Sides.{SidesAgree}
 use Rattle.tl_check_sides.specs.declared.cells.at_odds.CellsAtOdds.{CellsAtOdds}
 use Rattle.tl_check_inside.specs.declared.misplaced.Misplaced.{Misplaced}
 use Rattle.tl_check_meets.specs.Meets.{AreAllMeets}
@@ -18,7 +20,6 @@ use Rattle.tl_check_faces.specs.declared.fault.FaceFault.{FaceFault}
 use Rattle.tl_check_faces.specs.Faults.{IsTrueFaceFault}
 use Rattle.tl_check_faces.specs.Truth.{AreFacesTrue}
 use Rattle.tl_check_sweep.specs.FaceSearch.AllFaults.{AreOfAllGaps}
-use Rattle.tl_check_verdict.specs.Sound.{IsSound}
 use Rattle.tl_check_verdict.specs.declared.fault.MapFault.{MapFault}
 use Rattle.tl_check_verdict.specs.declared.fault.MapFault.TheVariants as fault
 
@@ -52,16 +53,24 @@ pub record AreMapFaults (m : TheMap) (faults : List MapFault) (touched : ℕ) : 
   pub count : touched ≡ length named
   pub are : faults ≡ map fault.Meet meets ++ map (side_fault m.chains) sides ++ map fault.Cell cells ++ map fault.PolygonPoint points
 
--- all faults of a map that is sound but for its faces, which aren't true: one of each gap along which sides that face one another differ
-pub record AreFaceFaults (m : TheMap) (faults : List MapFault) : Type 0 where
-  pub sound : IsSound m
-  pub untrue : ¬ AreFacesTrue m.chains
-  pub told : List FaceFault
+-- faces are looked at: they are asked for, chains are planar, and sides agree about nodes
+abbrev pub AreLookedAt : (faces : Bool) → TheMap → Type 0
+AreLookedAt faces m = IsTrue faces × (IsPlanar m.chains × SidesAgree m.chains)
+
+-- all faults of faces: one of each gap along which sides that face one another differ. So faces aren't true where there is one
+pub record AreFaceFaults (m : TheMap) (told : List FaceFault) : Type 0 where
   pub true_ones : All (IsTrueFaceFault m) told
   pub all : AreOfAllGaps widest m told
-  pub are : faults ≡ map fault.Face told
+  pub untrue : told ≢ [] → ¬ AreFacesTrue m.chains
 
--- all faults of a map where faces may be asked for: they are told where nothing else is wrong
-abbrev pub AreFaultsFor : (faces : Bool) → TheMap → List MapFault → ℕ → Type 0
-AreFaultsFor faces m faults touched =
-    AreMapFaults m faults touched ⊎ (IsTrue faces × ((touched ≡ 0) × AreFaceFaults m faults))
+-- all faults of faces where these are looked at, and else none
+abbrev pub AreFacesTold : (faces : Bool) → TheMap → List FaceFault → Type 0
+AreFacesTold faces m told = (AreLookedAt faces m × AreFaceFaults m told) ⊎ ((¬ AreLookedAt faces m) × (told ≡ []))
+
+-- all faults of a map where faces may be asked for: those of faces come behind all others
+pub record AreFaultsFor (faces : Bool) (m : TheMap) (faults : List MapFault) (touched : ℕ) : Type 0 where
+  pub others : List MapFault
+  pub told : List FaceFault
+  pub all_others : AreMapFaults m others touched
+  pub all_faces : AreFacesTold faces m told
+  pub are : faults ≡ others ++ map fault.Face told

@@ -270,3 +270,25 @@ pub noted_then : {E : Type 0} (old mid new : KeptLines) (subjects : Subjects) (n
     → Grows old mid subjects.0 (line_of (number, r)) → OnOk done (Grows mid new subjects.1 (line_of (number, r))) → OnOk done (Notes old new (number, r))
 noted_then old mid new subjects number r (Ok done) is one two = noted old mid new subjects number r is one two
 noted_then old mid new subjects number r (Err stop) is one two = tt
+
+-- ---- records that are wanted
+
+-- a subject that isn't wanted is none that is
+pub not_wanted : (keys : List Subject) (t s : Subject) → is_some (position (same_subject t) keys) ≡ false → is_some (position (same_subject s) keys) ≡ true → same_subject t s ≡ false
+not_wanted keys t s none some =
+    elim (cases_Bool (same_subject t s)) [
+      | inl same ↦ let wrong : false ≡ true = sym none ∙ ap (λ (x : Subject). is_some (position (same_subject x) keys)) (subject_is t s same) ∙ some in absurd (let no = wrong in cc)
+      | inr other ↦ other
+    ]
+
+-- a record that neither of the two names is named by no other
+pub not_named : (r : Record) (s : Subject) (subjects : Subjects) → subjects ≡ subjects_naming r → is_subject subjects.0 s ≡ false → is_subject subjects.1 s ≡ false → is_about s r ≡ false
+not_named r s subjects is narrow wide =
+    let line : RecordLine = line_of (0, r) in
+    let first : is_subject (subjects_naming r).0 s ≡ false = ap (λ (p : Subjects). is_subject p.0 s) (sym is) ∙ narrow in
+    let second : is_subject (subjects_naming r).1 s ≡ false = ap (λ (p : Subjects). is_subject p.1 s) (sym is) ∙ wide in
+    let both = named_once r s line in
+    elim (cases_Bool (is_about s r)) [
+      | inl named ↦ absurd (let wrong = rw (first, second, named) at both in cc)
+      | inr other ↦ other
+    ]

@@ -1,5 +1,5 @@
 -- Faults as one FeatureCollection.
-use Rattle.std.specs.Prelude.{ℕ, Bool, ◌==◌, List, [], ◌++◌, Option, None, Some, option_to_list, codes, decimal, length, slice_get, if◌then◌else◌}
+use Rattle.std.specs.Prelude.{ℕ, Bool, ◌==◌, List, [], ◌∷◌, ◌++◌, drop, Option, None, Some, option_to_list, codes, decimal, length, slice_get, if◌then◌else◌}
 use Rattle.std.specs.Option.{option_map_or}
 use Rattle.std.specs.List.{flat_map, list_any}
 use Rattle.tl_map_county.specs.declared.polygons.Polygon.{Polygon}
@@ -66,8 +66,14 @@ chains_text (Some m) tlids = flat_map (named_chain m.polygons tlids) m.chains
 abbrev pub closing_text : ℕ → List ℕ
 closing_text touched = if touched == 0 then collection_closing else codes "\n],\"touched\":" ++ decimal touched ++ codes "}\n"
 
--- all faults, and behind them the chains that they name; where there is no fault, there is no such chain
-unfoldable pub faults_text : List (List ℕ) → List ℕ → Option TheMap → (Subject → List RecordLine) → List (Option Rational) → List MapFault → ℕ → List ℕ
-faults_text names counts drawn about places faults touched =
+-- features that each have a comma in front, behind those of faults; where there is no fault, the first has none
+abbrev pub behind_faults : List MapFault → List ℕ → List ℕ
+behind_faults [] features = drop 1 features
+behind_faults (fault ∷ rest) features = features
+
+-- all faults, behind them the chains that they name, and last the features of refused lines, each with a comma in front; where there is no
+-- fault, there is no such chain
+unfoldable pub faults_text : List (List ℕ) → List ℕ → Option TheMap → (Subject → List RecordLine) → List (Option Rational) → List MapFault → ℕ → List ℕ → List ℕ
+faults_text names counts drawn about places faults touched refused =
     collection_opening ++ features_below 0 (fault_feature names counts (chains_of drawn) about places faults) (length faults)
-    ++ chains_text drawn (named_tlids (chains_of drawn) faults) ++ closing_text touched
+    ++ chains_text drawn (named_tlids (chains_of drawn) faults) ++ behind_faults faults refused ++ closing_text touched

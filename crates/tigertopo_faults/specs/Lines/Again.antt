@@ -7,18 +7,20 @@ use Rattle.tl_map_county.specs.TheMap.{TheMap, MapChain}
 use Rattle.tigertopo_files.specs.Files.{Under}
 use Rattle.tl_check_verdict.specs.declared.fault.MapFault.{MapFault}
 use Rattle.tigertopo_where.specs.LinePlaces.{line_count}
+use Rattle.tigertopo_where.specs.Left.{left_from}
 use Rattle.tigertopo_where.specs.Hint.Telling.{HaveTexts}
 use Rattle.tigertopo_faults.specs.Records.Finding.{HoldsAll}
 use Rattle.tigertopo_faults.specs.Records.SpokenOf.{chains_of}
 use Rattle.tigertopo_faults.specs.Lines.Places.{fault_place}
 use Rattle.tigertopo_faults.specs.declared.lines.again.Spoken.{Spoken}
 
--- of files of these texts: so many lines has each, and the lines of all records that the faults speak of are held
-pub record AreOf (layout : Layout) (texts : List (List ℕ)) (chains : List MapChain) (faults : List MapFault) (spoken : Spoken) : Type 0 where
+-- of files of these texts: so many lines has each, and the lines of all records that the faults speak of are held, without those of the lines
+-- that are passed over
+pub record AreOf (layout : Layout) (passed : List ℕ) (texts : List (List ℕ)) (chains : List MapChain) (faults : List MapFault) (spoken : Spoken) : Type 0 where
   pub counted : spoken.counts.items ≡ map line_count texts
-  pub lines : HoldsAll chains faults (lines_read layout (joined texts)).entries spoken.lines
+  pub lines : HoldsAll chains faults (lines_read layout (left_from 0 passed (joined texts))).entries spoken.lines
 
 -- where the faults lie on the map, where there is one; and the same where the text under each name is known
-pub record AreSpoken (layout : Layout) (under : Under) (names : List (List ℕ)) (drawn : Option TheMap) (faults : List MapFault) (spoken : Spoken) : Type 0 where
+pub record AreSpoken (layout : Layout) (passed : List ℕ) (under : Under) (names : List (List ℕ)) (drawn : Option TheMap) (faults : List MapFault) (spoken : Spoken) : Type 0 where
   pub placed : spoken.places.items ≡ map (fault_place drawn) faults
-  pub read : (texts : List (List ℕ)) → HaveTexts under names texts → AreOf layout texts (chains_of drawn) faults spoken
+  pub read : (texts : List (List ℕ)) → HaveTexts under names texts → AreOf layout passed texts (chains_of drawn) faults spoken

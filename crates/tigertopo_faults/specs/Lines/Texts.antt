@@ -111,12 +111,12 @@ placed_faults_text names counts chains about places n (fault ∷ rest) =
 -- what is printed of a list: its first item alone, or all of it, or so many from the front
 abbrev pub chosen : {A : Type 0} → Told → List A → List A
 chosen One list = take 1 list
-chosen (All most) list = printed most list
+chosen (All most skips) list = printed most list
 
 -- behind the faults, where all are told: how many polygons are touched, and how many faults there are
 abbrev pub end_text : Told → ℕ → ℕ → List ℕ
 end_text One count touched = []
-end_text (All most) count touched = touched_text touched ++ count_line (codes "faults=") most count
+end_text (All most skips) count touched = touched_text touched ++ count_line (codes "faults=") most count
 
 -- the first fault, or all, or so many from the front, each with its place and its records; and where all are told, how many there are
 abbrev pub placed_text : List (List ℕ) → List ℕ → List MapChain → (Subject → List RecordLine) → List (Option Rational) → Told → List MapFault → ℕ → List ℕ

@@ -18,3 +18,7 @@ faults_end count printed touched =
 -- of refused lines: how many there are, and how many of them are printed
 unfoldable pub refusals_end : (count printed : ℕ) → List ℕ
 refusals_end count printed = codes "{\"is\":\"refusals\",\"refused\":" ++ decimal count ++ codes ",\"printed\":" ++ decimal printed ++ codes "}\n"
+
+-- that of refused lines that were skipped
+abbrev pub skipped_end : ℕ → List ℕ
+skipped_end count = codes "{\"is\":\"skipped\",\"refused\":" ++ decimal count ++ codes "}\n"

@@ -9,7 +9,7 @@ use Rattle.tigertopo_faults.specs.declared.records.subject.Subject.TheVariants.{
 use Rattle.tigertopo_faults.specs.declared.records.line.RecordLine.{RecordLine}
 use Rattle.tigertopo_faults.specs.declared.records.kept.KeptLines.{KeptLines}
 use Rattle.tigertopo_faults.specs.declared.records.walk.HeldSegment.{HeldSegment}
-use Rattle.tigertopo_faults.specs.Records.SpokenOf.{is_about, line_of}
+use Rattle.tigertopo_faults.specs.Records.SpokenOf.{is_about, line_of, lines_about}
 use Rattle.tigertopo_faults.specs.Records.Naming.{same_subject, is_subject}
 use Rattle.tigertopo_faults.specs.Records.Ends.{segments_held}
 
@@ -30,6 +30,11 @@ pub record Grows (old new : KeptLines) (to : Option Subject) (line : RecordLine)
 pub record Notes (old new : KeptLines) (entry : ℕ × Record) : Type 0 where
   pub wanted : (s : Subject) → is_wanted new s ≡ is_wanted old s
   pub lines : (s : Subject) → is_wanted old s ≡ true → kept_of new s ≡ kept_of old s ++ (if is_about s entry.1 then line_of entry ∷ [] else [])
+
+-- so are several records, one after the other
+pub record NotesAll (old new : KeptLines) (entries : List (ℕ × Record)) : Type 0 where
+  pub wanted : (s : Subject) → is_wanted new s ≡ is_wanted old s
+  pub lines : (s : Subject) → is_wanted old s ≡ true → kept_of new s ≡ kept_of old s ++ lines_about entries s
 
 -- the segments of the chain that a subject draws, if it is one that does
 abbrev pub walked : Subject → List RecordLine → List HeldSegment

@@ -9,7 +9,7 @@ use tl_geom::Rational;
 use tl_map_county::Map;
 use tl_record::Sink;
 
-/// Faults as features, and the chains that they name: what [`print_faults`] prints.
+/// Faults as features, the chains that they name, and refused lines: what [`print_faults`] prints.
 #[derive(Clone, Copy)]
 pub struct FaultsText<'a> {
     /// The files' names.
@@ -25,6 +25,8 @@ pub struct FaultsText<'a> {
     pub faults: &'a [MapFault],
     /// How many polygons are touched.
     pub touched: u64,
+    /// The features of refused lines, each with a comma in front.
+    pub refused: &'a [u8],
 }
 
 impl Text for FaultsText<'_> {
@@ -33,7 +35,7 @@ impl Text for FaultsText<'_> {
     ghost use Rattle.tigertopo_faults.specs.Geojson.Texts.{faults_text};
 
     ghost text = { λ told. faults_text (map_list string_bytes told.names.now) told.counts.now (option_copied told.drawn)
-        (held told.lines.now) told.places.now told.faults.now told.touched };
+        (held told.lines.now) told.places.now told.faults.now told.touched told.refused.now };
 
     ghost is_ready = { λ told. ⊤ };
 
@@ -47,6 +49,7 @@ impl Text for FaultsText<'_> {
             self.places,
             self.faults,
             self.touched,
+            self.refused,
             out,
         )
     }

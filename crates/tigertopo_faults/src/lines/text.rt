@@ -46,7 +46,7 @@ pub(crate) fn chosen(faults: &[MapFault], told: Told) -> &[MapFault]
 {
     match told {
         Told::One => first_of(faults, Some(1)),
-        Told::All(most) => first_of(faults, most),
+        Told::All { most, .. } => first_of(faults, most),
     }
 }
 
@@ -54,7 +54,7 @@ pub(crate) fn chosen(faults: &[MapFault], told: Told) -> &[MapFault]
 fn push_end(text: &mut Vec<u8>, told: Told, count: u64, touched: u64) -> Result<(), AllocError>
     ensures { OnOk result (text.new.items ≡ text.old.items ++ end_text told count touched) }
 {
-    if let Told::All(most) = told {
+    if let Told::All { most, .. } = told {
         let end = text_of_end(touched, "faults=", most, count);
         text.extend_from_slice(end.as_str().as_bytes())?;
     }

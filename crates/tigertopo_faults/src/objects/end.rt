@@ -1,7 +1,7 @@
 //! The last object, which says how many there are.
 
 ghost use Rattle.std.specs.Prelude.{◌≡◌};
-ghost use Rattle.tigertopo_faults.specs.Objects.Ends.{faults_end, refusals_end, sound_object};
+ghost use Rattle.tigertopo_faults.specs.Objects.Ends.{faults_end, refusals_end, skipped_end, sound_object};
 
 use arrayvec::ArrayString;
 use tl_check_verdict::Report;
@@ -41,6 +41,16 @@ pub fn refusals_end(count: u64, printed: u64) -> ArrayString<LINE_ROOM>
     let mut text = ArrayString::new();
     push_number(&mut text, "{\"is\":\"refusals\",\"refused\":", count);
     push_number(&mut text, ",\"printed\":", printed);
+    text.push_str("}\n");
+    text
+}
+
+/// That of so many refused lines that were skipped.
+pub fn skipped_end(count: u64) -> ArrayString<LINE_ROOM>
+    ensures { result.bytes ≡ skipped_end count }
+{
+    let mut text = ArrayString::new();
+    push_number(&mut text, "{\"is\":\"skipped\",\"refused\":", count);
     text.push_str("}\n");
     text
 }

@@ -1,71 +1,184 @@
-//! Reads a text for the records that faults speak of.
+//! Reads a file for the records that faults speak of.
 
-ghost use Rattle.std.specs.Prelude.{◌≡◌, [], IfOk, IfErr, IfSome, option_copied, ⊤};
-ghost use Rattle.tigertopo_faults.specs.declared.records.subject.Subject.{Subject as SubjectOf};
-ghost use Rattle.tigertopo_faults.specs.Records.Kept.{kept_of};
-ghost use Rattle.tl_record.specs.declared.reader.Standing.TheVariants.{Reading};
-ghost use Rattle.tl_record.specs.Layout.{layout_with};
-ghost use Rattle.tl_record.specs.Records.{lines_read};
-ghost use Rattle.tl_record.specs.Reader.{source_of, standing_of, outcome};
-ghost use Rattle.tigertopo_faults.specs.Records.SpokenOf.{chains_of};
-ghost use Rattle.tigertopo_faults.specs.Records.Finding.{HoldsAll};
-ghost use Rattle.tl_cert_output.specs.Stops.{StopsFor, TellsDevice};
-ghost use Rattle.tigertopo_faults.specs.Records.Reading.{KeptAll};
+ghost use Rattle.std.specs.Prelude.{◌≡◌, ◌∷◌, ◌<◌, ◌≤◌, [], List, ℕ, Option, OnOk, IfOk, IfErr, IfSome, length, drop};
+ghost use Rattle.std.specs.Bool.{OnTrue};
+ghost use Rattle.std.specs.Io.KnownBytes.{prepend_known};
+ghost use Rattle.tl_cert_output.specs.Stops.{StopsFor};
+ghost use Rattle.tigertopo_where.specs.Finding.{IsWithin, PassesTo};
+ghost use Rattle.tigertopo_where.specs.Left.{numbers_of};
+ghost use Rattle.tigertopo_where.specs.Hint.Again.{HasNoEnd};
+ghost use Rattle.tigertopo_where.specs.Hint.Placing.{FailsRead};
+ghost use Rattle.tigertopo_faults.specs.Records.Reading.{FindsWanted, HasRecords, IsShown, TakesFirst, TakesShown, is_passed, numbers_behind, with_line};
 
 use crate::records::kept::KeptLines;
-use crate::records::lines::RecordLines;
-use crate::records::wanted::wanted_subjects;
-use std::alloc::Global;
-use std::hash::RandomState;
+use std::alloc::{AllocError, Global};
+use tigertopo_files::Reading;
+use tigertopo_where::{BLOCK, Found, pass_line, show_line};
 use tl_cert_output::Stop;
-use tl_check_verdict::MapFault;
-use tl_map_county::Map;
-use tl_record::{NO_RECORD, Options, ReadStop, RecordReader, Source};
+use tl_record::{Judgement, Layout, LineBuffer, MAX_LINES, Record, Refusal, Source, judge_line};
 
-/// Reads a text for the records that these faults speak of, up to its end or to the first line that is refused. Chains of
-/// darts are those of the map, where the records have one.
-pub fn record_lines<R: Source>(
-    alloc: Global,
-    hasher: RandomState,
-    records: &mut R,
-    options: Options,
-    map: Option<&Map>,
-    faults: &[MapFault],
-) -> Result<RecordLines, Stop>
-    // Where the bytes are known: the lines of all records that the faults speak of, and of no other.
-    ensures lines { IfOk result (λ lines. IfSome (R.remaining records.old) (λ text.
-        HoldsAll (chains_of (option_copied map.entry)) faults.now (lines_read (layout_with options) text).entries lines)) }
-    // It stops where memory was refused, or a read failed.
-    ensures stops { IfErr result (StopsFor ⊤) }
-    // `Device` is answered where a read failed in this call, and nowhere else.
-    ensures failures { TellsDevice (R.failure_count records.old) (R.failure_count records.new) result }
-{
-    let subjects = wanted_subjects(alloc, hasher, map, faults)?;
-    let empty = KeptLines::new(alloc, subjects)?;
-    let mut reader = RecordReader::with(records, options);
-    let kept = read_into(&mut reader, empty)?;
-    let lines = RecordLines::of(alloc, kept)?;
-    Ok(lines)
+/// What a file has of the records that faults speak of.
+#[derive(Drop)]
+pub(crate) struct FileRecords {
+    /// These records with the numbers of their lines in all files, in the order of the file.
+    pub found: Vec<(u64, Record)>,
+    /// How many lines the file has.
+    pub lines: u64,
+    /// How many lines of all files are accepted up to its end, if none is refused.
+    pub accepted: Option<u64>,
+    /// How many lines of it were passed over.
+    pub passed: usize,
 }
 
-// Keeps the lines of all records that a reader has to give.
-fn read_into<R: Source>(reader: &mut RecordReader<R>, empty: KeptLines) -> Result<KeptLines, Stop>
-    requires standing { standing_of reader.old ≡ Reading }
-    requires empty { (s : SubjectOf) → kept_of empty s ≡ [] }
-    ensures lines { IfOk result (KeptAll empty (outcome R.remaining reader.old)) }
-    ensures stops { IfErr result (StopsFor ⊤) }
-    ensures failures { TellsDevice (R.failure_count (source_of reader.old))
-        (R.failure_count (source_of reader.new)) result }
-    ensures same_reference { R.reference (source_of reader.new) ≡ R.reference (source_of reader.old) }
-{
-    let mut lines = empty;
-    let mut next = NO_RECORD;
-    'records: loop {
-        match reader.read_next(&mut next) {
-            Ok(Some(line)) => lines.note(line, next)?,
-            Ok(None) => return Ok(lines),
-            Err(ReadStop::Refused { .. }) => return Ok(lines),
-            Err(ReadStop::Device) => return Err(Stop::Device),
+/// The records of a file that wanted subjects name. So many lines come before it in all files, if none of them is refused. Refused lines
+/// are passed over, of which these are still to come.
+#[derive(Clone, Copy)]
+pub(crate) struct RecordsIn<'a> {
+    pub kept: &'a KeptLines,
+    pub layout: &'a Layout,
+    pub accepted: Option<u64>,
+    pub passed: &'a [Refusal],
+}
+
+impl RecordsIn<'_> {
+    // Whether the next line is passed over, where so many lines come before it, and so many were passed over.
+    fn passes(&self, accepted: Option<u64>, next: usize) -> bool
+        ensures passes { result ≡ is_passed accepted (drop next (numbers_of self.now.passed.now)) }
+        ensures within { OnTrue result (next < length self.now.passed.now) }
+    {
+        match accepted {
+            Some(before) if next < self.passed.len() => {
+                self.passed[next].line.saturating_sub(before) == 1
+            }
+            _ => false,
         }
+    }
+
+    // How many lines were passed over with the next one.
+    fn passed_with(&self, passed: usize, passes: bool) -> usize
+        requires within { passed ≤ length self.now.passed.now }
+        requires more { OnTrue passes (passed < length self.now.passed.now) }
+        ensures within { result ≤ length self.now.passed.now }
+        ensures behind { drop result (numbers_of self.now.passed.now) ≡ numbers_behind passes (drop passed (numbers_of self.now.passed.now)) }
+    {
+        if passes { passed + 1 } else { passed }
+    }
+
+    // Takes the next line off, and says whether there was one. It may be passed over; else where it holds a record that is wanted, that is
+    // found.
+    fn take_line<S: Source>(
+        &self,
+        found: &mut Vec<(u64, Record)>,
+        buffer: &mut LineBuffer<BLOCK>,
+        source: &mut S,
+        accepted: &mut Option<u64>,
+        passes: bool,
+    ) -> Result<bool, Stop>
+        ensures takes { IfOk result (λ some. IfSome (prepend_known buffer.old (S.remaining source.old)) (λ text.
+            TakesFirst self.now.layout.now self.now.kept.now passes text (prepend_known buffer.new (S.remaining source.new))
+            accepted.old accepted.new found.old.items found.new.items some)) }
+        ensures stops { IfErr result (λ stop. (count : ℕ) (held : Option (List ℕ))
+            → PassesTo count held (prepend_known buffer.old (S.remaining source.old))
+            → FailsRead (S.failure_count source.old) (S.failure_count source.new) held stop) }
+        ensures failures { OnOk result (S.failure_count source.new ≡ S.failure_count source.old) }
+    {
+        let shown = match show_line(buffer, source) {
+            Ok(shown) => shown,
+            Err(_) => return Err(Stop::Device),
+        };
+        *accepted = self.take_shown(found, *accepted, passes, buffer.bytes(), shown)?;
+        match pass_line(buffer, source) {
+            Ok(some) => Ok(some),
+            Err(_) => Err(Stop::Device),
+        }
+    }
+
+    // Judges what is left of a line whose first bytes are the first of a buffer, if there is one. How many lines are accepted with it, if it
+    // isn't refused.
+    fn take_shown(
+        &self,
+        found: &mut Vec<(u64, Record)>,
+        accepted: Option<u64>,
+        passes: bool,
+        bytes: &[u8],
+        shown: Found,
+    ) -> Result<Option<u64>, AllocError>
+        requires { IsWithin bytes.now shown }
+        ensures { IfOk result (λ now. TakesShown self.now.layout.now self.now.kept.now passes bytes.now accepted now found.old.items
+            found.new.items shown) }
+    {
+        match shown {
+            Found::Line { .. } if passes => self.take_bytes(found, accepted, &[], false),
+            Found::Line { len, goes_on } => {
+                self.take_bytes(found, accepted, &bytes[..len], goes_on)
+            }
+            Found::Missing => Ok(accepted),
+        }
+    }
+
+    // Judges a line that begins with these bytes, and has more where it goes on. How many lines are accepted with it, if it isn't refused.
+    fn take_bytes(
+        &self,
+        found: &mut Vec<(u64, Record)>,
+        accepted: Option<u64>,
+        line: &[u8],
+        goes_on: bool,
+    ) -> Result<Option<u64>, AllocError>
+        ensures accepted { IfOk result (λ now. (whole : List ℕ) → IsShown line.now goes_on whole
+            → now ≡ with_line self.now.layout.now accepted whole) }
+        ensures found { OnOk result ((whole : List ℕ) → IsShown line.now goes_on whole
+            → FindsWanted self.now.layout.now self.now.kept.now accepted (whole ∷ []) found.old.items found.new.items) }
+    {
+        let Some(before) = accepted else {
+            return Ok(None);
+        };
+        if goes_on || before >= MAX_LINES {
+            return Ok(None);
+        }
+        let number = before + 1;
+        match judge_line(self.layout, number, line) {
+            Judgement::Read(record) => {
+                if self.kept.wants(&record) {
+                    found.push((number, record))?;
+                }
+                Ok(Some(number))
+            }
+            Judgement::PassedOver => Ok(Some(number)),
+            Judgement::Refused(_) => Ok(None),
+        }
+    }
+}
+
+impl Reading for RecordsIn<'_> {
+    type Answer = FileRecords;
+
+    ghost answers = { λ asked known single part. (part.passed ≤ length asked.passed.now) × IfSome single (λ text.
+        HasRecords asked.layout.now asked.kept.now asked.accepted (numbers_of asked.passed.now) text part) };
+
+    ghost stops = { λ asked known single. StopsFor (HasNoEnd single) };
+
+    fn read<R: Source, S: Source>(
+        &self,
+        alloc: Global,
+        _joined: &mut R,
+        single: &mut S,
+    ) -> Result<FileRecords, Stop> {
+        let mut found = Vec::new(alloc);
+        let mut buffer = LineBuffer::new();
+        let mut accepted = self.accepted;
+        let mut passed = 0;
+        'lines: for lines in 0..u64::MAX {
+            let passes = self.passes(accepted, passed);
+            if !self.take_line(&mut found, &mut buffer, single, &mut accepted, passes)? {
+                return Ok(FileRecords {
+                    found,
+                    lines,
+                    accepted,
+                    passed,
+                });
+            }
+            passed = self.passed_with(passed, passes);
+        }
+        Err(Stop::Device)
     }
 }

@@ -1,19 +1,17 @@
 -- Files that are read again, by what stands under their names and what is logged.
-use Rattle.std.proofs.Common.{◌≡◌, ◌⊎◌, ℕ, zero, suc, ◌<◌, Bool, true, false, List, [], ◌∷◌, Option, None, Some, Err, Contains, length, get_or, refl, sym, ap, subst, inl, inr, ◌∙◌, arith, append-nil}
-use Rattle.std.specs.Prelude.{option_map}
-use Rattle.std.specs.Fmt.{option_append}
-use Rattle.std.proofs.lemmas.List.{length-append}
-use Rattle.tigertopo_text.specs.Joining.{closed}
+use Rattle.std.proofs.Common.{◌≡◌, ◌⊎◌, ℕ, ◌<◌, Bool, true, false, List, [], ◌∷◌, None, Result, Ok, Err, Contains, map, length, get_or, refl, sym, ap, subst, inl, inr, ◌∙◌, arith}
+use Rattle.std.specs.Result.{IsErrAnd}
 use Rattle.tigertopo_files.specs.Files.{Under, bytes_under}
-use Rattle.tigertopo_files.specs.Log.{Log, Fails}
-use Rattle.tigertopo_files.specs.Reading.{DoesAgain, SomePassing, text_under}
+use Rattle.tigertopo_files.specs.Log.{Log, Fails, LogsAgain}
+use Rattle.tigertopo_files.specs.Reading.{DoesAgain, SomePassing}
 use Rattle.tigertopo_files.specs.World.{World, Failed, SomeMissing}
 use Rattle.tl_cert_output.specs.declared.stop.Stop.{Stop}
 use Rattle.tl_cert_output.specs.declared.stop.Stop.TheVariants.{Record, Memory, Device, Budget}
 use Rattle.tl_cert_output.specs.Stops.{StopsFor}
 use Rattle.tl_cert_output.proofs.StopLemmas.{stops_for}
+use Rattle.tigertopo_where.specs.Hint.Telling.{HaveTexts}
 use Rattle.tigertopo_where.specs.Hint.Again.{FailsAgain, HasNoEnd, SomeEndless}
-use Rattle.tigertopo_where.proofs.HintLemmas.HintLemmas.{only}
+use Rattle.tigertopo_where.proofs.HintLemmas.HintLemmas.{not_known, only}
 
 -- ---- why files can't be read again
 
@@ -27,39 +25,17 @@ stops_again w names answers other Budget does = does.told.stopped
 -- so it is of one file
 fails_one : (w : World) (name : List ℕ) → Failed w (name ∷ []) ⊎ HasNoEnd (bytes_under w.before name) → FailsAgain w (name ∷ [])
 fails_one w name (inl failed) = inl failed
-fails_one w name (inr endless) = inr (inl (name, (0, omega arith, refl), endless))
+fails_one w name (inr endless) = inr (name, (0, omega arith, refl), endless)
 
 pub stops_one : {T : Type 0} (w : World) (name : List ℕ) (answers : T → Type 0) (stop : Stop) → DoesAgain w (name ∷ []) answers (StopsFor (HasNoEnd (bytes_under w.before name))) (Err stop)
     → StopsFor (FailsAgain w (name ∷ [])) stop
 stops_one w name answers stop does = stops_for _ _ stop (fails_one w name) (stops_again w (name ∷ []) answers _ stop does)
 
--- what has no end has none with more before it or behind it
-endless_behind : (first rest : Option (List ℕ)) → HasNoEnd (option_append first (Some [])) → HasNoEnd (option_append first rest)
-endless_behind None rest endless = tt
-endless_behind (Some text) None endless = tt
-endless_behind (Some text) (Some more) endless =
-    let alone = append-nil text in
-    let long = length-append text more in
-    let whole = rw alone at endless in omega (arith, whole, long)
-
-endless_before : (first rest : Option (List ℕ)) → HasNoEnd rest → HasNoEnd (option_append first rest)
-endless_before None rest endless = tt
-endless_before (Some text) None endless = tt
-endless_before (Some text) (Some more) endless = let long = length-append text more in omega (arith, endless, long)
-
-endless_among : (under : Under) (names : List (List ℕ)) (name : List ℕ) (i : ℕ) → i < length names → get_or names i name ≡ name → HasNoEnd (text_under under (name ∷ [])) → HasNoEnd (text_under under names)
-endless_among under [] name i within is endless = absurd (omega arith)
-endless_among under (first ∷ names) name zero within is endless =
-    let same = sym is in endless_behind (option_map (closed false) (bytes_under under first)) (text_under under names) (rw same at endless)
-endless_among under (first ∷ names) name (suc i) within is endless =
-    endless_before (option_map (closed false) (bytes_under under first)) (text_under under names) (endless_among under names name i (omega arith) is endless)
-
 -- what fails of one of the names fails of them
 pub fails_among : (w : World) (names : List (List ℕ)) (name : List ℕ) → Contains names name → FailsAgain w (name ∷ []) → FailsAgain w names
 fails_among w names name here (inl (inl missing)) = inl (inl (missing.0, subst (Contains names) (only name missing.0 missing.1) here, missing.2))
 fails_among w names name here (inl (inr fails)) = inl (inr fails)
-fails_among w names name here (inr (inl endless)) = inr (inl (endless.0, subst (Contains names) (only name endless.0 endless.1) here, endless.2))
-fails_among w names name here (inr (inr endless)) = inr (inr (endless_among w.before names name here.0 here.1 here.2 endless))
+fails_among w names name here (inr endless) = inr (endless.0, subst (Contains names) (only name endless.0 endless.1) here, endless.2)
 
 -- it failed behind what was read well
 fails_from : (k : Bool) (l m q : Log) → (k ≡ true → m ≡ l) → Fails k m q → Fails k l q
@@ -77,15 +53,20 @@ fails_behind u v after l m q k names stays same (inr endless) = inr (subst (λ (
 pub passing_one : (under : Under) (name : List ℕ) → SomePassing under (name ∷ []) → under name ≡ None
 passing_one under name passing = ap under (only name passing.0 passing.1) ∙ passing.2
 
--- files were read as one text once more, behind others
-pub stops_joined : {T : Type 0} (u v after : Under) (l m q : Log) (k : Bool) (names : List (List ℕ)) (answers : T → Type 0) (stop : Stop) → v ≡ u → (k ≡ true → m ≡ l)
-    → DoesAgain (record { before = v; after = after; log = m; logged = q; knows = k }) names answers (StopsFor (HasNoEnd (text_under v names))) (Err stop)
-    → StopsFor (FailsAgain (record { before = u; after = after; log = l; logged = q; knows = k }) names) stop
-stops_joined u v after l m q k names answers stop stays same does =
-    let now : World = record { before = v; after = after; log = m; logged = q; knows = k } in
-    stops_for _ _ stop (fails_behind u v after l m q k names stays same)
-    (stops_for _ _ stop (fails_joined now names) (stops_again now names answers (HasNoEnd (text_under v names)) stop does))
-  where
-    fails_joined : (w : World) (names : List (List ℕ)) → Failed w names ⊎ HasNoEnd (text_under w.before names) → FailsAgain w names
-    fails_joined w names (inl failed) = inl failed
-    fails_joined w names (inr endless) = inr (inr endless)
+-- what is logged where nothing is answered, behind files that were read well
+logs_as : (T U : Type 0) (m q : Log) (stop : Stop) → LogsAgain {T = U} m q (Err stop) → LogsAgain {T = T} m q (Err stop)
+logs_as T U m q (Record line cause) logs = logs
+logs_as T U m q Memory logs = logs
+logs_as T U m q Device logs = logs
+logs_as T U m q Budget logs = logs
+
+pub stops_logged : {T : Type 0} (U : Type 0) (l m q : Log) (r : Result T Stop) (stop : Stop) → IsErrAnd r (λ told. told ≡ stop) → m ≡ l → LogsAgain {T = U} m q (Err stop) → LogsAgain l q r
+stops_logged U l m q (Ok value) stop is same logs = absurd is
+stops_logged {T} U l m q (Err told) stop is same logs =
+    subst (λ (log : Log). LogsAgain {T = T} log q (Err told)) same (subst (λ (s : Stop). LogsAgain {T = T} m q (Err s)) (sym is) (logs_as T U m q stop logs))
+
+-- the file of one of the names can be read but once, and so not all texts are known
+pub passing_among : {A : Type 0} (h : A → List ℕ) (under now : Under) (names : List A) (i : ℕ) (name : A) → i < length names → name ≡ get_or names i name → now ≡ under → SomePassing now (h name ∷ [])
+    → (texts : List (List ℕ)) → HaveTexts under (map h names) texts → ⊥
+passing_among h under now names i name within is stays passing =
+    not_known h under names i name (h name) within is refl (subst (λ (u : Under). u (h name) ≡ None) stays (passing_one now (h name) passing))

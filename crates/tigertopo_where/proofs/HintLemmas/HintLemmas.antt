@@ -1,16 +1,15 @@
 -- What is told behind a stop.
-use Rattle.std.proofs.Common.{◌≡◌, ℕ, zero, suc, ◌+◌, ◌<◌, ◌≤◌, List, [], ◌∷◌, ◌++◌, Option, None, Some, IfSome, Result, Ok, Err, IfOk, IfErr, OnOk, map, length, drop, get_or, slice_get, refl, sym, ap, inl, inr, Contains, ◌∙◌, arith, append_assoc, drop-cons, add-one}
-use Rattle.std.proofs.lemmas.List.{length-map, get_or-map}
-use Rattle.std.proofs.lemmas.Option.{slice_get-get_or, slice_get_past}
+use Rattle.std.proofs.Common.{◌≡◌, ℕ, zero, suc, ◌+◌, ◌-◌, ◌<◌, ◌≤◌, nat_le, true, false, List, [], ◌∷◌, Option, None, Some, IfSome, Result, Ok, Err, OnOk, map, length, drop, get_or, refl, sym, ap, inl, inr, Contains, ◌∙◌, arith, drop-cons, add-one}
+use Rattle.std.proofs.lemmas.List.{drop_all, length-map, get_or-map}
+use Rattle.std.proofs.lemmas.Bool.{le-leb, lt-leb}
+use Rattle.std.specs.Option.{option_map, option_map_or}
 use Rattle.std.specs.Io.KnownBytes.{Appends}
 use Rattle.tl_record.specs.declared.stop.Cause.{Cause}
-use Rattle.tigertopo_where.specs.LinePlaces.{line_count, place_of}
+use Rattle.tigertopo_where.specs.LinePlaces.{line_count, place_of, text_on}
 use Rattle.tigertopo_files.specs.Files.{Under, bytes_under, trouble_of}
 use Rattle.tl_cert_output.specs.declared.stop.Stop.{Stop}
 use Rattle.tl_cert_output.specs.declared.stop.Stop.TheVariants.{Record, Memory, Device, Budget}
-use Rattle.tl_cert_output.specs.Stops.{StopsFor}
 use Rattle.tl_cert_output.specs.Writing.{TriesToPassOn, CountsFailure}
-use Rattle.tl_cert_output.proofs.StopLemmas.{stops_for}
 use Rattle.tl_cert_output.proofs.WritingLemmas.{writes_some}
 use Rattle.tigertopo_where.specs.Hint.Hints.{Asker, refusal_at, hint_at, hint_in}
 use Rattle.tigertopo_where.specs.Hint.Telling.{HaveTexts, TellsWords, TellsTrouble, TellsHint}
@@ -104,53 +103,69 @@ only_at name other (suc k) within is = absurd (omega arith)
 pub only : {A : Type 0} (name other : A) → Contains (name ∷ []) other → name ≡ other
 only name other there = only_at name other there.0 there.1 there.2
 
--- ---- the place of a line
+-- ---- a refused line in one file after the other
 
--- one text more was counted
-pub counts_more : (texts : List (List ℕ)) (i : ℕ) (counts grown : List ℕ) (count : ℕ) (known : Option (List ℕ)) → i < length texts → known ≡ Some (get_or texts i [])
-    → IfSome known (λ text. count ≡ line_count text) → grown ≡ counts ++ count ∷ [] → counts ++ map line_count (drop i texts) ≡ map line_count texts
-    → grown ++ map line_count (drop (i + 1) texts) ≡ map line_count texts
-counts_more texts i counts grown count known within is counted pushed before =
-    let same : count ≡ line_count (get_or texts i []) = rw is at counted in
-    let split : drop i texts ≡ get_or texts i [] ∷ drop (i + 1) texts = rw (add-one, drop-cons texts i []) refl in
-    rw (pushed, append_assoc, same) (rw split at before)
+-- an item has one value, whatever stands for one that there isn't
+pub same_got : {A : Type 0} (xs : List A) (i : ℕ) (d e : A) → i < length xs → get_or xs i d ≡ get_or xs i e
+same_got [] i d e within = absurd (omega arith)
+same_got (x ∷ xs) zero d e within = refl
+same_got (x ∷ xs) (suc i) d e within = same_got xs i d e (omega arith)
 
--- what holds of what was made
-pub made_then : {V E : Type 0} (P Q : V → Type 0) (r : Result V E) → IfOk r P → ((v : V) → P v → Q v) → IfOk r Q
-made_then P Q (Ok v) made f = f v made
-made_then P Q (Err e) made f = tt
+-- the one that comes next, and those behind it
+pub one_left : {A : Type 0} (xs : List A) (i : ℕ) (x : A) → i < length xs → x ≡ get_or xs i x → drop i xs ≡ x ∷ drop (i + 1) xs
+one_left xs i x within is =
+    let first : drop i xs ≡ get_or xs i x ∷ drop (i + 1) xs = rw (add-one, drop-cons xs i x) refl in
+    first ∙ ap (λ y. y ∷ drop (i + 1) xs) (sym is)
 
--- what failed, told more widely
-pub failed_then : {V : Type 0} (failed other : Type 0) (r : Result V Stop) → (failed → other) → IfErr r (StopsFor failed) → IfErr r (StopsFor other)
-failed_then failed other (Ok v) wider stops = tt
-failed_then failed other (Err stop) wider stops = stops_for failed other stop wider stops
+module _ (by : Asker) (name : List ℕ) (names : List (List ℕ)) (text : List ℕ) (texts : List (List ℕ)) where
+  first_told : (number : ℕ) (cause : Cause) → number ≤ line_count text → refusal_at by (name ∷ names) (text ∷ texts) (number, cause) ≡ hint_in by name text cause number
+  first_told number cause here = let yes : nat_le number (line_count text) ≡ true = le-leb number (line_count text) here in rw yes refl
 
--- the line of a refusal, by its place
-module _ {A : Type 0} (h : A → List ℕ) (by : Asker) (under : Under) (names : List A) (texts : List (List ℕ)) (have : HaveTexts under (map h names) texts) where
-  pub hint_within : (text line : ℕ) (cause : Cause) (name : A) (made : List ℕ) → text < length names → name ≡ get_or names text name
-      → ((held : List ℕ) → bytes_under under (h name) ≡ Some held → made ≡ hint_in by (h name) held cause line) → made ≡ hint_at by (map h names) texts cause (text, line)
-  hint_within text line cause name made within is hint =
+  one_on : (cause : Cause) (place : Option (ℕ × ℕ)) → option_map_or (hint_at by (name ∷ names) (text ∷ texts) cause) (option_map text_on place) [] ≡ option_map_or (hint_at by names texts cause) place []
+  one_on cause None = refl
+  one_on cause (Some place) = let next : place.0 + 1 ≡ suc place.0 = omega arith in rw next refl
+
+  later_told : (number : ℕ) (cause : Cause) → line_count text < number → refusal_at by (name ∷ names) (text ∷ texts) (number, cause) ≡ refusal_at by names texts (number - line_count text, cause)
+  later_told number cause past =
+      let no : nat_le number (line_count text) ≡ false = lt-leb number (line_count text) past in
+      rw no (one_on cause (place_of (map line_count texts) (number - line_count text)))
+
+module _ {A : Type 0} (h : A → List ℕ) (by : Asker) (under : Under) (names : List A) (texts : List (List ℕ)) (have : HaveTexts under (map h names) texts) (whole : List ℕ) (cause : Cause) where
+  one_file : (i : ℕ) (name : A) (number : ℕ) → i < length names → name ≡ get_or names i name
+      → refusal_at by (map h (drop i names)) (drop i texts) (number, cause) ≡ whole
+      → refusal_at by (h name ∷ map h (drop (i + 1) names)) (get_or texts i [] ∷ drop (i + 1) texts) (number, cause) ≡ whole
+  one_file i name number within is left =
       let size = same_count h under names texts have in
-      let there : slice_get texts text ≡ Some (get_or texts text []) = slice_get-get_or texts text [] (omega (arith, size)) in
-      let called = named h names text name within is in
-      rw (there, called) (hint (get_or texts text []) (text_at h under names texts text name within is have))
+      let there : i < length texts = omega (arith, size, within) in
+      let first : drop i texts ≡ get_or texts i [] ∷ drop (i + 1) texts = one_left texts i (get_or texts i []) there (sym (same_got texts i (get_or texts i []) [] there)) in
+      let called : map h (drop i names) ≡ h name ∷ map h (drop (i + 1) names) = ap (map h) (one_left names i name within is) in
+      ap (λ (ns : List (List ℕ)). refusal_at by ns (get_or texts i [] ∷ drop (i + 1) texts) (number, cause)) (sym called)
+      ∙ ap (λ (ts : List (List ℕ)). refusal_at by (map h (drop i names)) ts (number, cause)) (sym first) ∙ left
 
-  pub hint_beyond : (text line : ℕ) (cause : Cause) → length names ≤ text → [] ≡ hint_at by (map h names) texts cause (text, line)
-  hint_beyond text line cause past =
+  -- it stands in this file
+  pub told_here : (i : ℕ) (name : A) (known : Option (List ℕ)) (number : ℕ) (made : List ℕ) → i < length names → name ≡ get_or names i name → known ≡ bytes_under under (h name)
+      → IfSome known (λ held. (number ≤ line_count held) × (made ≡ hint_in by (h name) held cause number))
+      → refusal_at by (map h (drop i names)) (drop i texts) (number, cause) ≡ whole → made ≡ whole
+  told_here i name known number made within is reads told left =
+      let held = get_or texts i [] in
+      let there : known ≡ Some held = reads ∙ text_at h under names texts i name within is have in
+      let here = rw there at told in
+      here.1 ∙ sym (first_told by (h name) (map h (drop (i + 1) names)) held (drop (i + 1) texts) number cause here.0) ∙ one_file i name number within is left
+
+  -- it stands in a file behind it
+  pub told_behind : (i : ℕ) (name : A) (known : Option (List ℕ)) (number lines : ℕ) → i < length names → name ≡ get_or names i name → known ≡ bytes_under under (h name)
+      → lines < number → IfSome known (λ held. lines ≡ line_count held)
+      → refusal_at by (map h (drop i names)) (drop i texts) (number, cause) ≡ whole → refusal_at by (map h (drop (i + 1) names)) (drop (i + 1) texts) (number - lines, cause) ≡ whole
+  told_behind i name known number lines within is reads less told left =
+      let held = get_or texts i [] in
+      let there : known ≡ Some held = reads ∙ text_at h under names texts i name within is have in
+      let counted : lines ≡ line_count held = rw there at told in
+      ap (λ (n : ℕ). refusal_at by (map h (drop (i + 1) names)) (drop (i + 1) texts) (number - n, cause)) counted
+      ∙ sym (later_told by (h name) (map h (drop (i + 1) names)) held (drop (i + 1) texts) number cause (omega (arith, less, counted))) ∙ one_file i name number within is left
+
+  -- it stands in none
+  pub told_nowhere : (i number : ℕ) → length names ≤ i → refusal_at by (map h (drop i names)) (drop i texts) (number, cause) ≡ whole → [] ≡ whole
+  told_nowhere i number past left =
       let size = same_count h under names texts have in
-      let none : slice_get texts text ≡ None = slice_get_past texts text (omega (arith, size)) in
-      rw none refl
-
-pub by_place : (by : Asker) (names texts : List (List ℕ)) (refusal : ℕ × Cause) (counts made : List ℕ) (place : ℕ × ℕ) → Some counts ≡ Some (map line_count texts)
-    → Some place ≡ place_of counts refusal.0 → made ≡ hint_at by names texts refusal.1 place → made ≡ refusal_at by names texts refusal
-by_place by names texts refusal counts made place are stands hint =
-    let same : counts ≡ map line_count texts = let all = are in cc in
-    let there : place_of (map line_count texts) refusal.0 ≡ Some place = ap (λ (l : List ℕ). place_of l refusal.0) (sym same) ∙ sym stands in
-    rw there hint
-
-pub by_none : (by : Asker) (names texts : List (List ℕ)) (refusal : ℕ × Cause) (counts : List ℕ) → Some counts ≡ Some (map line_count texts)
-    → None ≡ place_of counts refusal.0 → [] ≡ refusal_at by names texts refusal
-by_none by names texts refusal counts are stands =
-    let same : counts ≡ map line_count texts = let all = are in cc in
-    let there : place_of (map line_count texts) refusal.0 ≡ None = ap (λ (l : List ℕ). place_of l refusal.0) (sym same) ∙ sym stands in
-    rw there refl
+      let none : drop i texts ≡ [] = drop_all i texts (omega (arith, size, past)) in
+      ap (λ (ts : List (List ℕ)). refusal_at by (map h (drop i names)) ts (number, cause)) (sym none) ∙ left

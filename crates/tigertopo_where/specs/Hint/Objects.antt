@@ -1,4 +1,4 @@
--- Refused lines as objects of JSON.
+-- Refused lines as objects of JSON, and as features of GeoJSON.
 use Rattle.std.specs.Prelude.{ℕ, List, [], ◌∷◌, ◌++◌, codes, decimal}
 use Rattle.std.specs.Option.{option_map_or}
 use Rattle.tl_record.specs.Range.{Range}
@@ -30,6 +30,17 @@ refused_object line cause =
 -- the end of an object
 abbrev pub refused_end : List ℕ
 refused_end = codes "]}\n"
+
+-- the beginning of a feature behind another one, which has no place on the map: the code, the name and the text of the cause, and the line's
+-- number through all files; what is told of its place stands behind it
+unfoldable pub refused_feature : ℕ → Cause → List ℕ
+refused_feature line cause =
+    codes ",\n{\"type\":\"Feature\",\"geometry\":null,\"properties\":{" ++ cause_members (cause_text cause)
+    ++ codes ",\"refused\":" ++ string_text (cause_text cause) ++ codes ",\"line\":" ++ decimal line ++ codes ",\"records\":["
+
+-- the end of a feature
+abbrev pub feature_end : List ℕ
+feature_end = codes "]}}"
 
 -- columns, and what a line holds there
 abbrev pub columns_members : List ℕ → Range → List ℕ

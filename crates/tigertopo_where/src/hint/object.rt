@@ -1,10 +1,10 @@
-//! A refused line as an object of JSON.
+//! A refused line as an object of JSON, or as a feature of GeoJSON.
 
 ghost use Rattle.std.specs.Prelude.{◌≡◌, ◌<◌, ◌^◌, ◌++◌, ℕ, List, OnOk, decimal, codes};
 ghost use Rattle.tl_cert_output.specs.Writing.{line_of};
 ghost use Rattle.tl_record.specs.Layout.{layout_with};
 ghost use Rattle.tigertopo_where.specs.FieldColumns.{range_of};
-ghost use Rattle.tigertopo_where.specs.Hint.Objects.{cause_members, columns_members, field_members, place_object, refused_object, word_text};
+ghost use Rattle.tigertopo_where.specs.Hint.Objects.{cause_members, columns_members, field_members, place_object, refused_feature, refused_object, word_text};
 
 use crate::FieldColumns;
 use crate::hint::shown::{columns_for, content, push_number};
@@ -28,6 +28,21 @@ pub fn push_refused_object(text: &mut Vec<u8>, number: u64, cause: Cause) -> Res
     text.extend_from_slice(b",\"field\":")?;
     push_word(text, field)?;
     text.extend_from_slice(b"},\"records\":[")?;
+    Ok(())
+}
+
+/// Adds the beginning of the feature of a refused line.
+pub fn push_refused_feature(text: &mut Vec<u8>, number: u64, cause: Cause) -> Result<(), AllocError>
+    ensures { OnOk result (text.new.items ≡ text.old.items ++ refused_feature number cause) }
+{
+    let line = refusal_line(number, cause);
+    let told = cause_in(line.as_str().as_bytes());
+    text.extend_from_slice(b",\n{\"type\":\"Feature\",\"geometry\":null,\"properties\":{")?;
+    push_cause(text, told)?;
+    text.extend_from_slice(b",\"refused\":")?;
+    push_string(text, told)?;
+    push_number(text, b",\"line\":", number)?;
+    text.extend_from_slice(b",\"records\":[")?;
     Ok(())
 }
 

@@ -1,17 +1,19 @@
 //! A refused line of a file that is read by itself, and what is said of it.
 
-ghost use Rattle.std.specs.Prelude.{◌≡◌, ◌++◌, IfOk, IfSome, OnOk, string_bytes};
+ghost use Rattle.std.specs.Prelude.{◌≡◌, ◌++◌, IfOk, OnOk, string_bytes};
 ghost use Rattle.std.specs.Io.KnownBytes.{prepend_known, Keeps};
 ghost use Rattle.tl_record.specs.Searching.{CountsSkip};
 ghost use Rattle.tl_cert_output.specs.Stops.{StopsFor};
 ghost use Rattle.tigertopo_where.specs.Finding.{Answers};
 ghost use Rattle.tigertopo_where.specs.Hint.Advice.{form_of};
 ghost use Rattle.tigertopo_where.specs.Hint.Again.{HasNoEnd};
-ghost use Rattle.tigertopo_where.specs.Hint.Hints.{asker, columns_hint, first_bytes, form_hint, hint_in, line_hint};
+ghost use Rattle.tigertopo_where.specs.Hint.Hints.{asker, columns_hint, first_bytes, form_hint, line_hint};
+ghost use Rattle.tigertopo_where.specs.Hint.Placing.{IsSought};
 
 use crate::hint::advice::{FileForm, form_of, push_form, push_otherwise, reads_otherwise};
 use crate::hint::shown::{field_of, push_place};
-use crate::{BLOCK, Found, find_line, show_line};
+use crate::lines::find_ahead;
+use crate::{BLOCK, Found, show_line};
 use std::alloc::{AllocError, Global};
 use tigertopo_files::Reading;
 use tl_cert_output::Stop;
@@ -28,11 +30,20 @@ pub struct RefusedLine<'a> {
     pub cause: Cause,
 }
 
-impl Reading for RefusedLine<'_> {
-    type Answer = Vec<u8>;
+/// What comes of looking for a line in a file.
+#[derive(Drop)]
+pub enum Sought {
+    /// What is said of the line.
+    Told(Vec<u8>),
+    /// The file has fewer lines: so many.
+    Behind(u64),
+}
 
-    ghost answers = { λ asked known single text. IfSome single (λ held.
-        text.items ≡ hint_in (asker asked.command.now asked.options) (string_bytes asked.name.now) held asked.cause asked.number) };
+impl Reading for RefusedLine<'_> {
+    type Answer = Sought;
+
+    ghost answers = { λ asked known single sought.
+        IsSought (asker asked.command.now asked.options) (string_bytes asked.name.now) asked.cause asked.number single sought };
 
     ghost stops = { λ asked known single. StopsFor (HasNoEnd single) };
 
@@ -41,20 +52,22 @@ impl Reading for RefusedLine<'_> {
         alloc: Global,
         _joined: &mut R,
         single: &mut S,
-    ) -> Result<Vec<u8>, Stop> {
+    ) -> Result<Sought, Stop> {
+        if self.number == 0 {
+            return Ok(Sought::Told(Vec::new(alloc)));
+        }
         let mut buffer = LineBuffer::new();
         let form = match first_form(&mut buffer, single) {
             Ok(form) => form,
             Err(_) => return Err(Stop::Device),
         };
-        match find_line(&mut buffer, single, self.number) {
-            Ok(Found::Line { len, .. }) => Ok(hint_of_line(
-                alloc,
-                self,
-                &buffer.bytes()[..len],
-                form,
-            )?),
-            Ok(Found::Missing) => Ok(Vec::new(alloc)),
+        let mut passed = 0;
+        match find_ahead(&mut buffer, single, &mut passed, self.number) {
+            Ok(Found::Line { len, .. }) => {
+                let text = hint_of_line(alloc, self, &buffer.bytes()[..len], form)?;
+                Ok(Sought::Told(text))
+            }
+            Ok(Found::Missing) => Ok(Sought::Behind(passed)),
             Err(_) => Err(Stop::Device),
         }
     }

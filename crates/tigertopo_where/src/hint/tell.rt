@@ -1,20 +1,16 @@
 //! What is said behind a stop.
 
-ghost use Rattle.std.specs.Prelude.{◌≡◌, ℕ, true, List, [], ◌∷◌, Some, OnOk, OnErr, IfOk, IfErr, map, string_bytes};
+ghost use Rattle.std.specs.Prelude.{◌≡◌, true, OnOk, OnErr, IfOk, IfErr, map, string_bytes};
 ghost use Rattle.tl_cert_output.specs.Stops.{StopsFor};
 ghost use Rattle.tl_cert_output.specs.Writing.{line_of};
-ghost use Rattle.tigertopo_files.specs.Files.{bytes_under};
 ghost use Rattle.tigertopo_files.specs.Log.{LogsAgain};
 ghost use Rattle.tigertopo_files.specs.World.{world};
-ghost use Rattle.tigertopo_where.specs.LinePlaces.{place_pair};
 ghost use Rattle.tigertopo_where.specs.Hint.Again.{FailsAgain};
-ghost use Rattle.tigertopo_where.specs.Hint.Telling.{HaveTexts, TellsHint, TellsRefusal, TellsTrouble};
+ghost use Rattle.tigertopo_where.specs.Hint.Telling.{TellsHint, TellsRefusal, TellsTrouble};
 ghost use Rattle.tl_cert_output.specs.Streams.{Tries, stream};
-ghost use Rattle.tigertopo_where.specs.Hint.Hints.{asker, hint_at, hint_in, trouble_text};
+ghost use Rattle.tigertopo_where.specs.Hint.Hints.{asker, trouble_text};
 
-use crate::hint::again::count_all;
-use crate::hint::refused::RefusedLine;
-use crate::{TextLine, place_of};
+use crate::hint::refused::{RefusedLine, Sought};
 use std::alloc::{AllocError, Global};
 use tigertopo_files::FileSystem;
 use tigertopo_words::push_name;
@@ -101,7 +97,7 @@ pub fn trouble_line(alloc: Global, name: &str, words: &str) -> Result<Vec<u8>, A
     Ok(text)
 }
 
-// Where a refused line stands, if each file can be read again.
+// Where a refused line stands, if each file up to it can be read again.
 fn refusal_hint<F: FileSystem>(
     files: &mut F,
     alloc: Global,
@@ -117,63 +113,20 @@ fn refusal_hint<F: FileSystem>(
     ensures stays { F.under files.new ≡ F.under files.old }
     ensures logged { F.knows ≡ true → LogsAgain (F.log files.old) (F.log files.new) result }
 {
-    let Some(counts) = count_all(files, alloc, names)? else {
-        return Ok(Vec::new(alloc));
-    };
-    match place_of(counts.as_slice(), line) {
-        Some(place) => place_line(files, alloc, names, options, command, place, cause),
-        None => Ok(Vec::new(alloc)),
+    let mut number = line;
+    for name in names {
+        let refused = RefusedLine {
+            name,
+            options,
+            command,
+            number,
+            cause,
+        };
+        match files.read_again(alloc, &[], Some(name), &refused)? {
+            Some(Sought::Told(text)) => return Ok(text),
+            Some(Sought::Behind(lines)) => number -= lines,
+            None => return Ok(Vec::new(alloc)),
+        }
     }
-}
-
-// The line of a place, where a line is refused.
-fn place_line<F: FileSystem>(
-    files: &mut F,
-    alloc: Global,
-    names: &[String],
-    options: Options,
-    command: &str,
-    place: TextLine,
-    cause: Cause,
-) -> Result<Vec<u8>, Stop>
-    ensures hint { IfOk result (λ text. (texts : List (List ℕ)) → HaveTexts (F.under files.old) (map string_bytes names.now) texts
-        → text.items ≡ hint_at (asker command.now options) (map string_bytes names.now) texts cause (place_pair place)) }
-    ensures stops { IfErr result (StopsFor (FailsAgain (world F.under F.log F.knows files.old files.new) (map string_bytes names.now))) }
-    ensures stays { F.under files.new ≡ F.under files.old }
-    ensures logged { F.knows ≡ true → LogsAgain (F.log files.old) (F.log files.new) result }
-{
-    if place.text >= names.len() {
-        return Ok(Vec::new(alloc));
-    }
-    let name = &names[place.text];
-    line_at(files, alloc, name, options, command, place.line, cause)
-}
-
-// The line of a file's line, which is refused.
-fn line_at<F: FileSystem>(
-    files: &mut F,
-    alloc: Global,
-    name: &String,
-    options: Options,
-    command: &str,
-    number: u64,
-    cause: Cause,
-) -> Result<Vec<u8>, Stop>
-    ensures hint { IfOk result (λ text. (held : List ℕ) → bytes_under (F.under files.old) (string_bytes name.now) ≡ Some held
-        → text.items ≡ hint_in (asker command.now options) (string_bytes name.now) held cause number) }
-    ensures stops { IfErr result (StopsFor (FailsAgain (world F.under F.log F.knows files.old files.new) (string_bytes name.now ∷ []))) }
-    ensures stays { F.under files.new ≡ F.under files.old }
-    ensures logged { F.knows ≡ true → LogsAgain (F.log files.old) (F.log files.new) result }
-{
-    let line = RefusedLine {
-        name,
-        options,
-        command,
-        number,
-        cause,
-    };
-    match files.read_again(alloc, &[], Some(name), &line)? {
-        Some(text) => Ok(text),
-        None => Ok(Vec::new(alloc)),
-    }
+    Ok(Vec::new(alloc))
 }

@@ -1,11 +1,13 @@
 -- What is told of a map.
-use Rattle.std.specs.Prelude.{◌≡◌, ◌≢◌, ℕ, Bool, false, List, [], ◌++◌, map, length, Contains}
+use Rattle.std.specs.Prelude.{◌≡◌, ◌≢◌, ℕ, Bool, true, false, List, [], ◌∷◌, ◌++◌, map, length, Contains}
 use Rattle.tl_map_county.specs.TheMap.{TheMap}
 use Rattle.tl_check_sides.specs.declared.fault.Disagreement.{Disagreement}
 use Rattle.tl_check_sides.specs.Sides.{SidesAgree}
 use Rattle.tl_check_sides.specs.Walks.{AreWalks}
 use Rattle.tl_check_sides.specs.declared.cells.at_odds.CellsAtOdds.{CellsAtOdds}
 use Rattle.tl_check_inside.specs.declared.misplaced.Misplaced.{Misplaced}
+use Rattle.tl_check_faces.specs.declared.fault.FaceFault.{FaceFault}
+use Rattle.tl_check_faces.specs.Facing.{FacesAgree}
 use Rattle.tl_list_map.specs.Nodes.Disagreements.{AreAllDisagreements}
 use Rattle.tl_list_map.specs.Nodes.Touched.{AreAllTouched}
 use Rattle.tl_list_map.specs.Nodes.CellOdds.{AreAllCellsAtOdds}
@@ -17,7 +19,7 @@ use Rattle.tl_check_verdict.specs.Truth.{IsTrueOfMap}
 use Rattle.tl_check_verdict.specs.Verdicts.{IsReport}
 use Rattle.tl_list_text.specs.declared.listing.Listing.{Listing}
 use Rattle.tl_list_text.specs.declared.listing.Listing.TheVariants.{Sound, Refused, Faults}
-use Rattle.tl_list_text.specs.MapFaults.{side_fault, AreMapFaults, AreFaultsFor}
+use Rattle.tl_list_text.specs.MapFaults.{side_fault, AreMapFaults, AreFaceFaults, AreFaultsFor}
 
 -- the map is sound, and these are its numbers; or these are all its faults but those of faces, and there is one
 abbrev pub IsListingOfMap : TheMap → Listing → Type 0
@@ -68,3 +70,24 @@ pub record HasRings (m : TheMap) (rings : ℕ) : Type 0 where
   pub walks : List (List ℕ)
   pub are : AreWalks m.chains walks
   pub counted : rings ≡ length walks
+
+-- all faces that disagree are appended; where there is none they agree
+pub record AddsFaces (m : TheMap) (old new : List MapFault) : Type 0 where
+  pub told : List FaceFault
+  pub all : AreFaceFaults m told
+  pub agree : told ≡ [] → FacesAgree m.chains
+  pub are : new ≡ old ++ map fault.Face told
+
+-- the fault is that segments meet, or that sides disagree
+abbrev pub is_of_chains : MapFault → Bool
+is_of_chains (fault.Records told) = false
+is_of_chains (fault.Meet meet) = true
+is_of_chains (fault.Side node first next) = true
+is_of_chains (fault.PolygonPoint told) = false
+is_of_chains (fault.Cell odds) = false
+is_of_chains (fault.Face told) = false
+
+-- the first of these faults is; where one is, the first is
+abbrev pub begins_with_chains : List MapFault → Bool
+begins_with_chains [] = false
+begins_with_chains (first ∷ rest) = is_of_chains first

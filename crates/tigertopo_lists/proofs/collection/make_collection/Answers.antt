@@ -12,6 +12,6 @@ returns g c =
     let after = g.F.FileSystem.under c.make_file.new.files in
     let l = g.F.FileSystem.log c.args.files.now in
     let q = g.F.FileSystem.log c.make_file.new.files in
-    let text = faults_text (map string_bytes c.args.names.now) c.args.spoken.now.counts.items (option_copied c.args.drawn) (held c.args.spoken.now.lines) c.args.spoken.now.places.items c.args.faults.now c.args.touched in
+    let text = faults_text (map string_bytes c.args.names.now) c.args.spoken.now.counts.items (option_copied c.args.drawn) (held c.args.spoken.now.lines) c.args.spoken.now.places.items c.args.faults.now c.args.touched c.args.refused.now in
     rw c.in-Some.is (does_make {T = Unit {0}} u after l q g.F.FileSystem.knows (string_bytes c.in-Some.name) text StopsNever c.make_file.result
     (rw (c.as_str.ensures.value, c.as_slice.ensures.value, c.as_slice-2.ensures.value) at c.make_file.ensures.made) c.make_file.ensures.logged)

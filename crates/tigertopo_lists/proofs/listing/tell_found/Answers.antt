@@ -9,17 +9,17 @@ use Rattle.tigertopo_lists.proofs.ListLemmas.{sound_answers, fault_answers, faul
 use Rattle.tigertopo_lists.proofs.listing.tell_found.Goals as goal
 
 pub returns-in-Sound : goal.returns-in-Sound
-returns-in-Sound g c = λ known are.
+returns-in-Sound g c = λ known same are.
     let asked = wanted_of (map string_bytes c.args.names.now) c.args.wanted in
     does_so _ [] _ _ _ StopsNever _ (sound_answers c.args.options known asked _ c.in-Sound.report (IfSome_then known are (λ text is. subst (IsListingOf c.args.options text) c.in-Sound.is is.told)))
     (λ s never. absurd never) _ c.tell_sound.ensures
 
 pub returns-in-Refused : goal.returns-in-Refused
-returns-in-Refused g c = λ known are.
-    c.tell_refused.ensures known (IfSome_then known are (λ text is. subst (IsListingOf c.args.options text) c.in-Refused.is is.told))
+returns-in-Refused g c = λ known same are.
+    c.tell_refused.ensures known same (IfSome_then known are (λ text is. subst (IsListingOf c.args.options text) c.in-Refused.is is.told))
 
 pub returns-in-Faults : goal.returns-in-Faults
-returns-in-Faults g c = λ known are.
+returns-in-Faults g c = λ known same are.
     let asked = wanted_of (map string_bytes c.args.names.now) c.args.wanted in
     let w = world g.F.FileSystem.under g.F.FileSystem.log g.F.FileSystem.knows c.args.files.now c.tell_faults.new.files in
     does_so _ [] _ _ _ _ _ (fault_answers c.args.options known asked _ c.args.found.map c.in-Faults.faults c.in-Faults.touched

@@ -1,22 +1,16 @@
-use Rattle.std.proofs.Common.{◌≡◌, refl, ap, List, [], length, arith}
+use Rattle.std.proofs.Common.{◌≡◌, length, refl, arith}
 use Rattle.std.proofs.lemmas.List.{nil_from_length}
-use Rattle.tl_check_faces.specs.declared.fault.FaceFault.{FaceFault}
 use Rattle.tl_list.proofs.Faced.{agreeing, disagreeing}
 use Rattle.tl_list.proofs.of_map.list_faces.Goals as goal
 
 pub returns-then-is_empty : goal.returns-then-is_empty
 returns-then-is_empty c =
-    let m = c.args.map.now in
-    let told = c.in-Ok.disagreeing.items in
-    let none = nil_from_length told (grind (arith, c.is_empty.ensures, c.if-is_empty.true)) in
-    agreeing c.args.faces m c.args.report told none c.in-Ok.ensures.agree c.requires.sound c.requires.report
+    let none = nil_from_length c.add_faces.new.faults.items (grind (arith, c.is_empty.ensures, c.if-is_empty.true)) in
+    agreeing c.args.faces c.args.map.now c.args.report c.new-faults.result.items c.add_faces.new.faults.items c.new-faults.ensures.items none c.in_ok-add_faces.ensures
+    c.requires.sound c.requires.report
 
 pub returns : goal.returns
 returns c =
-    let m = c.args.map.now in
-    let told = c.in-Ok.disagreeing.items in
-    let some : told ≡ [] → ⊥ = λ none.
-    let e : length told ≡ 0 = ap (λ (fs : List FaceFault). length fs) none in
-    grind (arith, e, c.is_empty.ensures, c.if-is_empty.false) in
-    disagreeing c.args.faces m told c.push_faces.new.faults (rw c.if-not-faces.false refl) some c.requires.sound c.has_proper_chains.ensures c.in-Ok.ensures.true_ones
-    c.in-Ok.ensures.all (rw (c.new-faults.ensures.items, c.deref.ensures.value) at c.in_ok-push_faces.ensures)
+    disagreeing c.args.faces c.args.map.now c.new-faults.result.items c.add_faces.new.faults (rw c.if-not-faces.false refl) c.new-faults.ensures.items
+    (λ none. let long : length c.add_faces.new.faults.items ≡ 0 = rw none refl in grind (arith, long, c.is_empty.ensures, c.if-is_empty.false)) c.in_ok-add_faces.ensures
+    c.requires.sound

@@ -1,19 +1,18 @@
-use Rattle.std.proofs.Common.{map, string_bytes}
+use Rattle.std.proofs.Common.{◌≡◌, Some, map}
 use Rattle.std.specs.Prelude.{option_copied}
 use Rattle.tl_record.specs.Layout.{layout_with}
-use Rattle.tl_record.specs.Records.{lines_read}
-use Rattle.tigertopo_files.specs.World.{world}
+use Rattle.tigertopo_where.specs.Left.{numbers_of}
+use Rattle.tigertopo_where.specs.LinePlaces.{line_count}
 use Rattle.tigertopo_faults.specs.Records.SpokenOf.{chains_of}
-use Rattle.tigertopo_faults.specs.Records.Finding.{HoldsAll}
-use Rattle.tigertopo_faults.proofs.LinesLemmas.AgainLemmas.{found_in, stops_in}
+use Rattle.tigertopo_faults.proofs.RecordsLemmas.ReadingLemmas.{then_all}
 use Rattle.tigertopo_faults.proofs.lines.again.lines_again.Goals as goal
 
 pub returns-clause-found : goal.returns-clause-found
-returns-clause-found g c =
-    let w = world g.F.FileSystem.under g.F.FileSystem.log g.F.FileSystem.knows c.args.files.now c.read_again.new.self in
-    found_in w (map string_bytes c.args.names.now) (λ text. HoldsAll (chains_of (option_copied c.args.drawn)) c.args.faults.now (lines_read (layout_with c.args.options) text).entries) _ c.read_again.result c.read_again.ensures
-
-pub returns-clause-stops : goal.returns-clause-stops
-returns-clause-stops g c =
-    let w = world g.F.FileSystem.under g.F.FileSystem.log g.F.FileSystem.knows c.args.files.now c.read_again.new.self in
-    stops_in w (map string_bytes c.args.names.now) (λ text. HoldsAll (chains_of (option_copied c.args.drawn)) c.args.faults.now (lines_read (layout_with c.args.options) text).entries) c.read_again.result c.read_again.ensures
+returns-clause-found g c = λ texts have.
+    let kept = c.in_ok-counts.ensures.kept in
+    let whole = (rw (c.in-Some.is, c.layout_with-layout.ensures) at kept) texts have in
+    let counted : Some c.in-Some.counts.items ≡ Some (map line_count texts) = whole.counted in (
+      let is = counted in cc,
+      then_all (layout_with c.args.options) (numbers_of c.args.passed.now) (chains_of (option_copied c.args.drawn)) c.args.faults.now c.in_ok-subjects.subjects.keys c.in_ok-kept.kept c.keep_again.new.kept c.in_ok-lines.lines texts _
+          c.in_ok-lines.ensures c.in_ok-subjects.ensures c.in_ok-kept.ensures.wanted c.in_ok-kept.ensures.empty whole,
+    )

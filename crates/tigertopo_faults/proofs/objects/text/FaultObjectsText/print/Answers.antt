@@ -1,5 +1,4 @@
-use Rattle.std.proofs.Common.{◌≡◌, ◌∙◌, ap, map, string_bytes, length}
-use Rattle.std.specs.Prelude.{option_copied}
+use Rattle.std.proofs.Common.{◌∙◌}
 use Rattle.tl_cert_output.proofs.PrinterLemmas.{both, as_text, ends_text}
 use Rattle.tigertopo_faults.specs.Objects.Texts.{objects_text}
 use Rattle.tigertopo_faults.proofs.objects.text.FaultObjectsText.print.Goals as goal

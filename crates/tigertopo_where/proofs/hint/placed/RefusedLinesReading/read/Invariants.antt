@@ -1,16 +1,15 @@
-use Rattle.std.proofs.Common.{◌≡◌, map, string_bytes}
+use Rattle.std.proofs.Common.{◌≡◌, ◌≤◌, length, string_bytes}
 use Rattle.std.specs.Io.KnownBytes.{prepend_known}
 use Rattle.tl_record.specs.Layout.{layout_with}
 use Rattle.tigertopo_where.specs.Finding.{PassesTo}
-use Rattle.tigertopo_where.specs.Hint.Placing.{place_in}
-use Rattle.tigertopo_where.proofs.PlacedLemmas.{PlacedSoFar}
+use Rattle.tigertopo_where.proofs.PlacedLemmas.{ToldSoFar}
 use Rattle.tigertopo_where.proofs.hint.placed.RefusedLinesReading.read.Given as goal
 
-abbrev pub invariant-loop-refusal : goal.invariant-loop-refusal
-invariant-loop-refusal g l = record {
-  failures : g.R.Source.failure_count l.joined ≡ g.R.Source.failure_count l.fn.joined;
-  single : g.S.Source.failure_count l._single ≡ g.S.Source.failure_count l.fn._single;
-  passes : PassesTo l.passed (g.R.Source.remaining l.fn.joined) (prepend_known l.buffer (g.R.Source.remaining l.joined));
-  placed : PlacedSoFar l.self.form (λ r held. place_in l.self.form (layout_with l.self.options) (map string_bytes l.self.names.now) l.self.counts.now held r)
-      (g.R.Source.remaining l.fn.joined) l.self.refusals.now l.refusal-index l.passed l.text.items;
+abbrev pub invariant-loop-told : goal.invariant-loop-told
+invariant-loop-told g l = record {
+  joined : g.R.Source.failure_count l._joined ≡ g.R.Source.failure_count l.fn._joined;
+  failures : g.S.Source.failure_count l.single ≡ g.S.Source.failure_count l.fn.single;
+  passes : PassesTo l.lines (g.S.Source.remaining l.fn.single) (prepend_known l.buffer (g.S.Source.remaining l.single));
+  within : l.told ≤ length l.self.refusals.now;
+  so_far : ToldSoFar l.self.form (layout_with l.self.options) (string_bytes l.self.name.now) l.self.before (g.S.Source.remaining l.fn.single) l.self.refusals.now l.told l.lines l.text.items;
 }

@@ -1,0 +1,167 @@
+//! Refused lines that are skipped, as they are answered with the faults of the records that are left, and the file of both.
+
+ghost use Rattle.std.specs.Prelude.{◌≡◌, ◌++◌, [], true, ℕ, List, Option, Some, IfOk, IfErr, IfSome, map as map_list, option_copied, option_map, string_bytes};
+ghost use Rattle.tl_record.specs.Layout.{layout_with};
+ghost use Rattle.tl_cert_output.specs.Stops.{StopsFor};
+ghost use Rattle.tl_cert_output.specs.declared.stop.Stop.TheVariants.{Memory};
+ghost use Rattle.tl_list_text.specs.Listings.{IsListingOf};
+ghost use Rattle.tl_list_text.specs.declared.listing.Listing.TheVariants.{Refused as RefusedLines};
+ghost use Rattle.tigertopo_files.specs.Log.{LogsAgain};
+ghost use Rattle.tigertopo_files.specs.World.{Does, MayMake, world};
+ghost use Rattle.tigertopo_files.specs.declared.beginning.FileKind.TheVariants.{Collection};
+ghost use Rattle.tigertopo_where.specs.Hint.Again.{FailsAgain};
+ghost use Rattle.tigertopo_where.specs.Left.{numbers_of};
+ghost use Rattle.tigertopo_lists.specs.Listed.{ListAnswers, StopsList, is_skipping, listed_text, reads_again, skipped_text, wanted_of};
+ghost use Rattle.tigertopo_lists.specs.Keeping.{IsLeft, IsLeftPrepared};
+
+use crate::collection::make_collection;
+use crate::left::LeftFaults;
+use crate::listed::Listed;
+use crate::listing::{Wanted, reads_again};
+use crate::prepared::whole_text;
+use crate::refused::prepare_refused;
+use crate::speaking::{featured, speak_of};
+use arrayvec::ArrayString;
+use std::alloc::Global;
+use std::hash::RandomState;
+use tigertopo_faults::lines::Spoken;
+use tigertopo_faults::objects::skipped_end;
+use tigertopo_files::FileSystem;
+use tigertopo_outcome::said::Answer;
+use tigertopo_outcome::stop::REFUSED;
+use tigertopo_text::with_printed;
+use tigertopo_words::Form;
+use tl_cert_output::Stop;
+use tl_list_text::{LINE_ROOM, push_number};
+use tl_record::{Options, Refusal};
+
+/// Answers lines that are refused, behind them the faults of what is left, and how many lines were skipped, and makes the file that is
+/// wanted of both.
+pub(crate) fn tell_left<F: FileSystem>(
+    files: &mut F,
+    alloc: Global,
+    hasher: RandomState,
+    options: Options,
+    names: &[String],
+    wanted: Wanted<'_>,
+    list: Vec<Refusal>,
+    left: &LeftFaults,
+) -> Result<Answer<Listed>, Stop>
+    requires { MayMake (F.under files.old) (option_map string_bytes wanted.made.now) (map_list string_bytes names.now) Collection }
+    ensures { let w = world F.under F.log F.knows files.old files.new in
+        let asked = wanted_of (map_list string_bytes names.now) wanted.entry in
+        (known : Option (List ℕ)) → IfSome known (λ text. IsListingOf options text (RefusedLines list))
+        → IsLeft options (is_skipping asked.told) known (numbers_of list.items) (Some left.now)
+        → Does w [] asked.made (λ answer. ListAnswers w options known asked answer.status (listed_text answer.text))
+        (StopsList w options known asked) result }
+{
+    let texts = prepare_left(files, alloc, hasher, options, names, wanted, list, left)?;
+    let drawn = left.map.as_ref();
+    let faults = left.faults.as_slice();
+    let shown = featured(wanted.told, faults);
+    let features = texts.features.as_slice();
+    make_collection(
+        files,
+        alloc,
+        wanted.made,
+        names,
+        drawn,
+        &texts.spoken,
+        shown,
+        left.touched,
+        features,
+    )?;
+    Ok(Answer {
+        status: REFUSED,
+        text: Listed::Lines(texts.text),
+    })
+}
+
+/// What is answered of refused lines and of what is left, the records that its faults speak of, and the features of those refused lines that
+/// the file has.
+#[derive(Drop)]
+pub(crate) struct LeftTexts {
+    pub text: Vec<u8>,
+    pub spoken: Spoken,
+    pub features: Vec<u8>,
+}
+
+// These texts.
+fn prepare_left<F: FileSystem>(
+    files: &mut F,
+    alloc: Global,
+    hasher: RandomState,
+    options: Options,
+    names: &[String],
+    wanted: Wanted<'_>,
+    list: Vec<Refusal>,
+    left: &LeftFaults,
+) -> Result<LeftTexts, Stop>
+    ensures prepared { IfOk result (IsLeftPrepared (layout_with options) (F.under files.old)
+        (wanted_of (map_list string_bytes names.now) wanted.entry) list.items left.now) }
+    ensures stops { let asked = wanted_of (map_list string_bytes names.now) wanted.entry in
+        IfErr result (StopsFor ((reads_again asked.form asked.made ≡ true) × FailsAgain (world F.under F.log F.knows files.old files.new) asked.names)) }
+    ensures stays { F.under files.new ≡ F.under files.old }
+    ensures logged { F.knows ≡ true → LogsAgain (F.log files.old) (F.log files.new) result }
+{
+    let drawn = left.map.as_ref();
+    let faults = left.faults.as_slice();
+    let shown = featured(wanted.told, faults);
+    let again = reads_again(wanted.form, wanted.made);
+    let passed = list.as_slice();
+    let spoken = speak_of(
+        files, alloc, hasher, names, options, passed, drawn, again, shown,
+    )?;
+    let told = whole_text(
+        alloc,
+        names,
+        drawn,
+        &spoken,
+        wanted.form,
+        wanted.told,
+        faults,
+        left.touched,
+    )?;
+    let count = passed.len() as u64;
+    let refused = prepare_refused(files, alloc, options, names, wanted, list)?;
+    let behind = told.as_slice();
+    let text = text_of_all(alloc, &refused.0.text, behind, wanted.form, count)?;
+    Ok(LeftTexts {
+        text,
+        spoken,
+        features: refused.1,
+    })
+}
+
+// A text of refused lines, one of faults, and the last line.
+fn text_of_all(
+    alloc: Global,
+    refused: &Listed,
+    told: &[u8],
+    form: Form,
+    count: u64,
+) -> Result<Vec<u8>, Stop>
+    ensures told { IfOk result (λ text. text.items ≡ listed_text refused.now ++ told.now ++ skipped_text form count) }
+    ensures stop { IfErr result (λ stop. stop ≡ Memory) }
+{
+    let mut text = with_printed(alloc, &[], refused)?;
+    text.extend_from_slice(told)?;
+    let end = skipped_text(form, count);
+    text.extend_from_slice(end.as_str().as_bytes())?;
+    Ok(text)
+}
+
+// The last line, which says how many refused lines were skipped.
+fn skipped_text(form: Form, count: u64) -> ArrayString<LINE_ROOM>
+    ensures { result.bytes ≡ skipped_text form count }
+{
+    match form {
+        Form::Lines | Form::Records => {
+            let mut text = ArrayString::new();
+            push_number(&mut text, "refused lines=", count);
+            text.push_str(" skipped\n");
+            text
+        }
+        Form::Objects => skipped_end(count),
+    }
+}

@@ -1,0 +1,15 @@
+use Rattle.std.proofs.Common.{◌≡◌, ◌∙◌, arith, codes, decimal}
+use Rattle.tl_record.specs.Messages.{cause_text}
+use Rattle.tigertopo_words.specs.Json.{string_text}
+use Rattle.tigertopo_where.specs.Hint.Objects.{cause_members, refused_feature}
+use Rattle.tigertopo_where.proofs.WordLemmas.{seven_parts}
+use Rattle.tigertopo_where.proofs.hint.object.push_refused_feature.Goals as goal
+
+pub returns : goal.returns
+unfolding refused_feature
+returns c =
+    let told : c.cause_in-told.result.now ≡ cause_text c.args.cause =
+    c.cause_in-told.ensures c.args.number (cause_text c.args.cause) (omega arith) (c.as_bytes.ensures.value ∙ c.as_str.ensures.value ∙ c.refusal_line-line.ensures) in
+    rw (c.in_ok-extend_from_slice-3.ensures.items, c.in_ok-push_number.ensures, c.in_ok-push_string.ensures, c.in_ok-extend_from_slice-2.ensures.items, c.in_ok-push_cause.ensures, c.in_ok-extend_from_slice.ensures.items, told)
+    (seven_parts c.args.text.now.items (codes ",\n{\"type\":\"Feature\",\"geometry\":null,\"properties\":{") (cause_members (cause_text c.args.cause)) (codes ",\"refused\":") (string_text (cause_text c.args.cause)) (codes ",\"line\":")
+    (decimal c.args.number) (codes ",\"records\":["))

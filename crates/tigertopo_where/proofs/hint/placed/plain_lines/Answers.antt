@@ -1,6 +1,0 @@
-use Rattle.tigertopo_where.proofs.PlacedLemmas.{plain_one_more, same_got}
-use Rattle.tigertopo_where.proofs.hint.placed.plain_lines.Goals as goal
-
-pub loop-refusal-preserved : goal.loop-refusal-preserved
-loop-refusal-preserved c =
-    plain_one_more c.args.form c.args.refusals.now c.loop-refusal.refusal-index _ _ _ _ c.loop-refusal-test.true (same_got c.args.refusals.now c.loop-refusal.refusal-index _ _ c.loop-refusal-test.true) c.loop-refusal.invariant c.in_ok-push_refusal.ensures c.in_ok-push_no_place.ensures
