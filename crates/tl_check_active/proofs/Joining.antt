@@ -77,7 +77,7 @@ alone gs from d lt = further gs from from d (omega arith) lt ∙ ap (λ n. joine
 pub before_further : (gs : List (List Event)) (k : ℕ) (d : List Event) → k < length gs → joined (take (k + 1) gs) ≡ joined (take k gs) ++ get_or gs k d
 before_further gs k d lt = ap joined (take_more gs k d lt) ∙ joined-push (take k gs) (get_or gs k d)
 
-whole : (from : ℕ) (gs : List (List Event)) → joined gs ≡ joined (take from gs) ++ joined (drop from gs)
+pub whole : (from : ℕ) (gs : List (List Event)) → joined gs ≡ joined (take from gs) ++ joined (drop from gs)
 whole from gs = ap joined (sym (take-append-drop from gs)) ∙ joined-append (take from gs) (drop from gs)
 
 pub rest_behind : (from : ℕ) (gs : List (List Event)) → drop (before from gs) (joined gs) ≡ joined (drop from gs)
@@ -121,17 +121,19 @@ first_of : (g more : List Event) (d : Event) → 0 < length g → get_or (g ++ m
 first_of [] more d some = absurd (omega (arith, some))
 first_of (e ∷ g) more d some = refl
 
-pub first_behind : (from : ℕ) (gs : List (List Event)) (p : Point) (d : Event) → from < length gs → ((e : List Event) → AreAt p (get_or gs from e)) → (get_or (joined gs) (before from gs) d).height ≡ height widest p +ℤ pos 2147483647
-first_behind from gs p d lt at =
-    let g : List Event = get_or gs from [] in
-    let here : AreAt p (get_or gs from []) = at [] in
-    let long = before_further gs from [] lt in
-    let there : get_or (joined gs) (before from gs) d ≡ get_or (get_or gs from []) 0 d =
+pub first_there : (from : ℕ) (gs : List (List Event)) (d : Event) → from < length gs → 0 < length (get_or gs from []) →
+    get_or (joined gs) (before from gs) d ≡ get_or (get_or gs from []) 0 d
+first_there from gs d lt some =
     ap (λ n. get_or (joined gs) n d) (let none : before from gs ≡ before from gs + 0 = omega arith in none)
     ∙ sym (get_or-drop (before from gs) (joined gs) 0 d)
     ∙ ap (λ l. get_or l 0 d) (rest_behind from gs ∙ whole 1 (drop from gs))
     ∙ ap (λ l. get_or (l ++ joined (drop 1 (drop from gs))) 0 d) (ap joined (take_more (drop from gs) 0 [] (omega (arith, length-drop from gs, lt))) ∙ append-nil (get_or (drop from gs) 0 []) ∙ get_or-drop from gs 0 [] ∙ ap (λ n. get_or gs n []) (let none : from + 0 ≡ from = omega arith in none))
-    ∙ first_of (get_or gs from []) (joined (drop 1 (drop from gs))) d here.some in
+    ∙ first_of (get_or gs from []) (joined (drop 1 (drop from gs))) d some
+
+pub first_behind : (from : ℕ) (gs : List (List Event)) (p : Point) (d : Event) → from < length gs → ((e : List Event) → AreAt p (get_or gs from e)) → (get_or (joined gs) (before from gs) d).height ≡ height widest p +ℤ pos 2147483647
+first_behind from gs p d lt at =
+    let here : AreAt p (get_or gs from []) = at [] in
+    let there = first_there from gs d lt here.some in
     ap (λ (e : Event). e.height) there ∙ All-get_or (λ (e : Event). e.height ≡ height widest p +ℤ pos 2147483647) (get_or gs from []) 0 d here.some here.level
 
 pub last_before : (from : ℕ) (gs : List (List Event)) (p : Point) (d : Event) → 0 < from → from ≤ length gs → ((e : List Event) → AreAt p (get_or gs (from - 1) e)) → (get_or (joined gs) (before from gs - 1) d).height ≡ height widest p +ℤ pos 2147483647

@@ -11,3 +11,4 @@ pub mod Joining
 pub mod Meeting
 pub mod Ending
 pub mod Gathering
+pub mod Risen

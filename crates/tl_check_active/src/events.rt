@@ -1,16 +1,16 @@
 //! The events of a sweep: the ends of all segments, by height.
 ghost use Rattle.std.specs.Prelude.{◌≡◌, ◌+◌, ◌/◌, ◌%◌, ◌==◌, ◌^◌, ◌<◌, ◌∷◌, [], true, false};
-ghost use Rattle.std.specs.Prelude.{All, IfOk, IfSome, Some, length};
+ghost use Rattle.std.specs.Prelude.{All, IfOk, IfSome, IsTrue, Some, length};
 ghost use Rattle.tl_geom.specs.Plane.{end_a, end_b};
 ghost use Rattle.tl_map_county.specs.Segments.{segments_before};
 ghost use Rattle.tl_check_planar.specs.ByHeight.Heights.{widest};
 ghost use Rattle.tl_check_planar.specs.ByHeight.Neighbours.{IsNumbered, IsWide};
 ghost use Rattle.tl_check_active.specs.declared.events.Event.{Event};
-ghost use Rattle.tl_check_active.specs.Keeping.Ended.{event_by, events_at, events_in, AreListed, IsNextAlong};
+ghost use Rattle.tl_check_active.specs.Keeping.Ended.{event_by, events_at, events_in, AreEndsRising, AreListed, IsNextAlong};
 ghost use Rattle.tl_check_active.specs.Events.{one_or_two, AreMet, AreEvents, joined};
 ghost use Rattle.tl_check_active.specs.Ranges.{IsInRange, AreInRange};
 
-use crate::heights::{height, is_lower};
+use crate::heights::{height, is_lower, is_no_higher};
 use std::alloc::{AllocError, Global};
 use std::marker::Model;
 use tl_geom::{Point, Segment};
@@ -65,7 +65,7 @@ impl Events {
     ghost use Rattle.tl_check_planar.specs.ByHeight.Heights.{widest};
     ghost use Rattle.tl_check_active.specs.declared.events.Event.{Event};
     ghost use Rattle.tl_check_planar.specs.ByHeight.Neighbours.{IsWide};
-    ghost use Rattle.tl_check_active.specs.Events.{AreAt, AreMet, one_or_two, AreEvents, joined};
+    ghost use Rattle.tl_check_active.specs.Events.{AreAt, AreMet, AreRising, one_or_two, AreEvents, joined};
     ghost use Rattle.tl_check_active.specs.Ranges.{AreInRange};
 
     /// The events of all segments of a map, by the segments' numbers.
@@ -103,12 +103,30 @@ impl Events {
         self.ends[place].point
     }
 
-    /// Sorts them by height. Nothing rests on their order, which is tested. The error is that memory was refused.
+    /// Sorts them by height. As a rule they stand by height where they are presorted, and else they are sorted then. The error is that memory
+    /// was refused.
     pub fn sort(&mut self, alloc: Global) -> Result<(), AllocError>
-        ensures { IsPermutation self.old self.new }
+        ensures moved { IsPermutation self.old self.new }
+        ensures rising { IfOk result (λ done. AreRising (joined self.new)) }
     {
-        presort_by_rank(alloc, &mut self.ends)
+        presort_by_rank(alloc, &mut self.ends)?;
+        if !are_rising(&self.ends) {
+            self.ends.sort_by_key(|end| height(end.point))?;
+        }
+        Ok(())
     }
+}
+
+/// Whether none of these is higher than the next.
+fn are_rising(ends: &[End]) -> bool
+    ensures { IsTrue result → AreEndsRising ends.now }
+{
+    for k in 1..ends.len() {
+        if !is_no_higher(ends[k - 1].point, ends[k].point) {
+            return false;
+        }
+    }
+    true
 }
 
 /// The events at what is kept.

@@ -1,5 +1,5 @@
 //! The heights of points, and the ends of segments by them.
-ghost use Rattle.std.specs.Prelude.{◌≡◌, ◌+ℤ◌, pos, int_lt};
+ghost use Rattle.std.specs.Prelude.{◌≡◌, ◌+ℤ◌, ◌≤ℤ◌, pos, int_lt, IsTrue};
 ghost use Rattle.tl_check_planar.specs.ByHeight.Heights.{height as height_by, widest, low_end, high_end};
 
 use tl_geom::{Point, Segment};
@@ -19,6 +19,16 @@ pub fn is_lower(p: Point, q: Point) -> bool
     ensures { result ≡ int_lt (height_by widest p) (height_by widest q) }
 {
     height(p) < height(q)
+}
+
+/// Whether one point isn't higher than another: as a rule latitudes tell it.
+#[inline]
+pub fn is_no_higher(p: Point, q: Point) -> bool
+    ensures { IsTrue result → height_by widest p ≤ℤ height_by widest q }
+{
+    // that their longitudes are within the range of an i32
+    let (_p, _q) = (p.x, q.x);
+    p.y < q.y || !is_lower(q, p)
 }
 
 /// The ends of a segment: the lower one, and the higher one.

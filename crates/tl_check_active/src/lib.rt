@@ -3,8 +3,8 @@
 //! [`Events`] are the ends of all segments by their heights, and [`gather`] tells which segments end and which begin at a
 //! point. [`Line`] is the list of active segments from west to east; [`shift`] takes what ends off it and puts in what
 //! begins, and tests each two that are neighbours for the first time. The list stands in blocks, by whose first segments the
-//! block of a place is found, so that few steps lead to any place. Neither the order of events nor the place in the list that
-//! is gone to is claimed to be right: `tl_check_sweep` tests the one, and the tests of neighbours tell whether the other was.
+//! block of a place is found, so that few steps lead to any place. The place in the list that is gone to isn't claimed to be right: the tests of
+//! neighbours tell whether it was.
 #![tactic(auto)]
 
 mod blocks;
@@ -25,4 +25,4 @@ pub use line::Line;
 pub use neighbours::{are_tested, is_west_of};
 pub use places::Places;
 pub use shifting::{bend, closes, shift};
-pub use vertices::{gather, order};
+pub use vertices::{are_one, gather, order};

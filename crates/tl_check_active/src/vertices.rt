@@ -86,7 +86,7 @@ fn are_there(events: &Events, first: usize, place: usize, p: Point) -> bool
 
 /// Whether two points are one. If they aren't, their heights differ.
 #[inline]
-fn are_one(p: Point, q: Point) -> bool
+pub fn are_one(p: Point, q: Point) -> bool
     ensures one { IsTrue result → p ≡ q }
     ensures differ { IsFalse result → height widest p ≢ height widest q }
 {

@@ -1,4 +1,4 @@
--- Events that are in order rise, and what stands at two places of chains stands at ends of chains there.
+-- Of events that are in order, what stands at two places of chains stands at ends of chains there.
 use Rattle.std.proofs.Common.{◌≡◌, ◌⊎◌, inl, inr, ⊎_elim, ℕ, zero, suc, ◌+◌, ◌-◌, ◌<◌, ◌≤◌, ◌==◌, Bool, true, false, not, ◌&&◌, if◌then◌else◌, pos, ◌+ℤ◌, ◌≤ℤ◌, Some, List, [], ◌∷◌, length, get_or, count_by, refl, sym, ap, subst, ◌∙◌, arith}
 use Rattle.std.specs.Prelude.{slice_get}
 use Rattle.std.proofs.lemmas.Bool.{cases_lt}
@@ -17,7 +17,7 @@ use Rattle.tl_check_active.specs.declared.events.Event.{Event}
 use Rattle.tl_check_planar.specs.ByHeight.Heights.{height, widest, low_end, high_end}
 use Rattle.tl_check_planar.specs.ByHeight.Neighbours.{IsNumbered, IsWide}
 use Rattle.tl_check_planar.specs.ByHeight.Slabs.{IsPointOf, AreVerticesTested}
-use Rattle.tl_check_active.specs.Events.{end_at, IsEvent, begins_at, ends_at, AreEvents, AreRising}
+use Rattle.tl_check_active.specs.Events.{end_at, IsEvent, begins_at, ends_at, AreEvents}
 use Rattle.tl_check_active.specs.Vertices.{IsAtPlace, IsEndOfChain, MayMeet}
 use Rattle.tl_check_sweep.specs.Keeping.Vertices.{AreInOrderUpTo}
 use Rattle.tl_check_active.proofs.Bits.{bit}
@@ -63,11 +63,6 @@ module _ (chains : List MapChain) (events : List Event) (order : AreInOrderUpTo 
       let step = (order (k + n) d (omega (arith, lt))).rising in
       let same : (get_or events (k + suc n) d).height ≡ (get_or events (k + n + 1) d).height = ap (λ m. (get_or events m d).height) (let is : k + suc n ≡ k + n + 1 = omega arith in is) in
       omega (arith, ints, before, step, same)
-
-  pub rising : AreRising events
-  rising k l d le lt =
-      let is : k + (l - k) ≡ l = omega (arith, le) in
-      subst (λ m. (get_or events k d).height ≤ℤ (get_or events m d).height) is (far k (l - k) d (omega (arith, le, lt)))
 
   module _ (are : AreEvents chains events) where
     itself : (e : Event) → MayMeet chains e e

@@ -2,6 +2,8 @@ pub mod Crossed
 pub mod Flanked
 pub mod Between
 pub mod Found
+pub mod Apart
+pub mod Freeing
 pub mod Pushing
 pub mod Slab
 pub mod Gone

@@ -19,11 +19,11 @@ ghost use Rattle.tl_check_sweep.specs.Gaps.{AreAllOddGaps};
 ghost use Rattle.tl_check_sweep.specs.Keeping.Spotted.{AreMarks, AreTrueMarks};
 ghost use Rattle.tl_check_sweep.specs.Keeping.Told.{IsTrueAnswer, IsTrueSweep};
 
-use crate::meets::are_vertices_tested;
+use crate::meets::meet_at_vertex;
 use crate::pairs::find_in_pairs;
 use crate::slabs::gaps_by_slabs;
 use crate::spots::{InnerPoints, list_unmarked};
-use crate::suspects::{find_meet, find_meet_at_vertex};
+use crate::suspects::find_meet;
 use crate::sweeping::sweep_list;
 use crate::watch::{Gaps, Watch};
 use std::alloc::{AllocError, Global};
@@ -131,16 +131,17 @@ fn sweep_ends(alloc: Global, map: &Map, gaps: Gaps) -> Result<Told, AllocError>
 /// The same by all ends, which are sorted.
 fn sweep_events(alloc: Global, map: &Map, events: &Events, gaps: Gaps) -> Result<Told, AllocError>
     requires events { AreEvents map.now.chains (joined events.now) }
+    requires rising { AreRising (joined events.now) }
     requires met { All (AreMet map.now.chains) events.now }
     requires wide { IsWide widest map.now.chains }
     requires ranges { AreInRange map.now.chains }
     requires proper { AreProper map.now.chains }
     ensures { IfOk result (IsTrueSweep map.now gaps) }
 {
-    if !are_vertices_tested(map, events) {
-        return answer_by_pairs(alloc, map, find_meet_at_vertex(map, events));
+    match meet_at_vertex(map, events) {
+        Some(meet) => Ok(answer_by_meet(alloc, meet)),
+        None => sweep_tested(alloc, map, events, gaps),
     }
-    sweep_tested(alloc, map, events, gaps)
 }
 
 /// The same where vertices are tested.
@@ -168,8 +169,8 @@ fn sweep_tested(alloc: Global, map: &Map, events: &Events, gaps: Gaps) -> Result
     })
 }
 
-/// What is told where a test failed: the meet that was found there, if there is one, and else what a search of all pairs of segments
-/// says. No map is known of which the tests fail and no meet is found there.
+/// What is told where a test of neighbours failed: the meet that was found there, if there is one, and else what a search of all pairs of
+/// segments says. No map is known of which the tests fail and no meet is found there.
 fn answer_by_pairs(alloc: Global, map: &Map, found: Option<Meet>) -> Result<Told, AllocError>
     requires { IfSome found (IsTrueMeet map.now.chains) }
     ensures { IfOk result (λ told. (gaps : _) → IsTrueSweep map.now gaps told) }

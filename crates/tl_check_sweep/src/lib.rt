@@ -3,9 +3,10 @@
 //! The sweep keeps a list of the segments that are active at the height that it has reached, from west to east, and tests
 //! each two that are neighbours for the first time (`tl_check_active`). Neither the order of the list nor the way in which a place in it
 //! was found is trusted: `tl_check_planar::by_height` says what follows from the tests alone. So [`sweep`] answers [`Swept::Planar`] only where the
-//! chains are planar. Where a test fails it looks for two segments there that meet where they may not; and where none do, which no map is
-//! known to bring about, a search of all pairs of segments with a latitude in common names a meet or shows that there is none. A point
-//! between two neighbours lies in the polygon that the side of its eastern neighbour names, as [`laws`] say.
+//! chains are planar. Where points of chains are at one vertex and may not be, it names two segments there that meet where they may not. Where
+//! a test of neighbours fails it looks for two such segments there; and where none do, which no map is known to bring about, a search of all
+//! pairs of segments with a latitude in common names a meet or shows that there is none. A point between two neighbours lies in the polygon
+//! that the side of its eastern neighbour names, as [`laws`] say.
 //!
 //! Of the gaps between two neighbours whose facing sides differ ([`tl_check_faces::OddGap`]) it tells the first or all, as it is asked
 //! ([`Gaps`]): `specs/Gaps` says which list is of all. It counts the places along the list where sides differ. Only where there are such

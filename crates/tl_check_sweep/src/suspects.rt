@@ -1,12 +1,12 @@
 //! Segments that may meet where they may not, of which it is asked where a test failed.
-ghost use Rattle.std.specs.Prelude.{◌≡◌, ◌<◌, None, IfSome, IsTrue};
+ghost use Rattle.std.specs.Prelude.{◌≡◌, ◌+◌, ◌<◌, ◌≤◌, ℕ, None, IfSome, length};
+ghost use Rattle.tl_map_county.specs.Segments.{IsSegmentOf, segments_before};
 ghost use Rattle.tl_check_planar.specs.Meets.{AreFree};
 ghost use Rattle.tl_check_planar.specs.Searching.{IsTrueMeet};
-ghost use Rattle.tl_check_sweep.specs.Keeping.Pairs.{AreFreeBothWays};
+ghost use Rattle.tl_check_sweep.specs.Keeping.Pairs.{AreFreeBothWays, IsFreeOfEnds};
 
-use crate::meets::{are_in_order, last_of};
 use std::alloc::AllocError;
-use tl_check_active::{Events, Line};
+use tl_check_active::Line;
 use tl_check_planar::{Meet, Segments};
 use tl_map_county::Map;
 use tl_tree_index::Items;
@@ -57,7 +57,11 @@ fn find_beside(map: &Map, suspects: &[u32], place: usize) -> Option<Meet>
 }
 
 /// How many segments have chains with lower numbers than this one.
-fn begin_of_chain(map: &Map, c: u32) -> u32 {
+fn begin_of_chain(map: &Map, c: u32) -> u32
+    ensures within { result ≤ segments_before map.now.chains (length map.now.chains) }
+    ensures below { (x d k : ℕ) → x < result → IsSegmentOf map.now.chains x d k → d < c }
+    ensures above { (x d k : ℕ) → result ≤ x → IsSegmentOf map.now.chains x d k → c ≤ d }
+{
     let mut low = 0;
     let mut high = map.segments();
     while low < high {
@@ -74,20 +78,37 @@ fn begin_of_chain(map: &Map, c: u32) -> u32 {
 /// A meet of a segment with the first or the last one of its own chain, if there is one. Where a chain runs through its own end, and
 /// another chain ends there too, its segment may meet that of the other chain, and not its own.
 fn meet_in_chain(map: &Map, s: u32) -> Option<Meet>
-    ensures { IfSome result (IsTrueMeet map.now.chains) }
+    ensures meet { IfSome result (IsTrueMeet map.now.chains) }
+    ensures none { result ≡ None → IsFreeOfEnds map.now.chains s }
 {
     if s >= map.segments() {
         return None;
     }
+    // that each chain has two points or more, and that a number of 32 bits holds how many there are
+    map.has_proper_chains();
+    let _chains = map.chains();
     let own = map.segment_chain(s);
-    if let Some(meet) = meet_of(map, s, begin_of_chain(map, own)) {
+    let behind = begin_of_chain(map, own.saturating_add(1));
+    match meet_of(map, s, begin_of_chain(map, own)) {
+        Some(meet) => Some(meet),
+        None => meet_of(map, s, behind.saturating_sub(1)),
+    }
+}
+
+/// A meet of two segments, or of one of them with the first or the last one of its own chain, if there is one.
+pub fn meet_about(map: &Map, s: u32, t: u32) -> Option<Meet>
+    ensures meet { IfSome result (IsTrueMeet map.now.chains) }
+    ensures pair { result ≡ None → AreFreeBothWays map.now.chains s t }
+    ensures first { result ≡ None → IsFreeOfEnds map.now.chains s }
+    ensures second { result ≡ None → IsFreeOfEnds map.now.chains t }
+{
+    if let Some(meet) = meet_of(map, s, t) {
         return Some(meet);
     }
-    meet_of(
-        map,
-        s,
-        begin_of_chain(map, own.saturating_add(1)).saturating_sub(1),
-    )
+    match meet_in_chain(map, s) {
+        Some(meet) => Some(meet),
+        None => meet_in_chain(map, t),
+    }
 }
 
 /// A meet of two of these segments, where there is one of the first, of the second or of two that follow one another.
@@ -123,22 +144,6 @@ pub fn find_meet(map: &Map, suspects: &[u32]) -> Option<Meet>
         return Some(meet);
     }
     find_in_chains(map, suspects)
-}
-
-/// A meet of two segments with ends at one point that may not meet there, if there are such.
-pub fn find_meet_at_vertex(map: &Map, events: &Events) -> Option<Meet>
-    ensures { IfSome result (IsTrueMeet map.now.chains) }
-{
-    for k in 1..events.len() {
-        let (event, next) = events.at(k - 1);
-        let (e, f) = (last_of(event, next), events.at(k).0);
-        if !are_in_order(map, e, f) {
-            if let Some(meet) = find_meet(map, &[e.segment, f.segment]) {
-                return Some(meet);
-            }
-        }
-    }
-    None
 }
 
 /// Lists what stands before and behind the place, and the segments that end or begin there.

@@ -1,5 +1,5 @@
 -- The ends of segments as they are kept, and the events that they are.
-use Rattle.std.specs.Prelude.{◌≡◌, ℕ, ◌+◌, ◌<◌, ◌/◌, ◌%◌, ◌==◌, Bool, true, false, not, pos, ◌+ℤ◌, int_lt, if◌then◌else◌, List, [], ◌∷◌, ◌++◌, map, All}
+use Rattle.std.specs.Prelude.{◌≡◌, ℕ, ◌+◌, ◌<◌, ◌/◌, ◌%◌, ◌==◌, Bool, true, false, not, pos, ◌+ℤ◌, ◌≤ℤ◌, int_lt, if◌then◌else◌, List, [], ◌∷◌, ◌++◌, length, slice_index_or, map, All}
 use Rattle.tl_geom.specs.declared.segment.Segment.{Segment}
 use Rattle.tl_geom.specs.Plane.{end_a, end_b}
 use Rattle.tl_map_county.specs.TheMap.{MapChain}
@@ -31,6 +31,11 @@ events_at e = if e.number / 8 % 2 == 1 then event_at e ∷ next_at e ∷ [] else
 -- those of all that is kept, apart by what they are kept in
 abbrev pub events_in : List End → List (List Event)
 events_in ends = map events_at ends
+
+-- none is higher than the next
+abbrev pub AreEndsRising : List End → Type 0
+AreEndsRising ends =
+    (k : ℕ) (d : End) → k + 1 < length ends → height widest (slice_index_or ends k d).point ≤ℤ height widest (slice_index_or ends (k + 1) d).point
 
 -- what comes behind the events of the first n segments: nothing, or the event at the first end of the next one
 abbrev pub IsBegun : List MapChain → ℕ → Bool → (events listed : List Event) → Type 0

@@ -1,7 +1,7 @@
 -- The search for a meet among all pairs of segments.
-use Rattle.std.specs.Prelude.{◌≡◌, ℕ, ◌<◌, ◌≤◌, ◌≤ℤ◌, List, length, slice_index_or, All, Contains}
+use Rattle.std.specs.Prelude.{◌≡◌, ◌⊎◌, ℕ, ◌+◌, ◌<◌, ◌≤◌, ◌≤ℤ◌, List, length, slice_index_or, All, Contains}
 use Rattle.tl_map_county.specs.TheMap.{MapChain}
-use Rattle.tl_map_county.specs.Segments.{segments_before}
+use Rattle.tl_map_county.specs.Segments.{segments_before, IsSegmentOf}
 use Rattle.tl_check_planar.specs.Meets.{AreFree}
 use Rattle.tl_check_planar.specs.Rectangles.{segment_rect}
 use Rattle.tl_check_sweep.specs.declared.pairs.NumberedRect.{NumberedRect}
@@ -35,3 +35,8 @@ abbrev pub AreFreeFrom : List MapChain → List NumberedRect → (k n : ℕ) →
 AreFreeFrom chains rects k n =
     (j : ℕ) (d : NumberedRect) → k < j → j < n → j < length rects →
     AreFreeBothWays chains (slice_index_or rects k d).number (slice_index_or rects j d).number
+
+-- segment s doesn't conflict with the first segment of its own chain, nor with the last
+abbrev pub IsFreeOfEnds : List MapChain → ℕ → Type 0
+IsFreeOfEnds chains s =
+    (c k x l : ℕ) → IsSegmentOf chains s c k → (end : IsSegmentOf chains x c l) → (l ≡ 0) ⊎ (l + 2 ≡ length end.chain.points) → AreFreeBothWays chains s x

@@ -1,4 +1,4 @@
-use Rattle.std.proofs.Common.{◌++◌, ap, ap₂, sym, ◌∙◌}
+use Rattle.std.proofs.Common.{◌++◌, ap₂, sym, ◌∙◌}
 use Rattle.tl_check_active.proofs.Numbers.{numbers_more}
 use Rattle.tl_check_active.proofs.blocks.list_numbers.Goals as goal
 

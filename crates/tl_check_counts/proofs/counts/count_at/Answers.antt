@@ -8,7 +8,7 @@ use Rattle.tl_check_counts.proofs.counts.count_at.Goals as goal
 
 pub sweep-requires-clause-events : goal.sweep-requires-clause-events
 sweep-requires-clause-events c =
-    joined_moved c.args.map.now.chains (segments_before c.args.map.now.chains (length c.args.map.now.chains)) _ _ c.in_ok-sort.ensures c.in_ok-events.ensures.events
+    joined_moved c.args.map.now.chains (segments_before c.args.map.now.chains (length c.args.map.now.chains)) _ _ c.in_ok-sort.ensures.moved c.in_ok-events.ensures.events
 
 pub visit_all-requires-clause-visits : goal.visit_all-requires-clause-visits
 visit_all-requires-clause-visits c =

@@ -1,8 +1,11 @@
-use Rattle.std.proofs.lemmas.Result.{IfOk-weaker}
+use Rattle.std.proofs.Common.{subst}
+use Rattle.std.specs.Prelude.{IfSome}
+use Rattle.tl_check_planar.specs.Searching.{IsTrueMeet}
 use Rattle.tl_check_sweep.proofs.answer.sweep_events.Goals as goal
 
 pub sweep_tested-requires-clause-vertices : goal.sweep_tested-requires-clause-vertices
-sweep_tested-requires-clause-vertices c = c.are_vertices_tested.ensures.vertices c.if-not-are_vertices_tested.false c.requires.events c.requires.wide c.requires.proper
+sweep_tested-requires-clause-vertices c = c.meet_at_vertex.ensures.none c.in-None.is
 
-pub returns-then-not-are_vertices_tested : goal.returns-then-not-are_vertices_tested
-returns-then-not-are_vertices_tested c = IfOk-weaker c.answer_by_pairs.result _ _ (λ told is. is c.args.gaps) c.answer_by_pairs.ensures
+pub returns-in-Some : goal.returns-in-Some
+returns-in-Some c =
+    c.answer_by_meet.ensures c.args.map.now c.args.gaps (subst (λ o. IfSome o (IsTrueMeet c.args.map.now.chains)) c.in-Some.is c.meet_at_vertex.ensures.meet)
