@@ -1,7 +1,7 @@
 #!/usr/bin/env python3
 """Counts how often the built program reads each file that it is given: once for what is asked, and once more at most, for the records that
 faults speak of, for the places of refused lines, or for a hint. Refused lines that are both printed with their places and made into a file
-are looked up for each; where they are skipped, files are read again for what is left and for the records of its faults.
+are looked up for each; where they are skipped, files are read again for the records of the faults of what is left, too.
 
 usage: readings.py [PROGRAM]
 
@@ -54,7 +54,7 @@ def most_readings(words):
     is_audit, is_refused = words[0] == "audit", LONG in words
     twice_told = is_audit and is_refused and has_file and has_places
     skips = is_audit and is_refused and "--skip-refused" in words
-    return 2 + twice_told + 2 * (skips and (has_file or has_places))
+    return 2 + twice_told + (skips and (has_file or has_places))
 
 
 def readings(calls, names):

@@ -1,3 +1,3 @@
 -- Lemmas on lists.
 pub mod ListLemmas
-pub mod LeftLemmas
+pub mod LineLemmas

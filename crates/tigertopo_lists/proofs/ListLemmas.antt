@@ -43,9 +43,9 @@ use Rattle.tl_check_verdict.specs.declared.verdict.Report.{Report}
 use Rattle.tl_check_verdict.proofs.OneMap.{weaker}
 use Rattle.tl_list_text.specs.declared.listing.Listing.TheVariants.{Sound, Refused, Faults}
 use Rattle.tl_list_text.specs.Listings.{IsListingOf}
-use Rattle.tl_list.specs.Findings.{AreFindingsOf}
-use Rattle.tigertopo_where.specs.Left.{left_from, left_of, numbers_of}
-use Rattle.tigertopo_lists.specs.declared.left.LeftFaults.{LeftFaults}
+use Rattle.tl_list.specs.Findings.{AreFindingsOf, IsLeft}
+use Rattle.tl_record.specs.Left.{numbers_of}
+use Rattle.tl_list.specs.declared.left.LeftFaults.{LeftFaults}
 use Rattle.tigertopo_lists.specs.declared.skipping.LeftTexts.{LeftTexts}
 use Rattle.tl_list.proofs.Listed.{sound_alone}
 use Rattle.tigertopo_faults.specs.Records.Keeping.{held}
@@ -56,10 +56,10 @@ use Rattle.tigertopo_outcome.specs.Records.{StopsNever}
 use Rattle.tigertopo_outcome.specs.declared.said.Answer.{Answer}
 use Rattle.tigertopo_lists.specs.declared.listed.Listed.{Listed}
 use Rattle.tigertopo_lists.specs.declared.listed.Listed.TheVariants.{Listing, Lines}
-use Rattle.tigertopo_lists.specs.Listed.{Asked, ListAnswers, IsSoundList, IsFaultList, StopsList, StopsAgain, has_places, listed_text, most_of, told_text, featured, may_read_again, reads_again, refused_form, is_skipping, stops_refused}
-use Rattle.tigertopo_lists.specs.Listed.{AreLeft, AreRefused}
+use Rattle.tigertopo_lists.specs.Listed.{Asked, ListAnswers, IsSoundList, IsFaultList, StopsList, StopsAgain, has_places, listed_text, most_of, told_text, featured, reads_again, refused_form, is_skipping, stops_refused}
+use Rattle.tigertopo_lists.specs.Listed.{AreRefused}
 use Rattle.tigertopo_lists.specs.Listed.{refused_text as refused_collection}
-use Rattle.tigertopo_lists.specs.Keeping.{AreFeatures, ArePlaced, ArePrepared, HasLeft, IsLeft, IsLeftPrepared, IsPrepared, IsRefusedList, first_stop, faults_answer}
+use Rattle.tigertopo_lists.specs.Keeping.{AreFeatures, ArePlaced, ArePrepared, IsLeftPrepared, IsPrepared, IsRefusedList, first_stop, faults_answer}
 
 -- ---- what is done with files
 
@@ -92,28 +92,14 @@ module _ {T : Type 0} (w : World) (same : w.after ≡ w.before) (logs : w.knows 
   does_not failed stop why device (Ok t) is = absurd is
   does_not failed stop why device (Err other) is = subst (λ s. Does {T = T} w [] made P S (Err s)) (sym is) (stops_still stop (may_stop failed S stop why) (λ e. device (subst (StopsFor failed) e why)))
 
-or_right : (a b : Bool) → b ≡ true → (a || b) ≡ true
-or_right true b is = refl
-or_right false b is = is
-
-or_left : (a b : Bool) → a ≡ true → (a || b) ≡ true
-or_left true b is = refl
-or_left false b is = absurd (cc is)
-
-pub may_again : (asked : Asked) → reads_again asked.form asked.made ≡ true → may_read_again asked ≡ true
-may_again asked = or_right (is_skipping asked.told) (reads_again asked.form asked.made)
-
-pub may_skip : (asked : Asked) → is_skipping asked.told ≡ true → may_read_again asked ≡ true
-may_skip asked = or_left (is_skipping asked.told) (reads_again asked.form asked.made)
-
 -- files were read again, and that failed
-fails_again : (w : World) (asked : Asked) → FailsAgain w asked.names → may_read_again asked ≡ true → Failed w [] ⊎ StopsAgain w asked Device
+fails_again : (w : World) (asked : Asked) → FailsAgain w asked.names → reads_again asked.form asked.made ≡ true → Failed w [] ⊎ StopsAgain w asked Device
 fails_again w asked (inl (inl missing)) again = inr (again, inl missing)
 fails_again w asked (inl (inr failed)) again = inl (inr failed)
 fails_again w asked (inr endless) again = inr (again, inr endless)
 
 module _ (A : Type 0) {T : Type 0} (w : World) (asked : Asked) (same : w.after ≡ w.before) (P : T → Type 0) where
-  stops_behind : (stop : Stop) → StopsFor ((may_read_again asked ≡ true) × FailsAgain w asked.names) stop → (w.knows ≡ true → LogsAgain {T = A} w.log w.logged (Err stop))
+  stops_behind : (stop : Stop) → StopsFor ((reads_again asked.form asked.made ≡ true) × FailsAgain w asked.names) stop → (w.knows ≡ true → LogsAgain {T = A} w.log w.logged (Err stop))
       → Does {T = T} w [] asked.made P (StopsAgain w asked) (Err stop)
   stops_behind (Record line cause) why logs = absurd why
   stops_behind Memory why logs = stops_still w same logs asked.made P (StopsAgain w asked) Memory tt (λ e. absurd (cc))
@@ -127,7 +113,7 @@ module _ (A : Type 0) {T : Type 0} (w : World) (asked : Asked) (same : w.after �
   }
   stops_behind Budget why logs = absurd why
 
-  pub does_not_read_again : (stop : Stop) → StopsFor ((may_read_again asked ≡ true) × FailsAgain w asked.names) stop → (w.knows ≡ true → LogsAgain {T = A} w.log w.logged (Err stop))
+  pub does_not_read_again : (stop : Stop) → StopsFor ((reads_again asked.form asked.made ≡ true) × FailsAgain w asked.names) stop → (w.knows ≡ true → LogsAgain {T = A} w.log w.logged (Err stop))
       → (r : Result T Stop) → IsErrAnd r (λ told. told ≡ stop) → Does w [] asked.made P (StopsAgain w asked) r
   does_not_read_again stop why logs (Ok t) is = absurd is
   does_not_read_again stop why logs (Err other) is = subst (λ s. Does {T = T} w [] asked.made P (StopsAgain w asked) (Err s)) (sym is) (stops_behind stop why logs)
@@ -210,19 +196,6 @@ made_of w None layout under names list text collection are = ([], (λ asks. absu
 made_of w (Some name) layout under names list text collection are =
     let placed = are refl in
     (placed.0, (λ asks. placed.2, λ made. subst (λ (t : List ℕ). Made w (Some name) (collection t)) placed.1 made))
-
--- what is left without refused lines, by the lines that are listed
-numbers_same : (list : List Refusal) → numbers_of list ≡ map (λ (refusal : ℕ × Cause). refusal.0) (map pair_of list)
-numbers_same [] = refl
-numbers_same (refusal ∷ rest) = ap (λ (numbers : List ℕ). refusal.line ∷ numbers) (numbers_same rest)
-
-left_same : (layout : Layout) (text : List ℕ) (list : List Refusal) → map pair_of list ≡ refusals_of layout text → left_from 0 (numbers_of list) text ≡ left_of layout text
-left_same layout text list is =
-    ap (λ (numbers : List ℕ). left_from 0 numbers text) (numbers_same list ∙ ap (λ (refusals : List (ℕ × Cause)). map (λ (refusal : ℕ × Cause). refusal.0) refusals) is)
-
-if_both : {A : Type 0} (P Q : A → Type 0) (known : Option A) → IfSome known P → IfSome known Q → IfSome known (λ t. P t × Q t)
-if_both P Q None p q = tt
-if_both P Q (Some t) p q = (p, q)
 
 first_is : (layout : Layout) (text : List ℕ) → slice_get (refusals_of layout text) 0 ≡ (records_of layout text).refusal
 first_is layout text = first_of_judged (judgements layout 0 (raw_lines text))
@@ -314,7 +287,7 @@ module _ (options : Options) (known : Option (List ℕ)) (asked : Asked) where
     }
 
     -- or all are answered
-    pub refused_answers : stops_refused asked.told asked.form ≡ false → IsLeft options (is_skipping asked.told) known (numbers_of list.items) None → (prepared : Answer Listed × Vec ℕ Global) → ArePrepared (layout_with options) w.before asked list prepared
+    pub refused_answers : stops_refused asked.told asked.form ≡ false → IsLeft options (is_skipping asked.told) known (Refused list) None → (prepared : Answer Listed × Vec ℕ Global) → ArePrepared (layout_with options) w.before asked list prepared
         → Made w asked.made (refused_collection asked.names prepared.1.items) → ListAnswers w options known asked prepared.0.status (listed_text prepared.0.text)
     refused_answers all nothing prepared so made =
         let drawn = made_of w asked.made (layout_with options) w.before asked.names (featured asked.told list.items) prepared.1.items (refused_collection asked.names) so.features in
@@ -322,8 +295,7 @@ module _ (options : Options) (known : Option (List ℕ)) (asked : Asked) where
           told_all = all;
           list = list;
           are_all = are;
-          alone = λ skipped. IfSome_then known (if_both (λ text. IsListingOf options text (Refused list)) (λ text. HasLeft options (left_from 0 (numbers_of list.items) text) None) known are (nothing skipped)) (λ text both.
-              (both.1.0, subst (λ (left : List ℕ). IsListingOf options left (Refused both.1.0)) (left_same (layout_with options) text list.items both.0.1) both.1.1));
+          alone = nothing;
           features = drawn.0;
           told = so.answer.told;
           refused = told_where drawn.0 so.answer.told drawn.1.0 so.answer.stand so.answer.plain;
@@ -333,7 +305,7 @@ module _ (options : Options) (known : Option (List ℕ)) (asked : Asked) where
         })))
 
     -- or they are skipped
-    pub left_answers : (left : LeftFaults) → IsLeft options (is_skipping asked.told) known (numbers_of list.items) (Some left) → (texts : LeftTexts)
+    pub left_answers : (left : LeftFaults) → IsLeft options (is_skipping asked.told) known (Refused list) (Some left) → (texts : LeftTexts)
         → IsLeftPrepared (layout_with options) w.before asked list.items left texts
         → Made w asked.made (faults_text asked.names texts.spoken.counts.items left.map (held texts.spoken.lines) texts.spoken.places.items (featured asked.told left.faults.items) left.touched texts.features.items)
         → ListAnswers w options known asked 3 texts.text.items
@@ -346,8 +318,7 @@ module _ (options : Options) (known : Option (List ℕ)) (asked : Asked) where
           are_all = are;
           map = left.map;
           left = record { faults = left.faults; touched = left.touched };
-          are = IfSome_then known (if_both (λ text. IsListingOf options text (Refused list)) (λ text. HasLeft options (left_from 0 (numbers_of list.items) text) (Some left)) known are found.1) (λ text both.
-              subst (λ (rest : List ℕ). AreLeft options rest left.map (record { faults = left.faults; touched = left.touched })) (left_same (layout_with options) text list.items both.0.1) both.1);
+          are = found.1;
           spoken = texts.spoken;
           speak = so.speak;
           features = drawn.0;
@@ -421,18 +392,6 @@ stops_from u v after l m q k options known asked same (Record line cause) why = 
 stops_from u v after l m q k options known asked same Memory why = why
 stops_from u v after l m q k options known asked same Device why = (why.0, subst (λ x. SomeUnread x asked.names) same why.1)
 stops_from u v after l m q k options known asked same Budget why = why
-
--- what is answered behind files that were read again
-pub answers_behind : (u v after : Under) (l m q : Log) (k : Bool) (asked : Asked) → v ≡ u → (k ≡ true → m ≡ l) → (options : Options) (known : Option (List ℕ)) (r : Result (Answer Listed) Stop)
-    → Does (record { before = v; after = after; log = m; logged = q; knows = k }) [] asked.made
-    (λ answer. ListAnswers (record { before = v; after = after; log = m; logged = q; knows = k }) options known asked answer.status (listed_text answer.text))
-    (StopsList (record { before = v; after = after; log = m; logged = q; knows = k }) options known asked) r
-    → Does (record { before = u; after = after; log = l; logged = q; knows = k }) [] asked.made
-    (λ answer. ListAnswers (record { before = u; after = after; log = l; logged = q; knows = k }) options known asked answer.status (listed_text answer.text))
-    (StopsList (record { before = u; after = after; log = l; logged = q; knows = k }) options known asked) r
-answers_behind u v after l m q k asked same logs options known r does =
-    does_then {A = Unit {0}} u v after l m q k [] asked.made (λ _. Unit {0}) _ tt (does_nothing (record { before = u; after = v; log = l; logged = m; knows = k }) same logs None _ _ tt tt) _ _ _ r does
-    (λ answer. answers_from u v after l m q k options known asked answer.status _ same) (stops_from u v after l m q k options known asked same)
 
 -- ---- behind what changes nothing
 

@@ -1,5 +1,5 @@
 -- Kept on the way: what is prepared before it is told. No public contract cites this file.
-use Rattle.std.specs.Prelude.{◌≡◌, ℕ, Bool, true, false, is_some, length, List, [], ◌∷◌, ◌++◌, Option, Some, None, IfSome, Vec}
+use Rattle.std.specs.Prelude.{◌≡◌, ℕ, Bool, true, false, is_some, length, List, [], ◌∷◌, ◌++◌, Option, Some, None, Vec}
 use Rattle.std.specs.Global.{Global}
 use Rattle.tl_map_county.specs.TheMap.{MapChain}
 use Rattle.tigertopo_words.specs.declared.budget.Told.{Told}
@@ -22,14 +22,12 @@ use Rattle.tl_record.specs.declared.layout.Layout.{Layout}
 use Rattle.tigertopo_files.specs.Files.{Under}
 use Rattle.tigertopo_where.specs.Hint.Placed.{IsPlaced, TellsPlaces}
 use Rattle.tigertopo_where.specs.declared.hint.form.RefusedForm.TheVariants.{Features}
-use Rattle.tl_record.specs.declared.options.Options.{Options}
-use Rattle.tl_list_text.specs.Listings.{IsListingOf}
-use Rattle.tigertopo_where.specs.Left.{left_from, numbers_of}
-use Rattle.tigertopo_lists.specs.declared.left.LeftFaults.{LeftFaults}
+use Rattle.tl_record.specs.Left.{numbers_of}
+use Rattle.tl_list.specs.declared.left.LeftFaults.{LeftFaults}
 use Rattle.tigertopo_lists.specs.declared.skipping.LeftTexts.{LeftTexts}
 use Rattle.tigertopo_faults.specs.Lines.Again.{AreSpoken}
 use Rattle.tigertopo_faults.specs.Records.SpokenOf.{chains_of}
-use Rattle.tigertopo_lists.specs.Listed.{AreLeft, Asked, featured, has_places, listed_text, most_of, reads_again, refused_form, refusals_text, skipped_text, told_text}
+use Rattle.tigertopo_lists.specs.Listed.{Asked, featured, has_places, listed_text, most_of, reads_again, refused_form, refusals_text, skipped_text, told_text}
 
 -- the line of the first fault, or nothing where all are told
 abbrev pub IsPlain : Told → List MapFault → Option (Vec ℕ Global) → Type 0
@@ -73,16 +71,6 @@ AreFeatures made layout under names refusals text = is_some made ≡ true → Is
 pub record ArePrepared (layout : Layout) (under : Under) (asked : Asked) (list : Vec Refusal Global) (prepared : Answer Listed × Vec ℕ Global) : Type 0 where
   pub answer : IsRefusedList layout under asked.names asked.form (most_of asked.told) list prepared.0
   pub features : AreFeatures asked.made layout under asked.names (featured asked.told list.items) prepared.1.items
-
--- what is listed of a text: faults, or that there are none; or where there is nothing, lines are refused
-abbrev pub HasLeft : Options → List ℕ → Option LeftFaults → Type 0
-HasLeft options text (Some left) = AreLeft options text left.map (record { faults = left.faults; touched = left.touched })
-HasLeft options text None = (rest : Vec Refusal Global) × IsListingOf options text (listing.Refused rest)
-
--- the same of what is left of a text without the lines with these numbers, if these are skipped
-abbrev pub IsLeft : Options → Bool → (known : Option (List ℕ)) → List ℕ → Option LeftFaults → Type 0
-IsLeft options skips known numbers (Some left) = (skips ≡ true) × IfSome known (λ held. HasLeft options (left_from 0 numbers held) (Some left))
-IsLeft options skips known numbers None = skips ≡ true → IfSome known (λ held. HasLeft options (left_from 0 numbers held) None)
 
 -- what is answered of refused lines and of what is left, the records that its faults speak of, and the features of the refused lines that
 -- the file has

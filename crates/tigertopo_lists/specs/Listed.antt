@@ -1,18 +1,18 @@
 -- What is answered where all that is wrong is asked for, or the records that faults speak of, or a file that is made of them.
 --
 -- `w` is what became of files, `known` the text of the records, where it is known, and `asked` what is asked.
-use Rattle.std.specs.Prelude.{◌≡◌, ◌⊎◌, ℕ, Bool, ◌||◌, true, false, List, [], ◌++◌, codes, length, decimal, take, Option, Some, None, IfSome, option_map, is_some, string_bytes, Vec}
+use Rattle.std.specs.Prelude.{◌≡◌, ◌⊎◌, ℕ, Bool, true, false, List, [], ◌++◌, codes, length, decimal, take, Option, Some, None, IfSome, option_map, is_some, string_bytes, Vec}
 use Rattle.std.specs.Global.{Global}
 use Rattle.tl_record.specs.declared.options.Options.{Options}
 use Rattle.tl_record.specs.declared.layout.Layout.{Layout}
 use Rattle.tl_record.specs.declared.refusal.Refusal.{Refusal}
 use Rattle.tl_record.specs.Layout.{layout_with}
+use Rattle.tl_record.specs.Left.{left_of, numbers_of}
 use Rattle.tl_record.specs.Records.{records_of}
 use Rattle.tl_map_county.specs.TheMap.{TheMap, MapChain}
 use Rattle.tigertopo_files.specs.Files.{Under}
 use Rattle.tigertopo_files.specs.World.{World, Made}
 use Rattle.tigertopo_where.specs.Hint.Again.{SomeUnread}
-use Rattle.tigertopo_where.specs.Left.{left_of, numbers_of}
 use Rattle.tigertopo_where.specs.Hint.Telling.{HaveTexts}
 use Rattle.tigertopo_where.specs.Hint.Placed.{places_of}
 use Rattle.tigertopo_where.specs.Hint.Placed.{placed_text as refusals_placed}
@@ -33,7 +33,7 @@ use Rattle.tl_check_verdict.specs.Sound.{IsSoundFor}
 use Rattle.tl_list_text.specs.declared.listing.Listing.TheVariants as listing
 use Rattle.tl_list_text.specs.Listings.{IsListingOf}
 use Rattle.tl_list_text.specs.Texts.{lines, listing_text, printed, count_line}
-use Rattle.tl_list.specs.Findings.{AreFindingsOf}
+use Rattle.tl_list.specs.Findings.{AreFaultsOf, AreFindingsOf, HasBeyond}
 use Rattle.tigertopo_faults.specs.Records.SpokenOf.{chains_of}
 use Rattle.tigertopo_faults.specs.Records.Keeping.{held}
 use Rattle.tigertopo_faults.specs.declared.lines.again.Spoken.{Spoken}
@@ -133,10 +133,6 @@ abbrev pub reads_again : Form → Option (List ℕ) → Bool
 reads_again form None = has_places form
 reads_again form (Some name) = true
 
--- may they be read again: so, or for what is left without refused lines
-abbrev pub may_read_again : Asked → Bool
-may_read_again asked = is_skipping asked.told || reads_again asked.form asked.made
-
 -- the last line where refused lines are skipped, which says how many
 abbrev pub skipped_text : Form → ℕ → List ℕ
 skipped_text form.Lines count = codes "refused lines=" ++ decimal count ++ codes " skipped\n"
@@ -173,7 +169,7 @@ pub record IsFaultList (w : World) (layout : Layout) (asked : Asked) (map : Opti
 
 -- why that isn't: where files are read again, one of them may not be read
 abbrev pub StopsAgain : World → Asked → Stop → Type 0
-StopsAgain w asked Device = (may_read_again asked ≡ true) × SomeUnread w.before asked.names
+StopsAgain w asked Device = (reads_again asked.form asked.made ≡ true) × SomeUnread w.before asked.names
 StopsAgain w asked other = ⊥
 
 -- why nothing is answered: the same, or the first line that is refused, where one fault is asked for as a line
@@ -211,24 +207,18 @@ pub record AreRefused (w : World) (options : Options) (known : Option (List ℕ)
   pub plain : has_places asked.form ≡ false → told ≡ []
 
 -- with the status 3 lines that are refused, where these are no stop; in the file stand the features of them, and no fault. Where they are
--- skipped, that is so only where what is left of the text has refused lines too, as it has beyond the greatest number of a line
+-- skipped, that is so only where one of them is beyond the greatest number of a line
 pub record TellsRefusals (w : World) (options : Options) (known : Option (List ℕ)) (asked : Asked) (status : ℕ) (text : List ℕ) : Type 0 where
   pub told_all : stops_refused asked.told asked.form ≡ false
   pub list : Vec Refusal Global
   pub are_all : IfSome known (λ held. IsListingOf options held (listing.Refused list))
-  pub alone : is_skipping asked.told ≡ true → IfSome known (λ held. (rest : Vec Refusal Global) × IsListingOf options (left_of (layout_with options) held) (listing.Refused rest))
+  pub alone : is_skipping asked.told ≡ true → HasBeyond list.items
   pub features : List (List ℕ)
   pub told : List (List ℕ)
   pub refused : AreRefused w options known asked list.items features told
   pub kept : Made w asked.made (refused_text asked.names (refusals_placed Features (featured asked.told list.items) features))
   pub is : status ≡ 3
   pub lines : text ≡ refusals_text asked.form (most_of asked.told) list.items told
-
--- what is listed of what is left of a text without its refused lines: these faults, or that there are none
-abbrev pub AreLeft : Options → List ℕ → Option TheMap → Faults → Type 0
-AreLeft options text map list =
-    AreFindingsOf options text (record { listing = listing.Faults list.faults list.touched; map = map })
-    ⊎ ((list.faults.items ≡ []) × (list.touched ≡ 0) × ((report : Report) × AreFindingsOf options text (record { listing = listing.Sound report; map = map })))
 
 -- with the status 3 lines that are refused, and where they are skipped, behind them the faults of the records that are left, as faults are
 -- told of records of which none is refused, and how many lines were skipped; in the file stand these faults and the refused lines
@@ -238,7 +228,7 @@ pub record TellsLeft (w : World) (options : Options) (known : Option (List ℕ))
   pub are_all : IfSome known (λ held. IsListingOf options held (listing.Refused list))
   pub map : Option TheMap
   pub left : Faults
-  pub are : IfSome known (λ held. AreLeft options (left_of (layout_with options) held) map left)
+  pub are : IfSome known (λ held. AreFaultsOf options (left_of (layout_with options) held) map left.faults left.touched)
   pub spoken : Spoken
   pub speak : reads_again asked.form asked.made ≡ true
       → AreSpoken (layout_with options) (numbers_of list.items) w.before asked.names map (featured asked.told left.faults.items) spoken

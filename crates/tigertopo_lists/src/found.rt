@@ -1,26 +1,27 @@
 //! What is found in records.
 
-ghost use Rattle.std.specs.Prelude.{IfSome};
-ghost use Rattle.tl_list.specs.Findings.{AreFindingsOf};
+ghost use Rattle.tl_list.specs.Findings.{IsFoundIn};
 ghost use Rattle.tigertopo_outcome.specs.Records.{StopsNever};
 
 use std::alloc::Global;
 use std::hash::RandomState;
 use tigertopo_outcome::reading::Question;
 use tl_cert_output::Stop;
-use tl_list::{Findings, list_with_map};
+use tl_list::{Found, list_with_map};
 use tl_record::{Options, Source};
 
-/// All that is wrong with records, with their map, where they have one, as a question.
+/// All that is wrong with records, with their map, where they have one, and where refused lines are skipped, with what is left without them,
+/// as a question.
 #[derive(Clone, Copy)]
 pub(crate) struct FindingsIn {
     pub options: Options,
+    pub skips: bool,
 }
 
 impl Question for FindingsIn {
-    type Answer = Findings;
+    type Answer = Found;
 
-    ghost answers = { λ asked known found. IfSome known (λ text. AreFindingsOf asked.options text found) };
+    ghost answers = { λ asked known. IsFoundIn asked.options asked.skips known };
 
     ghost stops = { λ asked known. StopsNever };
 
@@ -29,7 +30,7 @@ impl Question for FindingsIn {
         alloc: Global,
         hasher: RandomState,
         records: &mut R,
-    ) -> Result<Findings, Stop> {
-        list_with_map(alloc, hasher, records, self.options)
+    ) -> Result<Found, Stop> {
+        list_with_map(alloc, hasher, records, self.options, self.skips)
     }
 }

@@ -13,7 +13,6 @@
 
 mod collection;
 mod found;
-mod left;
 mod listed;
 mod listing;
 mod prepared;

@@ -1,15 +1,15 @@
 //! Lists over files: what is found is answered, and the file is made.
 
-ghost use Rattle.std.specs.Prelude.{◌≡◌, [], ℕ, List, Option, None, true, IfOk, IfSome, map as map_list, option_map, string_bytes};
+ghost use Rattle.std.specs.Prelude.{◌≡◌, [], ℕ, List, Option, None, true, IfOk, map as map_list, option_map, string_bytes};
 ghost use Rattle.tl_record.specs.declared.options.Options.{Options};
 ghost use Rattle.tl_record.specs.Layout.{layout_with};
-ghost use Rattle.tl_list.specs.Findings.{AreFindingsOf};
+ghost use Rattle.tl_list.specs.Findings.{IsFoundIn};
 ghost use Rattle.tigertopo_files.specs.World.{Does, MayMake, world};
 ghost use Rattle.tigertopo_files.specs.declared.beginning.FileKind.TheVariants.{Collection};
 ghost use Rattle.tigertopo_files.specs.Reading.{text_under};
 ghost use Rattle.tigertopo_outcome.specs.Records.{StopsNever};
 ghost use Rattle.tigertopo_lists.specs.Listed.{ListAnswers, IsSoundList, IsFaultList, StopsList, StopsAgain, has_places, listed_text, most_of};
-ghost use Rattle.tigertopo_lists.specs.Listed.{reads_again, report_text, wanted_of};
+ghost use Rattle.tigertopo_lists.specs.Listed.{is_skipping, reads_again, report_text, wanted_of};
 ghost use Rattle.tigertopo_lists.specs.Keeping.{faults_answer};
 
 use crate::collection::{make_collection, make_without_faults};
@@ -28,7 +28,7 @@ use tigertopo_outcome::stop::{DONE, MAP_FAULT};
 use tigertopo_words::{Form, Told};
 use tl_cert_output::Stop;
 use tl_check_verdict::{MapFault, Report};
-use tl_list::Findings;
+use tl_list::{Findings, Found};
 use tl_list_text::Listing;
 use tl_map_county::Map;
 use tl_record::Options;
@@ -59,27 +59,29 @@ pub fn list<F: FileSystem>(
         Does w asked.names asked.made (λ answer. ListAnswers w options known asked answer.status (listed_text answer.text))
         (StopsList w options known asked) result }
 {
-    let again = is_skipping(wanted.told) || reads_again(wanted.form, wanted.made);
-    let found = find_all(files, alloc, hasher, options, names, again)?;
+    let skips = is_skipping(wanted.told);
+    let again = reads_again(wanted.form, wanted.made);
+    let found = find_all(files, alloc, hasher, options, names, skips, again)?;
     tell_found(files, alloc, hasher, options, names, wanted, found)
 }
 
-// All that is wrong with the records of the files of these names. Where they are to be read again, what is read of those that can be
-// read but once is kept.
+// All that is wrong with the records of the files of these names, and where refused lines are skipped, with what is left without them. Where
+// they are to be read again, what is read of those that can be read but once is kept.
 fn find_all<F: FileSystem>(
     files: &mut F,
     alloc: Global,
     hasher: RandomState,
     options: Options,
     names: &[String],
+    skips: bool,
     again: bool,
-) -> Result<Findings, Stop>
+) -> Result<Found, Stop>
     ensures { let known = text_under (F.under files.old) (map_list string_bytes names.now) in
         Does (world F.under F.log F.knows files.old files.new) (map_list string_bytes names.now) None
-        (λ found. IfSome known (λ text. AreFindingsOf options text found)) StopsNever result }
+        (IsFoundIn options skips known) StopsNever result }
 {
     keep_where(files, again);
-    over_records(files, alloc, hasher, names, &FindingsIn { options })
+    over_records(files, alloc, hasher, names, &FindingsIn { options, skips })
 }
 
 // What is read of files that can be read but once is kept, where the files are to be read again.
@@ -100,21 +102,21 @@ fn tell_found<F: FileSystem>(
     options: Options,
     names: &[String],
     wanted: Wanted<'_>,
-    found: Findings,
+    found: Found,
 ) -> Result<Answer<Listed>, Stop>
     requires { MayMake (F.under files.old) (option_map string_bytes wanted.made.now) (map_list string_bytes names.now) Collection }
-    ensures { (known : Option (List ℕ)) → known ≡ text_under (F.under files.old) (map_list string_bytes names.now)
-        → IfSome known (λ text. AreFindingsOf options text found) →
+    ensures { (known : Option (List ℕ)) → IsFoundIn options (is_skipping wanted.told) known found →
         let w = world F.under F.log F.knows files.old files.new in
         let asked = wanted_of (map_list string_bytes names.now) wanted.entry in
         Does w [] asked.made (λ answer. ListAnswers w options known asked answer.status (listed_text answer.text))
         (StopsList w options known asked) result }
 {
-    let Findings { listing, map } = found;
+    let Found { whole, left } = found;
+    let Findings { listing, map } = whole;
     match listing {
         Listing::Sound(report) => tell_sound(files, alloc, hasher, names, wanted, report),
         Listing::Refused(list) => {
-            tell_refused(files, alloc, hasher, options, names, wanted, list)
+            tell_refused(files, alloc, hasher, options, names, wanted, list, left)
         }
         Listing::Faults { faults, touched } => tell_faults(
             files, alloc, hasher, options, names, wanted, map, faults, touched,

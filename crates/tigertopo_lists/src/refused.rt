@@ -8,15 +8,13 @@ ghost use Rattle.tl_list_text.specs.declared.listing.Listing.TheVariants.{Refuse
 ghost use Rattle.tigertopo_files.specs.Log.{LogsAgain};
 ghost use Rattle.tigertopo_where.specs.Hint.Again.{FailsAgain};
 ghost use Rattle.tigertopo_files.specs.World.{Does, MayMake, world};
-ghost use Rattle.tigertopo_files.specs.Reading.{text_under};
-ghost use Rattle.tigertopo_where.specs.Left.{numbers_of};
 ghost use Rattle.tigertopo_files.specs.declared.beginning.FileKind.TheVariants.{Collection};
+ghost use Rattle.tl_list.specs.Findings.{IsLeft};
 ghost use Rattle.tigertopo_lists.specs.Listed.{ListAnswers, StopsList, has_places, listed_text};
 ghost use Rattle.tigertopo_lists.specs.Listed.{is_skipping, reads_again, refusals_last, refused_form, stops_refused, wanted_of};
-ghost use Rattle.tigertopo_lists.specs.Keeping.{AreFeatures, ArePlaced, ArePrepared, IsLeft, IsRefusedList, first_stop};
+ghost use Rattle.tigertopo_lists.specs.Keeping.{AreFeatures, ArePlaced, ArePrepared, IsRefusedList, first_stop};
 
 use crate::collection::make_without_faults;
-use crate::left::find_left;
 use crate::listed::Listed;
 use crate::listing::{Wanted, has_places, most_of};
 use crate::skipping::tell_left;
@@ -31,12 +29,13 @@ use tigertopo_outcome::stop::REFUSED;
 use tigertopo_where::hint::{RefusedForm, place_refusals};
 use tigertopo_words::{Form, Told};
 use tl_cert_output::Stop;
+use tl_list::LeftFaults;
 use tl_list_text::{LINE_ROOM, Listing, first_of, text_of_end};
 use tl_record::{Options, Refusal};
 
 /// Answers lines that are refused: all, or so many from the front, with where they stand if the form has that, and makes the file that is
 /// wanted; or where one fault is asked for as a line, the first as a stop. Where they are skipped, the faults of what is left stand behind
-/// them.
+/// them, if there is something.
 pub(crate) fn tell_refused<F: FileSystem>(
     files: &mut F,
     alloc: Global,
@@ -45,10 +44,11 @@ pub(crate) fn tell_refused<F: FileSystem>(
     names: &[String],
     wanted: Wanted<'_>,
     list: Vec<Refusal>,
+    left: Option<LeftFaults>,
 ) -> Result<Answer<Listed>, Stop>
     requires { MayMake (F.under files.old) (option_map string_bytes wanted.made.now) (map_list string_bytes names.now) Collection }
-    ensures { (known : Option (List ℕ)) → known ≡ text_under (F.under files.old) (map_list string_bytes names.now)
-        → IfSome known (λ text. IsListingOf options text (RefusedLines list)) →
+    ensures { (known : Option (List ℕ)) → IfSome known (λ text. IsListingOf options text (RefusedLines list))
+        → IsLeft options (is_skipping wanted.told) known (RefusedLines list) left →
         let w = world F.under F.log F.knows files.old files.new in
         let asked = wanted_of (map_list string_bytes names.now) wanted.entry in
         Does w [] asked.made (λ answer. ListAnswers w options known asked answer.status (listed_text answer.text))
@@ -57,10 +57,7 @@ pub(crate) fn tell_refused<F: FileSystem>(
     if stops_refused(wanted.told, wanted.form) {
         return Err(first_stop(list.as_slice()));
     }
-    let skipped = is_skipping(wanted.told);
-    let passed = list.as_slice();
-    let found = find_left(files, alloc, hasher, options, names, skipped, passed)?;
-    match found {
+    match left {
         Some(left) => tell_left(files, alloc, hasher, options, names, wanted, list, &left),
         None => tell_refusals(files, alloc, hasher, options, names, wanted, list),
     }
@@ -80,7 +77,7 @@ fn tell_refusals<F: FileSystem>(
     ensures { let w = world F.under F.log F.knows files.old files.new in
         let asked = wanted_of (map_list string_bytes names.now) wanted.entry in
         (known : Option (List ℕ)) → stops_refused asked.told asked.form ≡ false → IfSome known (λ text. IsListingOf options text (RefusedLines list))
-        → IsLeft options (is_skipping asked.told) known (numbers_of list.items) None
+        → IsLeft options (is_skipping asked.told) known (RefusedLines list) None
         → Does w [] asked.made (λ answer. ListAnswers w options known asked answer.status (listed_text answer.text))
         (StopsList w options known asked) result }
 {

@@ -10,12 +10,11 @@ ghost use Rattle.tigertopo_files.specs.Log.{LogsAgain};
 ghost use Rattle.tigertopo_files.specs.World.{Does, MayMake, world};
 ghost use Rattle.tigertopo_files.specs.declared.beginning.FileKind.TheVariants.{Collection};
 ghost use Rattle.tigertopo_where.specs.Hint.Again.{FailsAgain};
-ghost use Rattle.tigertopo_where.specs.Left.{numbers_of};
+ghost use Rattle.tl_list.specs.Findings.{IsLeft};
 ghost use Rattle.tigertopo_lists.specs.Listed.{ListAnswers, StopsList, is_skipping, listed_text, reads_again, skipped_text, wanted_of};
-ghost use Rattle.tigertopo_lists.specs.Keeping.{IsLeft, IsLeftPrepared};
+ghost use Rattle.tigertopo_lists.specs.Keeping.{IsLeftPrepared};
 
 use crate::collection::make_collection;
-use crate::left::LeftFaults;
 use crate::listed::Listed;
 use crate::listing::{Wanted, reads_again};
 use crate::prepared::whole_text;
@@ -32,6 +31,7 @@ use tigertopo_outcome::stop::REFUSED;
 use tigertopo_text::with_printed;
 use tigertopo_words::Form;
 use tl_cert_output::Stop;
+use tl_list::LeftFaults;
 use tl_list_text::{LINE_ROOM, push_number};
 use tl_record::{Options, Refusal};
 
@@ -51,7 +51,7 @@ pub(crate) fn tell_left<F: FileSystem>(
     ensures { let w = world F.under F.log F.knows files.old files.new in
         let asked = wanted_of (map_list string_bytes names.now) wanted.entry in
         (known : Option (List ℕ)) → IfSome known (λ text. IsListingOf options text (RefusedLines list))
-        → IsLeft options (is_skipping asked.told) known (numbers_of list.items) (Some left.now)
+        → IsLeft options (is_skipping asked.told) known (RefusedLines list) (Some left.now)
         → Does w [] asked.made (λ answer. ListAnswers w options known asked answer.status (listed_text answer.text))
         (StopsList w options known asked) result }
 {

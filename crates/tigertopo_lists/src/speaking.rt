@@ -6,7 +6,7 @@ ghost use Rattle.tl_cert_output.specs.Stops.{StopsFor};
 ghost use Rattle.tigertopo_files.specs.Log.{LogsAgain};
 ghost use Rattle.tigertopo_files.specs.World.{world};
 ghost use Rattle.tigertopo_where.specs.Hint.Again.{FailsAgain};
-ghost use Rattle.tigertopo_where.specs.Left.{numbers_of};
+ghost use Rattle.tl_record.specs.Left.{numbers_of};
 ghost use Rattle.tigertopo_faults.specs.Lines.Again.{AreSpoken};
 ghost use Rattle.tigertopo_lists.specs.Listed.{featured};
 

@@ -6,4 +6,3 @@ pub mod DegreeLemmas
 pub mod LocationLemmas
 pub mod HintLemmas
 pub mod PlacedLemmas
-pub mod LeftLemmas

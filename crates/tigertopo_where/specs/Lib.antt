@@ -5,5 +5,3 @@ pub mod Finding
 pub mod FieldColumns
 pub mod Degrees
 pub mod Hint
-pub mod Left
-pub mod Passing

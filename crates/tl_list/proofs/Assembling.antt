@@ -1,18 +1,21 @@
 -- What is told of a text, put together of what is told of its lines, its records and their map.
-use Rattle.std.proofs.Common.{◌≡◌, ◌≢◌, ℕ, inl, inr, List, [], map, Option, Some, None, Result, Ok, Err, sym, ap, ◌∙◌, Bool}
+use Rattle.std.proofs.Common.{◌≡◌, ◌≢◌, ℕ, inl, inr, List, [], ◌∷◌, ◌++◌, map, Option, Some, None, Result, Ok, Err, refl, sym, ap, ◌∙◌, subst, arith, Bool, true, false, length, Vec, Global}
 use Rattle.std.specs.Prelude.{IfOk, IfSome, slice_get}
+use Rattle.std.proofs.lemmas.Option.{IfSome_then}
 use Rattle.std.specs.Option.{option_map}
 use Rattle.tl_record.specs.declared.record.Record.{Record}
 use Rattle.tl_record.specs.declared.layout.Layout.{Layout}
 use Rattle.tl_record.specs.declared.options.Options.{Options}
 use Rattle.tl_record.specs.Layout.{layout_with}
 use Rattle.tl_record.specs.declared.stop.Cause.{Cause}
-use Rattle.tl_record.specs.Records.{Records, lines_read, records_of, judgements}
+use Rattle.tl_record.specs.declared.refusal.Refusal.{Refusal}
+use Rattle.tl_record.specs.Left.{left_from, left_of}
+use Rattle.tl_record.specs.Records.{Records, lines_read, records_of, judgements, joined_where}
 use Rattle.tl_record.specs.Lines.{raw_lines}
-use Rattle.tl_record.specs.Reader.{KeepsRefusals}
 use Rattle.tl_record.specs.Refusals.{refusals_of}
 use Rattle.tl_record.specs.Searching.{pair_of}
 use Rattle.tl_record.proofs.RefusalLemmas.{first_refusal}
+use Rattle.tl_list_records.specs.Refusals.Listing.{ListsAll}
 use Rattle.tl_map_rules.specs.declared.fault.RecordFault.{RecordFault}
 use Rattle.tl_map_rules.specs.Reading.{IsReadFrom}
 use Rattle.tl_map_county.specs.TheMap.{TheMap}
@@ -29,11 +32,12 @@ use Rattle.tl_list_text.specs.declared.listing.Listing.TheVariants.{Sound, Refus
 use Rattle.tl_cert_output.specs.declared.stop.Stop.{Stop}
 use Rattle.tl_list.specs.declared.reading.BothKept.{BothKept}
 use Rattle.tl_list_text.specs.Listings.{IsListingOf}
-use Rattle.tl_list.specs.Keeping.Reading.{Keeps, AreWhole, KeepsAll}
+use Rattle.tl_list.specs.Keeping.Reading.{Keeps, AreWhole, KeepsAll, IsStopped}
 use Rattle.tl_list.specs.Keeping.OfMap.{IsListingFor}
 use Rattle.tl_list.specs.declared.of_records.Findings.{Findings}
-use Rattle.tl_list.specs.Findings.{AreFindingsOf}
-use Rattle.tl_list.specs.Keeping.OfRecords.{IsListingOfRecords, AreFindingsOfRecords, IsListOf, AreTold, ListsRefusals}
+use Rattle.tl_list.specs.declared.left.LeftFaults.{LeftFaults}
+use Rattle.tl_list.specs.Findings.{AreFindingsOf, AreFaultsOf, IsLeft, IsFoundIn}
+use Rattle.tl_list.specs.Keeping.OfRecords.{IsListingOfRecords, AreFindingsOfRecords, IsListOf, AreTold, AreRead, AreLeftOf}
 use Rattle.tl_map_rules.specs.Faults.{IsTrueOf}
 use Rattle.tl_list.proofs.Emptiness.{map_empty, none_held}
 
@@ -97,61 +101,114 @@ of_text options text (Faults faults touched) told = told
 pub first_is : (layout : Layout) (text : List ℕ) → slice_get (refusals_of layout text) 0 ≡ (records_of layout text).refusal
 first_is layout text = first_refusal (judgements layout 0 (raw_lines text))
 
-none_refused : (options : Options) (text : List ℕ) (line : ℕ) (cause : Cause) → (records_of (layout_with options) text).refusal ≡ Some (line, cause)
-    → refusals_of (layout_with options) text ≢ []
-none_refused options text line cause refused none =
-    let unrefused : (records_of (layout_with options) text).refusal ≡ None = sym (first_is (layout_with options) text) ∙ ap (λ (rs : List (ℕ × Cause)). slice_get rs 0) none in
-    absurd cc
+pub none_held_in : {X : Type 0} (xs : List X) → length xs ≡ 0 → xs ≡ []
+none_held_in [] none = refl
+none_held_in (x ∷ xs) none = absurd (omega (arith, none))
 
--- and so are lines that are refused
-pub refused_text : (options : Options) (text : List ℕ) (line : ℕ) (cause : Cause) (listing : Listing) → (records_of (layout_with options) text).refusal ≡ Some
-    (line, cause)
-    → ListsRefusals listing (refusals_of (layout_with options) text) → IsListingOf options text listing
-refused_text options text line cause (Sound report) refused told = absurd told
-refused_text options text line cause (Refused list) refused told =
-    ((λ none. none_refused options text line cause refused (sym told ∙ ap (map pair_of) none)), told)
-refused_text options text line cause (Faults faults touched) refused told = absurd told
+no_first : (rs : List (ℕ × Cause)) → slice_get rs 0 ≡ None → rs ≡ []
+no_first [] none = refl
+no_first (r ∷ rs) none = absurd (let wrong = none in cc)
 
 listed_text : (options : Options) (text : List ℕ) (listed : Findings) → AreFindingsOfRecords options.faces (records_of (layout_with options) text) listed → AreFindingsOf options text listed
 listed_text options text listed all = record { told = of_text options text listed.listing all.told; drawn = all.drawn }
 
 -- where a line is refused there is no map
-listed_refusals : (options : Options) (text : List ℕ) (line : ℕ) (cause : Cause) (listed : Findings) → (records_of (layout_with options) text).refusal ≡ Some (line, cause)
-    → ListsRefusals listed.listing (refusals_of (layout_with options) text) → listed.map ≡ None → AreFindingsOf options text listed
-listed_refusals options text line cause listed refused told undrawn = record {
-  told = refused_text options text line cause listed.listing refused told;
-  drawn = rw undrawn (λ have. let unrefused : (records_of (layout_with options) text).refusal ≡ None = have.is_read.no_refusal in absurd cc);
+listed_refusals : (options : Options) (text : List ℕ) (refused : Vec Refusal Global) → refused.items ≢ [] → ListsAll (refusals_of (layout_with options) text) refused.items
+    → AreFindingsOf options text (record { listing = Refused refused; map = None })
+listed_refusals options text refused some told = record {
+  told = (some, told);
+  drawn = λ have. some (map_empty pair_of refused.items (told ∙ no_first (refusals_of (layout_with options) text) (first_is (layout_with options) text ∙ have.is_read.no_refusal)));
 }
 
 -- ---- of bytes that may be known
 
-module _ (options : Options) (known : Option (List ℕ)) where
-  pub kept_told : (at_first : Option Records) (skipped : ℕ) (both : BothKept) (result : Result Findings Stop) → at_first ≡ option_map
-      (records_of (layout_with options)) known → KeepsAll at_first skipped both
-      → ((all : Records) (rs : List Record) → AreWhole all skipped rs → Keeps rs both → IfOk result (AreFindingsOfRecords options.faces all))
-      → IfOk result (λ listed. IfSome known (λ text. AreFindingsOf options text listed))
-  kept_told at_first skipped both (Err stop) is keeps told = tt
-  kept_told at_first skipped both (Ok listed) is keeps told = go known is
-    where
-      go : (bytes : Option (List ℕ)) → at_first ≡ option_map (records_of (layout_with options)) bytes → IfSome bytes (λ text. AreFindingsOf options text listed)
-      go None e = tt
-      go (Some text) e = listed_text options text listed (told (records_of (layout_with options) text) keeps.records (let known = keeps.known in rw e at known) keeps.keeps)
+known_as : {A B : Type 0} (f : A → B) (P : B → Type 0) (known : Option A) (all : Option B) → all ≡ option_map f known → IfSome all P → IfSome known (λ x. P (f x))
+known_as f P None all is holds = tt
+known_as f P (Some x) all is holds = rw is at holds
 
-  pub refused_told : (at_first : Option Records) (refusals now : Option (List (ℕ × Cause))) (line : ℕ) (cause : Cause)
-      (result : Result Findings Stop) → at_first ≡ option_map (lines_read (layout_with options)) known
-      → refusals ≡ option_map (refusals_of (layout_with options)) known → IfSome at_first (λ all. all.refusal ≡ Some (line, cause))
-      → KeepsRefusals refusals now → IfOk result (λ listed. IfSome now (ListsRefusals listed.listing) × (listed.map ≡ None))
-      → IfOk result (λ listed. IfSome known (λ text. AreFindingsOf options text listed))
-  refused_told at_first refusals now line cause (Err stop) is are refused keeps told = tt
-  refused_told at_first refusals now line cause (Ok listed) is are refused keeps told = go known is are
+pub left_text : (options : Options) (known : Option (List ℕ)) (came : Option Records)
+    → came ≡ option_map (λ text. lines_read (layout_with options) (left_of (layout_with options) text)) known
+    → option_map (joined_where options.join) came ≡ option_map (λ text. records_of (layout_with options) (left_of (layout_with options) text)) known
+left_text options None came is = rw is refl
+left_text options (Some text) came is = rw is refl
+
+module _ (options : Options) (skips : Bool) (known : Option (List ℕ)) where
+  -- what is listed of records that are kept
+  pub kept_told : (came : Option Records) (skipped : ℕ) (both : BothKept) (listed : Findings)
+      → came ≡ option_map (λ text. records_of (layout_with options) (left_of (layout_with options) text)) known → KeepsAll came skipped both
+      → ((all : Records) (rs : List Record) → AreWhole all skipped rs → Keeps rs both → AreFindingsOfRecords options.faces all listed)
+      → IfSome known (λ text. AreFindingsOfRecords options.faces (records_of (layout_with options) (left_of (layout_with options) text)) listed)
+  kept_told came skipped both listed is keeps told =
+      known_as (λ text. records_of (layout_with options) (left_of (layout_with options) text)) (λ all. AreFindingsOfRecords options.faces all listed) known came is
+      (IfSome_then came keeps.known (λ all whole. told all keeps.records whole keeps.keeps))
+
+  pub told_of_some : (came : Option Records) (skipped : ℕ) (both : BothKept) (listed : Findings) → KeepsAll came skipped both
+      → ((all : Records) (rs : List Record) → AreWhole all skipped rs → Keeps rs both → AreFindingsOfRecords options.faces all listed)
+      → (all : Records) × AreFindingsOfRecords options.faces all listed
+  told_of_some came skipped both listed keeps told =
+      let all : Records = record { entries = map (λ (r : Record). (0, r)) keeps.records; refusal = None; skipped = skipped } in
+      (all, told all keeps.records (record { records_are = numbered keeps.records; no_refusal = refl; skipped_lines = refl }) keeps.keeps)
     where
-      go : (bytes : Option (List ℕ)) → at_first ≡ option_map (lines_read (layout_with options)) bytes → refusals ≡ option_map (refusals_of (layout_with options)) bytes
+      numbered : (rs : List Record) → map (λ (entry : ℕ × Record). entry.1) (map (λ (r : Record). (0, r)) rs) ≡ rs
+      numbered [] = refl
+      numbered (r ∷ rs) = ap (λ (rest : List Record). r ∷ rest) (numbered rs)
+
+  pub refused_told : (refusals : Option (List (ℕ × Cause))) (refused : List Refusal) → refusals ≡ option_map (refusals_of (layout_with options)) known
+      → IfSome refusals (λ rs. ListsAll rs refused) → IfSome known (λ text. ListsAll (refusals_of (layout_with options) text) refused)
+  refused_told refusals refused is lists = known_as (refusals_of (layout_with options)) (λ rs. ListsAll rs refused) known refusals is lists
+
+  -- lines are refused, and nothing is listed of what is left
+  pub found_refused : (refusals : Option (List (ℕ × Cause))) (refused : Vec Refusal Global) → refusals ≡ option_map (refusals_of (layout_with options)) known
+      → IsStopped skips refusals refused.items → IsFoundIn options skips known (record { whole = record { listing = Refused refused; map = None }; left = None })
+  found_refused refusals refused is stops = record {
+    whole = IfSome_then known (refused_told refusals refused.items is stops.all) (λ text lists. listed_refusals options text refused stops.some lists);
+    left = stops.beyond;
+  }
+
+  no_left : (listed : Findings) → (all : Records) → AreFindingsOfRecords options.faces all listed → IsLeft options skips known listed.listing None
+  no_left listed all are = go listed.listing are.told
+    where
+      go : (listing : Listing) → IsListingOfRecords options.faces all listing → IsLeft options skips known listing None
+      go (Sound report) told = refl
+      go (Refused list) told = absurd told
+      go (Faults faults touched) told = refl
+
+  -- no line is refused
+  pub found_whole : (refused : List Refusal) (listed : Findings) → AreRead options skips known refused listed → refused ≡ []
+      → IsFoundIn options skips known (record { whole = listed; left = None })
+  found_whole refused listed read none = record { whole = go known read.all read.told; left = no_left listed read.of_some.0 read.of_some.1 }
+    where
+      go : (bytes : Option (List ℕ)) → IfSome bytes (λ text. ListsAll (refusals_of (layout_with options) text) refused)
+          → IfSome bytes (λ text. AreFindingsOfRecords options.faces (records_of (layout_with options) (left_of (layout_with options) text)) listed)
           → IfSome bytes (λ text. AreFindingsOf options text listed)
-      go None e f = tt
-      go (Some text) e f =
-          let kept : now ≡ Some (refusals_of (layout_with options) text) = rw f at keeps in
-          let are_told = told.0 in
-          listed_refusals options text line cause listed (rw e at refused) (rw kept at are_told) told.1
+      go None lists are = tt
+      go (Some text) lists are =
+          let no_refusal : refusals_of (layout_with options) text ≡ [] = sym lists ∙ ap (map pair_of) none in
+          let same : left_of (layout_with options) text ≡ text = ap (λ (rs : List (ℕ × Cause)). left_from 0 (map (λ (r : ℕ × Cause). r.0) rs) text) no_refusal in
+          listed_text options text listed (subst (λ (t : List ℕ). AreFindingsOfRecords options.faces (records_of (layout_with options) t) listed) same are)
+
+  -- lines are refused, and this is left
+  pub found_left : (refused : Vec Refusal Global) (listed : Findings) (left : Option LeftFaults) → AreRead options skips known refused.items listed → refused.items ≢ []
+      → ((faces : Bool) (all : Records) → AreFindingsOfRecords faces all listed → AreLeftOf faces all left)
+      → IsFoundIn options skips known (record { whole = record { listing = Refused refused; map = None }; left = left })
+  found_left refused listed left read some are_left = record {
+    whole = IfSome_then known read.all (λ text lists. listed_refusals options text refused some lists);
+    left = go left known (IfSome_then known read.told (λ text are. are_left options.faces (records_of (layout_with options) (left_of (layout_with options) text)) are))
+        (are_left options.faces read.of_some.0 read.of_some.1);
+  }
+    where
+      skipping : (s : Bool) → skips ≡ s → s ≡ true
+      skipping true is = refl
+      skipping false is = absurd (some (read.none is))
+
+      as_text : (text : List ℕ) (left : LeftFaults) → AreLeftOf options.faces (records_of (layout_with options) text) (Some left) → AreFaultsOf options text left.map left.faults left.touched
+      as_text text left (inl are) = inl (listed_text options text (record { listing = Faults left.faults left.touched; map = left.map }) are)
+      as_text text left (inr sound) = inr (sound.0, sound.1, (sound.2.0, listed_text options text (record { listing = Sound sound.2.0; map = left.map }) sound.2.1))
+
+      go : (left : Option LeftFaults) (bytes : Option (List ℕ)) → IfSome bytes (λ text. AreLeftOf options.faces (records_of (layout_with options) (left_of (layout_with options) text)) left)
+          → AreLeftOf options.faces read.of_some.0 left → IsLeft options skips bytes (Refused refused) left
+      go (Some left) bytes are some = (skipping skips refl, IfSome_then bytes are (λ text a. as_text (left_of (layout_with options) text) left a))
+      go None bytes are some = absurd some
 
 -- ---- records that have no map
 

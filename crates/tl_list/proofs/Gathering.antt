@@ -1,10 +1,13 @@
 -- What one more answer of a reader adds to the records that are kept.
-use Rattle.std.proofs.Common.{◌≡◌, ℕ, Bool, true, false, List, [], ◌∷◌, ◌++◌, Option, Some, None, refl, ap, ◌∙◌}
-use Rattle.std.specs.Prelude.{Ok, IfSome}
+use Rattle.std.proofs.Common.{◌≡◌, ℕ, Bool, true, false, ◌≤◌, List, [], ◌∷◌, ◌++◌, Option, Some, None, refl, ap, ◌∙◌}
+use Rattle.std.specs.Prelude.{Ok, Err, IfSome}
 use Rattle.tl_record.specs.declared.record.Record.{Record}
 use Rattle.tl_record.specs.declared.stop.Cause.{Cause}
 use Rattle.tl_record.specs.Records.{Records}
-use Rattle.tl_record.specs.Reader.{Gives, KeepsRefusals}
+use Rattle.tl_record.specs.declared.stop.ReadStop.TheVariants.{Refused}
+use Rattle.tl_record.specs.Limits.{most_lines}
+use Rattle.tl_record.specs.Reader.{Gives, KeepsRecords}
+use Rattle.tl_record.specs.Leaving.{GivesLeft}
 use Rattle.tl_map_rules.specs.Reading.{records_in}
 use Rattle.std.specs.Option.{option_map}
 use Rattle.tl_record.specs.Records.{joined_where}
@@ -13,7 +16,7 @@ use Rattle.tl_map_join.proofs.JoinLemmas.{records_joined}
 use Rattle.tl_map.proofs.GatherLemmas.{so_far_first, so_far_more, known_whole}
 use Rattle.tl_list.specs.declared.reading.BothKept.{BothKept}
 use Rattle.tl_list.specs.declared.reading.Taken.{Taken}
-use Rattle.tl_list.specs.Keeping.Reading.{Keeps, Takes, joined_if, TakesSoFar, TakesAll, KeepsAll, AreWhole}
+use Rattle.tl_list.specs.Keeping.Reading.{Keeps, Takes, joined_if, TakesSoFar, IsSoFar, TakesAll, KeepsAll, AreWhole}
 
 pub keeps_none : (joins : Bool) (at_first : Option Records) (taken : Taken) → Takes joins [] taken → TakesSoFar joins at_first at_first taken
 keeps_none joins at_first taken keeps = record { records = []; keeps = keeps; known = so_far_first at_first }
@@ -25,6 +28,29 @@ keeps_more joins at_first now new skipped line r a b gives adds before = record 
   keeps = adds joins before.records before.keeps;
   known = so_far_more at_first now new skipped line r before.records gives before.known;
 }
+
+-- an entry of what is left, or its end
+pub left_gives : (old new : Option Records) (skipped : ℕ) (entry : Option (ℕ × Record)) → GivesLeft old new skipped (Ok entry) → Gives old new skipped (Ok entry)
+left_gives None new skipped entry gives = tt
+left_gives (Some all) new skipped None gives = gives
+left_gives (Some all) new skipped (Some entry) gives = gives
+
+-- a refused line that is passed over takes nothing of what is left
+pub keeps_passed : (joins : Bool) (at_first now mid new : Option Records) (skipped line : ℕ) (cause : Cause) (taken : Taken)
+    → GivesLeft now mid skipped (Err (Refused line cause)) → line ≤ most_lines → KeepsRecords mid new → TakesSoFar joins at_first now taken → TakesSoFar joins at_first new taken
+keeps_passed joins at_first now mid new skipped line cause taken gives few keeps before = record {
+  records = before.records;
+  keeps = before.keeps;
+  known = go at_first before.known;
+}
+  where
+    stays : (now : Option Records) → GivesLeft now mid skipped (Err (Refused line cause)) → (rest : Records) → now ≡ Some rest → new ≡ Some rest
+    stays None gives rest is = absurd (cc)
+    stays (Some all) gives rest is = let kept : new ≡ Some all = rw (gives few) at keeps in kept ∙ is
+
+    go : (first : Option Records) → IsSoFar first now before.records → IsSoFar first new before.records
+    go None known = tt
+    go (Some all) known = (known.0, stays now gives known.0 known.1, known.2, known.3, known.4)
 
 whole : (at_first : Option Records) (rs : List Record) (skipped : ℕ) → IfSome at_first
     (λ all. (records_in all ≡ rs) × (all.refusal ≡ None) × (all.skipped ≡ skipped)) → IfSome at_first (λ all. AreWhole all skipped rs)
@@ -38,15 +64,6 @@ keeps_all joins at_first now new skipped taken gives so_far = record {
   keeps = so_far.keeps;
   known = whole at_first so_far.records skipped (known_whole at_first now new skipped so_far.records gives so_far.known);
 }
-
--- refusals that are kept twice are kept
-pub keeps_refusals : (a b c : Option (List (ℕ × Cause))) → KeepsRefusals a b → KeepsRefusals b c → KeepsRefusals a c
-keeps_refusals None b c one other = tt
-keeps_refusals (Some refusals) b c one other = rw one at other
-
-pub keeps_same : (a : Option (List (ℕ × Cause))) → KeepsRefusals a a
-keeps_same None = tt
-keeps_same (Some refusals) = refl
 
 -- what was taken is kept, joined where that is asked
 pub keeps_taken : (joins : Bool) (came : Option Records) (skipped : ℕ) (taken : Taken) (both : BothKept) → ((joins : Bool) (rs : List Record) → Takes joins rs taken → Keeps (joined_if joins rs) both)

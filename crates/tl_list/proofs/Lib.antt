@@ -6,6 +6,7 @@ mod Told
 mod OfMap
 mod Gathering
 mod Taking
+mod Passing
 mod Assembling
 pub mod Listed
 mod OneOrder

@@ -1,13 +1,23 @@
--- All that is wrong with a county, beside the map of its records.
-use Rattle.std.specs.Prelude.{ℕ, List, Option, Some, None, ⊤}
+-- All that is wrong with a county, beside the map of its records, and with what is left of it without its refused lines.
+use Rattle.std.specs.Prelude.{◌≡◌, ◌⊎◌, ◌<◌, ℕ, Bool, true, List, [], Contains, Option, Some, None, IfSome, Vec, ⊤}
+use Rattle.std.specs.Global.{Global}
 use Rattle.tl_record.specs.declared.options.Options.{Options}
+use Rattle.tl_record.specs.declared.refusal.Refusal.{Refusal}
 use Rattle.tl_record.specs.Layout.{layout_with}
+use Rattle.tl_record.specs.Left.{left_of}
+use Rattle.tl_record.specs.Limits.{most_lines}
 use Rattle.tl_record.specs.Records.{Records, records_of}
 use Rattle.tl_map_rules.specs.Reading.{IsReadFrom}
 use Rattle.tl_map_county.specs.TheMap.{TheMap}
+use Rattle.tl_check_verdict.specs.declared.fault.MapFault.{MapFault}
+use Rattle.tl_check_verdict.specs.declared.verdict.Report.{Report}
 use Rattle.tl_check_verdict.specs.Records.{HaveMap}
+use Rattle.tl_list_text.specs.declared.listing.Listing.{Listing}
+use Rattle.tl_list_text.specs.declared.listing.Listing.TheVariants.{Sound, Refused, Faults}
 use Rattle.tl_list_text.specs.Listings.{IsListingOf}
 use Rattle.tl_list.specs.declared.of_records.Findings.{Findings}
+use Rattle.tl_list.specs.declared.left.Found.{Found}
+use Rattle.tl_list.specs.declared.left.LeftFaults.{LeftFaults}
 
 -- the map is the one that the records have, and there is none where they have none
 abbrev pub IsMapIfAny : Records → Option TheMap → Type 0
@@ -18,3 +28,27 @@ IsMapIfAny all None = ¬ HaveMap all (λ m. ⊤)
 pub record AreFindingsOf (options : Options) (text : List ℕ) (listed : Findings) : Type 0 where
   pub told : IsListingOf options text listed.listing
   pub drawn : IsMapIfAny (records_of (layout_with options) text) listed.map
+
+-- these faults are listed of a text, with its map, or that there are none
+abbrev pub AreFaultsOf : Options → List ℕ → Option TheMap → Vec MapFault Global → ℕ → Type 0
+AreFaultsOf options text map faults touched =
+    AreFindingsOf options text (record { listing = Faults faults touched; map = map })
+    ⊎ ((faults.items ≡ []) × (touched ≡ 0) × ((report : Report) × AreFindingsOf options text (record { listing = Sound report; map = map })))
+
+-- one of these lines is beyond the greatest number of a line: it would be refused if it were empty
+abbrev pub HasBeyond : List Refusal → Type 0
+HasBeyond refused = (refusal : Refusal) × Contains refused refusal × (most_lines < refusal.line)
+
+-- Beside refused lines, where these are skipped, the faults of what is left of the text; or nothing, where one is beyond the greatest number.
+-- Beside anything else, nothing.
+abbrev pub IsLeft : Options → (skips : Bool) → (known : Option (List ℕ)) → Listing → Option LeftFaults → Type 0
+IsLeft options skips known (Sound report) left = left ≡ None
+IsLeft options skips known (Refused list) (Some left) =
+    (skips ≡ true) × IfSome known (λ text. AreFaultsOf options (left_of (layout_with options) text) left.map left.faults left.touched)
+IsLeft options skips known (Refused list) None = skips ≡ true → HasBeyond list.items
+IsLeft options skips known (Faults faults touched) left = left ≡ None
+
+-- what is found in a text that may be known, whose refused lines may be skipped
+pub record IsFoundIn (options : Options) (skips : Bool) (known : Option (List ℕ)) (found : Found) : Type 0 where
+  pub whole : IfSome known (λ text. AreFindingsOf options text found.whole)
+  pub left : IsLeft options skips known found.whole.listing found.left

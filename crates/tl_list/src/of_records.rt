@@ -2,25 +2,23 @@
 
 ghost use Rattle.std.specs.Prelude.{◌≡◌, List, true, None, Some, IfOk, IfErr, IfSome, ⊤};
 ghost use Rattle.tl_record.specs.Records.{Records as AllRecords};
-ghost use Rattle.tl_record.specs.Reader.{source_of, standing_of, refusals_to_come};
-ghost use Rattle.tl_record.specs.Searching.{goes_on};
 ghost use Rattle.tl_record.specs.declared.record.Record.{Record};
 ghost use Rattle.tl_list_records.specs.Kept.{KeepsRecords};
 ghost use Rattle.tl_list_text.specs.Listings.{IsListingOf};
 ghost use Rattle.tl_cert_output.specs.Stops.{StopsFor, TellsDevice};
-ghost use Rattle.tl_list.specs.Findings.{AreFindingsOf};
+ghost use Rattle.tl_list.specs.Findings.{IsFoundIn};
 ghost use Rattle.tl_list.specs.Keeping.Reading.{Keeps, AreWhole};
 ghost use Rattle.tl_list.specs.Keeping.OfMap.{IsListingFor};
-ghost use Rattle.tl_list.specs.Keeping.OfRecords.{AreFindingsOfRecords, AreTold, ListsRefusals};
+ghost use Rattle.tl_list.specs.Keeping.OfRecords.{AreFindingsOfRecords, AreTold};
 
+use crate::left::{Found, found_in};
 use crate::of_map::list_map;
-use crate::reading::{BothKept, read_all};
+use crate::reading::{BothKept, LinesRead, read_all};
 use crate::tell::push_records;
 use std::alloc::Global;
 use std::hash::RandomState;
 use tl_cert_output::Stop;
 use tl_check_verdict::fault_of_records;
-use tl_list_records::refusals::list_refusals;
 use tl_list_records::{KeptRecords, all_record_faults};
 use tl_list_text::Listing;
 use tl_map_county::Map;
@@ -56,49 +54,45 @@ pub fn list_faults<R: Source>(
     // `Device` is answered where a read failed in this call, and nowhere else.
     ensures failures { TellsDevice (R.failure_count records.old) (R.failure_count records.new) result }
 {
-    let Findings { listing, map } = list_with_map(alloc, hasher, records, options)?;
+    let Found { whole, left } = list_with_map(alloc, hasher, records, options, false)?;
+    drop(left);
+    let Findings { listing, map } = whole;
     drop(map);
     Ok(listing)
 }
 
-/// Lists all that is wrong with a county as [`list_faults`] does, and hands out the map of its records, where they have one.
+/// Lists all that is wrong with a county as [`list_faults`] does, and hands out the map of its records, where they have one. Where refused
+/// lines are skipped, it lists also all that is wrong with what is left without them, in the same pass, with the map of that.
 pub fn list_with_map<R: Source>(
     alloc: Global,
     hasher: RandomState,
     records: &mut R,
     options: Options,
-) -> Result<Findings, Stop>
+    skips: bool,
+) -> Result<Found, Stop>
     // The listing is that of `list_faults`, and the map is that of the text's records; there is none exactly where a line is
-    // refused or the records have a fault.
-    ensures listed { IfOk result (λ listed. IfSome (R.remaining records.old)
-        (λ text. AreFindingsOf options text listed)) }
+    // refused or the records have a fault. What is left, where there is something, is listed as a text of its own.
+    ensures found { IfOk result (IsFoundIn options skips (R.remaining records.old)) }
     // It stops where memory was refused, or a read failed.
     ensures stops { IfErr result (StopsFor ⊤) }
     // `Device` is answered where a read failed in this call, and nowhere else.
     ensures failures { TellsDevice (R.failure_count records.old) (R.failure_count records.new) result }
 {
     let mut reader = RecordReader::with(records, options);
-    match read_all(alloc, &mut reader, options.join)? {
-        Some(both) => list_kept(alloc, hasher, both, reader.skipped(), options.faces),
-        None => list_refused(alloc, &mut reader),
+    let LinesRead { refused, kept } = read_all(alloc, &mut reader, options.join, skips)?;
+    match kept {
+        Some(both) => {
+            let listed = list_kept(alloc, hasher, both, reader.skipped(), options.faces)?;
+            Ok(found_in(alloc, refused, listed))
+        }
+        None => Ok(Found {
+            whole: Findings {
+                listing: Listing::Refused(refused),
+                map: None,
+            },
+            left: None,
+        }),
     }
-}
-
-/// All lines that are refused, where a reader stopped at one.
-fn list_refused<R: Source>(alloc: Global, reader: &mut RecordReader<R>) -> Result<Findings, Stop>
-    requires { goes_on (standing_of reader.old) ≡ true }
-    ensures listed { IfOk result (λ listed. IfSome (refusals_to_come R.remaining reader.old)
-        (ListsRefusals listed.listing) × (listed.map ≡ None)) }
-    ensures stops { IfErr result (StopsFor ⊤) }
-    ensures failures { TellsDevice (R.failure_count (source_of reader.old))
-        (R.failure_count (source_of reader.new)) result }
-    ensures same_reference { R.reference (source_of reader.new) ≡ R.reference (source_of reader.old) }
-{
-    let list = list_refusals(alloc, reader)?;
-    Ok(Findings {
-        listing: Listing::Refused(list),
-        map: None,
-    })
 }
 
 /// All faults of records that are kept, so many of whose text's lines were passed over, or all of their map. The map is drawn

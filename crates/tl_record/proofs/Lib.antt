@@ -12,6 +12,8 @@ pub mod RefusalLemmas
 pub mod MoveLemmas
 pub mod ReadOn
 pub mod SearchOn
+pub mod LeftLemmas
+pub mod LeavingLemmas
 pub mod Filled
 pub mod Lanes
 pub mod EightDigits

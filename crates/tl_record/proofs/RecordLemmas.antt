@@ -14,7 +14,7 @@ use Rattle.tl_record.specs.Reader.{with_skipped, with_entry, nothing_after, refu
 use Rattle.tl_record.proofs.LineLemmas.{raw_lines-first}
 
 -- records with equal parts are equal
-same_records : (e f : List (ℕ × Record)) (r s : Option (ℕ × Cause)) (m n : ℕ) → e ≡ f → r ≡ s → m ≡ n
+pub same_records : (e f : List (ℕ × Record)) (r s : Option (ℕ × Cause)) (m n : ℕ) → e ≡ f → r ≡ s → m ≡ n
     → (let left : Records = record { entries = e; refusal = r; skipped = m } in left ≡ record { entries = f; refusal = s; skipped = n })
 same_records e f r s m n p q k = cc
 
@@ -30,7 +30,7 @@ accepted-read n r js = take_while-cons (λ j. not (is_refused j)) (n, Read r) js
 accepted-refused : (n : ℕ) (c : Cause) (js : List (ℕ × Judgement)) → accepted ((n, Refused c) ∷ js) ≡ []
 accepted-refused n c js = take_while-cons (λ j. not (is_refused j)) (n, Refused c) js
 
-count-cons : (j : ℕ × Judgement) (js : List (ℕ × Judgement)) → count_by is_passed_over (j ∷ js) ≡ cond (is_passed_over j) 1 0 + count_by is_passed_over js
+pub count-cons : (j : ℕ × Judgement) (js : List (ℕ × Judgement)) → count_by is_passed_over (j ∷ js) ≡ cond (is_passed_over j) 1 0 + count_by is_passed_over js
 count-cons j js = sum_by-append (λ x. cond (is_passed_over x) 1 0) (j ∷ []) js ∙ ap (λ n. n + count_by is_passed_over js) (omega arith)
 
 -- a line that is passed over adds to their count alone

@@ -14,6 +14,8 @@ pub mod Meaning
 pub mod Joining
 pub mod Records
 pub mod Refusals
+pub mod Left
 pub mod NextLine
 pub mod Reader
+pub mod Leaving
 pub mod Searching

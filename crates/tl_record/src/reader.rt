@@ -24,7 +24,7 @@ use crate::record::{NO_RECORD, Record};
 use crate::refusal::{Refusal, RefusalStop};
 use crate::source::Source;
 use crate::stop::{Cause, ReadStop};
-use crate::take::{Taken, take_line};
+use crate::take::{Taken, skip_line, take_line};
 
 // How many bytes of the text are kept: what is fetched at once.
 pub(crate) const BLOCK: usize = 65_536;
@@ -87,8 +87,11 @@ impl<R: Source> RecordReader<R> {
     ghost use Rattle.tl_record.specs.Reader.{outcome, StepsTo, CountsLine, Moves, Gives, Settles, Repeats, CountsAnswer};
     ghost use Rattle.tl_record.specs.Reader.{answer_with, KeepsUnanswered};
     ghost use Rattle.tl_record.specs.Searching.{extent, extent_of, GivesRefusal, SettlesSearch, RepeatsSearch};
-    ghost use Rattle.tl_record.specs.Searching.{TellsFailed, goes_on, GivesUp, Finds};
+    ghost use Rattle.tl_record.specs.Searching.{TellsFailed, goes_on, GivesUp, Finds, CountsSkip};
     ghost use Rattle.tl_record.specs.Reader.{TellsFailure, FailsWhole, WhereReading, refusals_to_come, KeepsRefusals};
+    ghost use Rattle.tl_record.specs.Left.{left_of};
+    ghost use Rattle.tl_record.specs.Reader.{judged_of};
+    ghost use Rattle.tl_record.specs.Leaving.{left_to_come, Leaves, GivesLeft, StopsBefore, MayPass, is_passable};
 
     /// A reader of the source's records, by the column table of the TIGER/Line files of 2006.
     pub fn new(source: R) -> RecordReader<R>
@@ -99,6 +102,9 @@ impl<R: Source> RecordReader<R> {
         // Where the bytes are known, all lines that are refused are to come as refusals.
         ensures refusals { refusals_to_come R.remaining result
             ≡ option_map (refusals_of tiger_2006) (R.remaining source) }
+        // Where the bytes are known, and refused lines are passed over: the records of what is left are to come.
+        ensures left { left_to_come R.remaining result
+            ≡ option_map (λ text. lines_read tiger_2006 (left_of tiger_2006 text)) (R.remaining source) }
         ensures extent { extent R.remaining result ≡ extent_of 0 (R.remaining source) }
         ensures lines { lines_of result ≡ 0 }
         ensures skipped { skipped_of result ≡ 0 }
@@ -117,6 +123,9 @@ impl<R: Source> RecordReader<R> {
         // Where the bytes are known, all lines that are refused are to come as refusals.
         ensures refusals { refusals_to_come R.remaining result
             ≡ option_map (refusals_of (layout_with options)) (R.remaining source) }
+        // Where the bytes are known, and refused lines are passed over: the records of what is left are to come.
+        ensures left { left_to_come R.remaining result
+            ≡ option_map (λ text. lines_read (layout_with options) (left_of (layout_with options) text)) (R.remaining source) }
         ensures extent { extent R.remaining result ≡ extent_of 0 (R.remaining source) }
         ensures lines { lines_of result ≡ 0 }
         ensures skipped { skipped_of result ≡ 0 }
@@ -221,6 +230,7 @@ impl<R: Source> RecordReader<R> {
     fn read_on(&mut self, place: &mut Record) -> Result<Option<u64>, ReadStop>
         requires { standing_of self.old ≡ Standing.Reading }
         ensures moves { Moves R.remaining R.failure_count self.old self.new (answer_with result place.new) }
+        ensures leaves { Leaves R.remaining self.old self.new (answer_with result place.new) }
         ensures kept { KeepsUnanswered result place.old place.new }
         ensures same_reference { R.reference (source_of self.new) ≡ R.reference (source_of self.old) }
     {
@@ -266,6 +276,14 @@ impl<R: Source> RecordReader<R> {
             (FailsWhole R.remaining self.old self.new (answer_with result place.new)) }
         ensures refusals { KeepsRefusals (refusals_to_come R.remaining self.old)
             (refusals_to_come R.remaining self.new) }
+        // The first entry of what is left without refused lines, or its end; a refused line takes nothing of it.
+        ensures left { GivesLeft (left_to_come R.remaining self.old) (left_to_come R.remaining self.new)
+            (skipped_of self.new) (answer_with result place.new) }
+        // A refusal is the first that was to come, and the others come behind it.
+        ensures stops { WhereReading (standing_of self.old) (StopsBefore R.remaining (refusals_to_come R.remaining self.old)
+            self.new (answer_with result place.new)) }
+        // No line that was accepted is taken back.
+        ensures onward { lines_of self.old ≤ lines_of self.new }
         // Where no record is answered the place stays as it was.
         ensures kept { KeepsUnanswered result place.old place.new }
     {
@@ -273,6 +291,54 @@ impl<R: Source> RecordReader<R> {
             Standing::Reading => self.read_on(place),
             Standing::Ended => Ok(None),
             Standing::Stopped(stop) => Err(stop),
+        }
+    }
+
+    // Whether it stopped at a refused line that it can pass over.
+    fn is_passable(&self) -> bool
+        ensures { result ≡ is_passable (standing_of self.now) (lines_of self.now) (judged_of self.now) }
+    {
+        match self.standing {
+            Standing::Stopped(ReadStop::Refused { .. }) => {
+                self.judged == self.lines && self.lines < MAX_LINES
+            }
+            Standing::Reading | Standing::Ended | Standing::Stopped(ReadStop::Device) => false,
+        }
+    }
+
+    /// Passes over the refused line at which [`RecordReader::read_next`] stopped, as over an empty one: it counts as a line that
+    /// is passed over, of any length, and the reader reads on behind it.
+    ///
+    /// `false` says that it stands at none, or at one that would be refused if it were empty, as one beyond the greatest
+    /// number is, or at one that [`RecordReader::next_refusal`] gave; then nothing changes. A read that fails, an
+    /// interrupted one too, is answered as [`RefusalStop::Device`].
+    pub fn pass_refused(&mut self) -> Result<bool, RefusalStop>
+        // What is left without refused lines is still to come, and so are the refusals behind this one.
+        ensures passes { MayPass R.remaining self.old self.new result }
+        // `Device` is answered where a read failed in this call, and nowhere else.
+        ensures failures { CountsSkip (R.failure_count (source_of self.old)) (R.failure_count (source_of self.new)) result }
+        // Its source is the one that it was.
+        ensures same_reference { R.reference (source_of self.new) ≡ R.reference (source_of self.old) }
+    {
+        if !self.is_passable() {
+            return Ok(false);
+        }
+        match skip_line(&mut self.buffer, &mut self.source) {
+            Ok(()) => {
+                self.lines += 1;
+                self.skipped += 1;
+                self.standing = Standing::Reading;
+                Ok(true)
+            }
+            Err(RefusalStop::Device) => {
+                self.standing = Standing::Stopped(ReadStop::Device);
+                Err(RefusalStop::Device)
+            }
+            Err(RefusalStop::Endless) => {
+                // What is left are bytes of this line, which nothing more may be told of.
+                self.judged = u64::MAX;
+                Err(RefusalStop::Endless)
+            }
         }
     }
 
@@ -301,6 +367,14 @@ impl<R: Source> RecordReader<R> {
         // No line that is refused is lost: the one at which it stops is still to come, and so are those behind it.
         ensures refusals { KeepsRefusals (refusals_to_come R.remaining self.old)
             (refusals_to_come R.remaining self.new) }
+        // The first entry of what is left without refused lines, or its end; a refused line takes nothing of it.
+        ensures left { GivesLeft (left_to_come R.remaining self.old) (left_to_come R.remaining self.new)
+            (skipped_of self.new) result }
+        // A refusal is the first that was to come, and the others come behind it.
+        ensures stops { WhereReading (standing_of self.old) (StopsBefore R.remaining (refusals_to_come R.remaining self.old)
+            self.new result) }
+        // No line that was accepted is taken back.
+        ensures onward { lines_of self.old ≤ lines_of self.new }
     {
         let mut record = NO_RECORD;
         let answer = self.read_next(&mut record);

@@ -3,7 +3,7 @@ use Rattle.std.proofs.Common.{◌≡◌, ◌≢◌, ◌⊎◌, ℕ, zero, suc, �
 use Rattle.std.specs.Prelude.{⊤, is_some, position}
 use Rattle.std.specs.List.{position_or_len}
 use Rattle.std.specs.Option.{option_map_or}
-use Rattle.std.proofs.lemmas.Bool.{cases_Bool, cases_eq, lt-ltb, ltb-true, ltb-false}
+use Rattle.std.proofs.lemmas.Bool.{cases_Bool, cases_eq, eqb-true, eq-eqb, lt-ltb, ltb-true, ltb-false}
 use Rattle.std.proofs.lemmas.Bool.Decides.{nat_tests}
 use Rattle.std.proofs.lemmas.Option.{slice_get-get_or, slice_get_within}
 use Rattle.tl_record.specs.declared.record.Record.{Record}
@@ -19,21 +19,21 @@ use Rattle.tl_record.specs.declared.refusal.RefusalStop.TheVariants.{Device, End
 use Rattle.tl_record.specs.Failures.{one_more}
 use Rattle.tl_record.specs.Searching.{CountsSkip}
 use Rattle.tl_record.specs.Limits.{most_lines, most_line_bytes}
-use Rattle.tl_record.specs.Lines.{raw_lines, first_line, after_first_line, with_first_byte}
+use Rattle.tl_record.specs.Lines.{raw_lines, first_line, after_first_line}
 use Rattle.tl_record.specs.Judgement.{judgement}
 use Rattle.tl_record.specs.Records.{Records, judgements, lines_read, records_judged}
 use Rattle.tl_record.proofs.LineLemmas.{raw_lines-first}
+use Rattle.tl_record.proofs.LeftLemmas.{lines_of_left as raw_left}
 use Rattle.tl_record.proofs.RecordLemmas.{records_passed, records_read, records_refused}
-use Rattle.tigertopo_text.specs.Joining.{closed, joined, leaves_open}
+use Rattle.tigertopo_text.specs.Joining.{joined}
 use Rattle.tigertopo_where.specs.declared.lines.Found.{Found}
 use Rattle.tigertopo_where.specs.declared.lines.Found.TheVariants.{Line, Missing}
 use Rattle.tl_record.specs.declared.refusal.Refusal.{Refusal}
-use Rattle.tigertopo_where.specs.Left.{left_from, numbers_of}
+use Rattle.tl_record.specs.Left.{left_from, numbers_of, lines_left as lines_of_left}
 use Rattle.tigertopo_where.specs.LinePlaces.{line_at, line_count, lines_of_all}
 use Rattle.tigertopo_where.specs.Finding.{Answers, IsFound, Passes, PassesTo, Shows}
 use Rattle.tigertopo_where.proofs.FindingLemmas.{passes_still, stops}
 use Rattle.tigertopo_where.specs.Hint.Again.{HasNoEnd}
-use Rattle.tigertopo_where.proofs.LeftLemmas.{leaves, leaves_feed, leaves_other_feed, passes_over}
 use Rattle.tigertopo_where.proofs.PlaceLemmas.{joined_lines_are}
 use Rattle.tigertopo_where.proofs.PlacedLemmas.{behind_slice}
 use Rattle.tl_map_county.specs.TheMap.{MapChain}
@@ -405,101 +405,25 @@ all_stay : (before : ℕ) (lines : List (List ℕ)) → lines_left before [] lin
 all_stay before [] = refl
 all_stay before (line ∷ rest) = ap (λ l. line ∷ l) (all_stay (before + 1) rest)
 
--- a byte more of the first line, which stays or is passed over
-byte_stays : (before byte : ℕ) (numbers : List ℕ) (lines : List (List ℕ)) → lines ≢ [] → is_passed (Some before) numbers ≡ false
-    → with_first_byte byte (lines_left before numbers lines) ≡ lines_left before numbers (with_first_byte byte lines)
-byte_stays before byte numbers [] some stays = absurd (some refl)
-byte_stays before byte numbers (line ∷ rest) some stays = rw stays refl
-
-byte_passes : (before byte : ℕ) (numbers : List ℕ) (lines : List (List ℕ)) → lines ≢ [] → is_passed (Some before) numbers ≡ true
-    → lines_left before numbers lines ≡ lines_left before numbers (with_first_byte byte lines)
-byte_passes before byte numbers [] some passes = absurd (some refl)
-byte_passes before byte numbers (line ∷ rest) some passes = rw passes refl
-
-some_lines : (text : List ℕ) → text ≢ [] → raw_lines text ≢ []
-some_lines text some none = let first : first_line text ∷ raw_lines (after_first_line text) ≡ [] = sym (raw_lines-first text some) ∙ none in absurd cc
-
--- a text whose last line is closed, with a byte that is no line feed in front
-open_one : (text : List ℕ) → leaves_open true text ≡ false → (text ≢ []) × (leaves_open false text ≡ false)
-open_one [] closed = absurd cc
-open_one (byte ∷ text) closed = (λ none. cc, closed)
-
-raw_feed : (byte : ℕ) (text : List ℕ) → byte ≡ 10 → raw_lines (byte ∷ text) ≡ [] ∷ raw_lines text
-raw_feed byte text feed = subst (λ (b : ℕ). raw_lines (b ∷ text) ≡ [] ∷ raw_lines text) (sym feed) refl
-
-raw_other : (byte : ℕ) (text : List ℕ) → byte ≢ 10 → raw_lines (byte ∷ text) ≡ with_first_byte byte (raw_lines text)
-raw_other byte text other = grind (arith, nat_tests)
-
-open_feed : (byte : ℕ) (text : List ℕ) → byte ≡ 10 → leaves_open false (byte ∷ text) ≡ leaves_open false text
-open_feed byte text feed = subst (λ (b : ℕ). leaves_open false (b ∷ text) ≡ leaves_open false text) (sym feed) refl
-
-open_other : (byte : ℕ) (text : List ℕ) → byte ≢ 10 → leaves_open false (byte ∷ text) ≡ leaves_open true text
-open_other byte text other = grind (arith, nat_tests)
-
 passed_here : (before number : ℕ) (rest : List ℕ) → number ≡ before + 1 → is_passed (Some before) (number ∷ rest) ≡ true
 passed_here before number rest here = grind (arith, nat_tests)
 
 passed_there : (before number : ℕ) (rest : List ℕ) → number ≢ before + 1 → is_passed (Some before) (number ∷ rest) ≡ false
 passed_there before number rest there = grind (arith, nat_tests)
 
-nothing_of : (passes : Bool) → line_left passes [] ≡ []
-nothing_of true = refl
-nothing_of false = refl
-
--- an empty line is empty either way
-empty_first : (before : ℕ) (numbers behind : List ℕ) (lines : List (List ℕ)) → numbers_behind (is_passed (Some before) numbers) numbers ≡ behind
-    → lines_left before numbers ([] ∷ lines) ≡ [] ∷ lines_left (before + 1) behind lines
-empty_first before numbers behind lines is = ap₂ (λ (l : List ℕ) (n : List ℕ). l ∷ lines_left (before + 1) n lines) (nothing_of (is_passed (Some before) numbers)) is
-
-lines_left_are : (text : List ℕ) (before : ℕ) (numbers : List ℕ) → leaves_open false text ≡ false → raw_lines (left_from before numbers text) ≡ lines_left before numbers (raw_lines text)
-lines_left_are text before [] ends = sym (all_stay before (raw_lines text))
-lines_left_are [] before (number ∷ rest) ends = refl
-lines_left_are (byte ∷ text) before (number ∷ rest) ends =
-    elim (cases_eq byte 10) [
-      | inl feed ↦
-          let more = sym (open_feed byte text feed) ∙ ends in
-          let back = ap (lines_left before (number ∷ rest)) (sym (raw_feed byte text feed)) in
-          elim (cases_eq number (before + 1)) [
-            | inl here ↦
-                ap raw_lines (leaves_feed before number rest byte text feed here) ∙ raw_feed byte (left_from (before + 1) rest text) feed
-                ∙ ap (λ l. [] ∷ l) (lines_left_are text (before + 1) rest more)
-                ∙ sym (empty_first before (number ∷ rest) rest (raw_lines text) (ap (λ p. numbers_behind p (number ∷ rest)) (passed_here before number rest here))) ∙ back
-            | inr there ↦
-                ap raw_lines (leaves_other_feed before number rest byte text feed there) ∙ raw_feed byte (left_from (before + 1) (number ∷ rest) text) feed
-                ∙ ap (λ l. [] ∷ l) (lines_left_are text (before + 1) (number ∷ rest) more)
-                ∙ sym (empty_first before (number ∷ rest) (number ∷ rest) (raw_lines text) (ap (λ p. numbers_behind p (number ∷ rest)) (passed_there before number rest there))) ∙ back
-          ]
-      | inr other ↦
-          let some = open_one text (sym (open_other byte text other) ∙ ends) in
-          let lines = some_lines text some.0 in
-          let more = lines_left_are text before (number ∷ rest) some.1 in
-          let back = ap (lines_left before (number ∷ rest)) (sym (raw_other byte text other)) in
-          elim (cases_eq number (before + 1)) [
-            | inl here ↦
-                ap raw_lines (passes_over before number rest byte text other here) ∙ more
-                ∙ byte_passes before byte (number ∷ rest) (raw_lines text) lines (passed_here before number rest here) ∙ back
-            | inr there ↦
-                ap raw_lines (leaves before number rest byte text other there) ∙ raw_other byte (left_from before (number ∷ rest) text) other ∙ ap (with_first_byte byte) more
-                ∙ byte_stays before byte (number ∷ rest) (raw_lines text) lines (passed_there before number rest there) ∙ back
-          ]
+-- so the lines of what is left are told
+same_lines : (before : ℕ) (numbers : List ℕ) (lines : List (List ℕ)) → lines_of_left before numbers lines ≡ lines_left before numbers lines
+same_lines before [] lines = sym (all_stay before lines)
+same_lines before (number ∷ rest) [] = refl
+same_lines before (number ∷ rest) (line ∷ lines) =
+    elim (cases_Bool (number == before + 1)) [
+      | inl here ↦
+          let told = passed_here before number rest (eqb-true number (before + 1) here) in
+          rw (here, told) (ap (λ (l : List (List ℕ)). [] ∷ l) (same_lines (before + 1) rest lines))
+      | inr there ↦
+          let told = passed_there before number rest (λ same. let wrong = sym there ∙ eq-eqb number (before + 1) same in cc) in
+          rw (there, told) (ap (λ (l : List (List ℕ)). line ∷ l) (same_lines (before + 1) (number ∷ rest) lines))
     ]
-
--- the text of several has its last line closed
-opens_behind : (before : Bool) (front rest : List ℕ) → leaves_open before (front ++ rest) ≡ leaves_open (leaves_open before front) rest
-opens_behind before [] rest = refl
-opens_behind before (byte ∷ front) rest = opens_behind (not (byte == 10)) front rest
-
-closed_one : (text : List ℕ) → leaves_open false (closed false text) ≡ false
-closed_one text =
-    elim (cases_Bool (leaves_open false text)) [
-      | inl opens ↦ opens_behind false text (if leaves_open false text then 10 ∷ [] else []) ∙ rw opens refl
-      | inr ends ↦ opens_behind false text (if leaves_open false text then 10 ∷ [] else []) ∙ rw ends refl
-    ]
-
-joined_ends : (texts : List (List ℕ)) → leaves_open false (joined texts) ≡ false
-joined_ends [] = refl
-joined_ends (text ∷ texts) =
-    opens_behind false (closed false text) (joined texts) ∙ ap (λ before. leaves_open before (joined texts)) (closed_one text) ∙ joined_ends texts
 
 -- nothing is found behind a line that is refused
 nothing_left : (layout : Layout) (numbers : List ℕ) (lines : List (List ℕ)) → entries_left layout None numbers lines ≡ []
@@ -529,7 +453,7 @@ all_left : (layout : Layout) (numbers : List ℕ) (texts : List (List ℕ))
 all_left layout numbers texts =
     entries_of_left layout 0 numbers (lines_of_all texts)
     ∙ ap (λ l. entries_behind layout (Some 0) l)
-    (ap (lines_left 0 numbers) (sym (joined_lines_are texts)) ∙ sym (lines_left_are (joined texts) 0 numbers (joined_ends texts)))
+    (ap (lines_left 0 numbers) (sym (joined_lines_are texts)) ∙ sym (raw_left 0 numbers (joined texts) ∙ same_lines 0 numbers (raw_lines (joined texts))))
 
 -- ---- one file after the other
 

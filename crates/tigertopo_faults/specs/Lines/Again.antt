@@ -7,7 +7,7 @@ use Rattle.tl_map_county.specs.TheMap.{TheMap, MapChain}
 use Rattle.tigertopo_files.specs.Files.{Under}
 use Rattle.tl_check_verdict.specs.declared.fault.MapFault.{MapFault}
 use Rattle.tigertopo_where.specs.LinePlaces.{line_count}
-use Rattle.tigertopo_where.specs.Left.{left_from}
+use Rattle.tl_record.specs.Left.{left_from}
 use Rattle.tigertopo_where.specs.Hint.Telling.{HaveTexts}
 use Rattle.tigertopo_faults.specs.Records.Finding.{HoldsAll}
 use Rattle.tigertopo_faults.specs.Records.SpokenOf.{chains_of}

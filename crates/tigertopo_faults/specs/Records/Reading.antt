@@ -11,7 +11,7 @@ use Rattle.tl_record.specs.Records.{records_of_lines, lines_read}
 use Rattle.tigertopo_text.specs.Joining.{joined}
 use Rattle.tigertopo_where.specs.declared.lines.Found.{Found}
 use Rattle.tigertopo_where.specs.declared.lines.Found.TheVariants.{Line, Missing}
-use Rattle.tigertopo_where.specs.Left.{left_from}
+use Rattle.tl_record.specs.Left.{left_from}
 use Rattle.tigertopo_where.specs.LinePlaces.{line_count}
 use Rattle.tigertopo_faults.specs.declared.records.subject.Subject.{Subject}
 use Rattle.tigertopo_faults.specs.declared.records.kept.KeptLines.{KeptLines}

@@ -6,7 +6,7 @@ ghost use Rattle.tl_record.specs.Records.{lines_read};
 ghost use Rattle.tigertopo_text.specs.Joining.{joined};
 ghost use Rattle.tigertopo_files.specs.Log.{LogsAgain};
 ghost use Rattle.tigertopo_files.specs.World.{world};
-ghost use Rattle.tigertopo_where.specs.Left.{left_from, numbers_of};
+ghost use Rattle.tl_record.specs.Left.{left_from, numbers_of};
 ghost use Rattle.tigertopo_where.specs.LinePlaces.{line_count};
 ghost use Rattle.tigertopo_where.specs.Hint.Again.{FailsAgain};
 ghost use Rattle.tigertopo_where.specs.Hint.Telling.{HaveTexts};

@@ -5,7 +5,7 @@ ghost use Rattle.std.specs.Bool.{OnTrue};
 ghost use Rattle.std.specs.Io.KnownBytes.{prepend_known};
 ghost use Rattle.tl_cert_output.specs.Stops.{StopsFor};
 ghost use Rattle.tigertopo_where.specs.Finding.{IsWithin, PassesTo};
-ghost use Rattle.tigertopo_where.specs.Left.{numbers_of};
+ghost use Rattle.tl_record.specs.Left.{numbers_of};
 ghost use Rattle.tigertopo_where.specs.Hint.Again.{HasNoEnd};
 ghost use Rattle.tigertopo_where.specs.Hint.Placing.{FailsRead};
 ghost use Rattle.tigertopo_faults.specs.Records.Reading.{FindsWanted, HasRecords, IsShown, TakesFirst, TakesShown, is_passed, numbers_behind, with_line};

@@ -50,8 +50,8 @@ impl Question for SubjectOf {
         records: &mut R,
     ) -> Result<Result<Subject, MapFault>, Stop> {
         if self.shows_faults {
-            let found = list_with_map(alloc, hasher, records, self.options)?;
-            return subject_of(alloc, found);
+            let found = list_with_map(alloc, hasher, records, self.options, false)?;
+            return subject_of(alloc, found.whole);
         }
         match read_map_with(alloc, hasher, records, self.options) {
             Ok(map) => Ok(Ok(Subject {

@@ -1,7 +1,11 @@
 -- What is told of records that are read.
-use Rattle.std.specs.Prelude.{◌≡◌, ◌≢◌, ℕ, List, [], map, None, Bool}
-use Rattle.tl_record.specs.declared.stop.Cause.{Cause}
-use Rattle.tl_record.specs.Records.{Records}
+use Rattle.std.specs.Prelude.{◌≡◌, ◌≢◌, ◌⊎◌, ℕ, List, [], map, Option, Some, None, IfSome, Bool, false}
+use Rattle.tl_record.specs.declared.options.Options.{Options}
+use Rattle.tl_record.specs.declared.refusal.Refusal.{Refusal}
+use Rattle.tl_record.specs.Layout.{layout_with}
+use Rattle.tl_record.specs.Left.{left_of}
+use Rattle.tl_record.specs.Records.{Records, records_of}
+use Rattle.tl_record.specs.Refusals.{refusals_of}
 use Rattle.tl_list_records.specs.Refusals.Listing.{ListsAll}
 use Rattle.tl_map_rules.specs.declared.fault.RecordFault.{RecordFault}
 use Rattle.tl_check_verdict.specs.declared.fault.MapFault.TheVariants as fault
@@ -13,7 +17,9 @@ use Rattle.tl_list_text.specs.declared.listing.Listing.TheVariants.{Sound, Refus
 use Rattle.tl_list_text.specs.Listings.{AreFaults}
 use Rattle.tl_record.specs.declared.record.Record.{Record}
 use Rattle.tl_list_records.specs.AllFaults.{AreAllFaults}
+use Rattle.tl_check_verdict.specs.declared.verdict.Report.{Report}
 use Rattle.tl_list.specs.declared.of_records.Findings.{Findings}
+use Rattle.tl_list.specs.declared.left.LeftFaults.{LeftFaults}
 use Rattle.tl_list.specs.Findings.{IsMapIfAny}
 
 -- the map of the records keeps what is asked of it, and these are its numbers; or no line is refused, and these are all faults
@@ -41,8 +47,16 @@ pub record AreTold (rs : List Record) (listed : Findings) : Type 0 where
   pub told : IsListOf faults listed.listing
   pub undrawn : listed.map ≡ None
 
--- these refusals are told
-abbrev pub ListsRefusals : Listing → List (ℕ × Cause) → Type 0
-ListsRefusals (Sound report) refusals = ⊥
-ListsRefusals (Refused list) refusals = ListsAll refusals list.items
-ListsRefusals (Faults faults touched) refusals = ⊥
+-- these lines are refused, and this is listed of what is left without them; no line is refused unless they are skipped
+pub record AreRead (options : Options) (skips : Bool) (known : Option (List ℕ)) (refused : List Refusal) (listed : Findings) : Type 0 where
+  pub all : IfSome known (λ text. ListsAll (refusals_of (layout_with options) text) refused)
+  pub none : skips ≡ false → refused ≡ []
+  pub told : IfSome known (λ text. AreFindingsOfRecords options.faces (records_of (layout_with options) (left_of (layout_with options) text)) listed)
+  pub of_some : (all : Records) × AreFindingsOfRecords options.faces all listed
+
+-- what is told of records that are left, of which no line is refused: their faults, or that there are none
+abbrev pub AreLeftOf : (faces : Bool) → Records → Option LeftFaults → Type 0
+AreLeftOf faces all (Some left) =
+    AreFindingsOfRecords faces all (record { listing = Faults left.faults left.touched; map = left.map })
+    ⊎ ((left.faults.items ≡ []) × (left.touched ≡ 0) × ((report : Report) × AreFindingsOfRecords faces all (record { listing = Sound report; map = left.map })))
+AreLeftOf faces all None = ⊥

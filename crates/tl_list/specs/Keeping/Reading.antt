@@ -1,13 +1,17 @@
 -- What is kept of the records that a reader gives, and what is still to come.
-use Rattle.std.specs.Prelude.{◌≡◌, ℕ, Bool, true, false, List, ◌++◌, Option, Some, None, IfSome}
+use Rattle.std.specs.Prelude.{◌≡◌, ◌≢◌, ℕ, Bool, true, false, List, [], ◌∷◌, ◌++◌, map, Option, Some, None, IfSome}
 use Rattle.tl_record.specs.declared.record.Record.{Record}
 use Rattle.tl_record.specs.declared.stop.Cause.{Cause}
+use Rattle.tl_record.specs.declared.refusal.Refusal.{Refusal}
 use Rattle.tl_record.specs.declared.reader.RecordReader.{RecordReader}
 use Rattle.std.specs.Option.{option_map}
 use Rattle.tl_record.specs.Records.{Records, joined_where}
 use Rattle.tl_map_join.specs.Told.{HasTold, joined_records}
-use Rattle.tl_record.specs.Reader.{skipped_of, standing_of, outcome, refusals_to_come, KeepsRefusals}
-use Rattle.tl_record.specs.Searching.{goes_on}
+use Rattle.tl_record.specs.Reader.{lines_of, judged_of, skipped_of, standing_of, refusals_to_come}
+use Rattle.tl_record.specs.Leaving.{left_to_come, is_passable, PassesRefused}
+use Rattle.tl_record.specs.Searching.{pair_of}
+use Rattle.tl_list_records.specs.Refusals.Listing.{BeginsWith, ListsAll}
+use Rattle.tl_list.specs.Findings.{HasBeyond}
 use Rattle.tl_map_rules.specs.Reading.{records_in}
 use Rattle.tl_list_records.specs.Kept.{KeepsRecords}
 use Rattle.tl_map.specs.Collecting.{HasCollected}
@@ -62,20 +66,35 @@ pub record KeepsAll (at_first : Option Records) (skipped : ℕ) (both : BothKept
   pub keeps : Keeps records both
   pub known : IfSome at_first (λ all. AreWhole all skipped records)
 
--- a line is refused, and the reader has all refusals still to give
-pub record IsAtRefusal {R : Type 0} (remaining : R → Option (List ℕ)) (old new : RecordReader R) : Type 0 where
-  pub line : ℕ
-  pub cause : Cause
-  pub refused : IfSome (outcome remaining old) (λ all. all.refusal ≡ Some (line, cause))
-  pub goes : goes_on (standing_of new) ≡ true
-  pub refusals : KeepsRefusals (refusals_to_come remaining old) (refusals_to_come remaining new)
+-- all refused lines are listed, of which there is none unless they are skipped
+pub record ListsSkipped (skips : Bool) (refusals : Option (List (ℕ × Cause))) (refused : List Refusal) : Type 0 where
+  pub all : IfSome refusals (λ rs. ListsAll rs refused)
+  pub none : skips ≡ false → refused ≡ []
 
--- what was taken
-abbrev pub MayTake : {R : Type 0} → Bool → (R → Option (List ℕ)) → (old new : RecordReader R) → Option Taken → Type 0
-MayTake joins remaining old new (Some taken) = TakesAll joins (outcome remaining old) (skipped_of new) taken
-MayTake joins remaining old new None = IsAtRefusal remaining old new
+-- all refused lines are listed, and one isn't passed over
+pub record IsStopped (skips : Bool) (refusals : Option (List (ℕ × Cause))) (refused : List Refusal) : Type 0 where
+  pub all : IfSome refusals (λ rs. ListsAll rs refused)
+  pub some : refused ≢ []
+  pub beyond : skips ≡ true → HasBeyond refused
 
--- what was read: the records that were to come, joined where that is asked
-abbrev pub MayRead : {R : Type 0} → Bool → (R → Option (List ℕ)) → (old new : RecordReader R) → Option BothKept → Type 0
-MayRead joins remaining old new (Some both) = KeepsAll (option_map (joined_where joins) (outcome remaining old)) (skipped_of new) both
-MayRead joins remaining old new None = IsAtRefusal remaining old new
+-- what was taken: all records of what is left without refused lines; or none, and all refused lines alone
+abbrev pub MayTake : {R : Type 0} → (joins skips : Bool) → (R → Option (List ℕ)) → (old new : RecordReader R) → List Refusal → Option Taken → Type 0
+MayTake joins skips remaining old new refused (Some taken) =
+    TakesAll joins (left_to_come remaining old) (skipped_of new) taken × ListsSkipped skips (refusals_to_come remaining old) refused
+MayTake joins skips remaining old new refused None = IsStopped skips (refusals_to_come remaining old) refused
+
+-- what was read: the same, kept, and joined where that is asked
+abbrev pub MayRead : {R : Type 0} → (joins skips : Bool) → (R → Option (List ℕ)) → (old new : RecordReader R) → List Refusal → Option BothKept → Type 0
+MayRead joins skips remaining old new refused (Some both) =
+    KeepsAll (option_map (joined_where joins) (left_to_come remaining old)) (skipped_of new) both × ListsSkipped skips (refusals_to_come remaining old) refused
+MayRead joins skips remaining old new refused None = IsStopped skips (refusals_to_come remaining old) refused
+
+-- behind these lines a refused one is listed, and where it is the first that was to come, all others
+pub record ListsFrom (front : List Refusal) (first : Refusal) (refusals : Option (List (ℕ × Cause))) (refused : List Refusal) : Type 0 where
+  pub all : IfSome refusals (λ rs. (behind : List (ℕ × Cause)) → rs ≡ pair_of first ∷ behind → ListsAll (map pair_of front ++ rs) refused)
+  pub begins : BeginsWith (front ++ first ∷ []) refused
+
+-- the refused line at which a reader stopped is passed over, if lines are skipped
+abbrev pub MayPassOver : {R : Type 0} → (skips : Bool) → (R → Option (List ℕ)) → (old new : RecordReader R) → (passed : Bool) → Type 0
+MayPassOver skips remaining old new true = (skips ≡ true) × PassesRefused remaining old new
+MayPassOver skips remaining old new false = (new ≡ old) × (skips ≡ true → is_passable (standing_of old) (lines_of old) (judged_of old) ≡ false)

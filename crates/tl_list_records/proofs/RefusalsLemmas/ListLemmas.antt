@@ -10,16 +10,15 @@ use Rattle.tl_record.specs.declared.reader.RecordReader.{RecordReader}
 use Rattle.tl_record.specs.declared.stop.ReadStop.TheVariants.{Refused}
 use Rattle.tl_record.specs.declared.stop.ReadStop.TheVariants as stop
 use Rattle.tl_record.specs.Searching.{pair_of, GivesRefusal, RepeatsSearch, SettlesSearch, failed_once, goes_on}
-use Rattle.tl_list_records.specs.Refusals.Listing.{ListsAll}
+use Rattle.tl_list_records.specs.Refusals.Listing.{ListsAll, ListsSoFar}
 
--- the list has the first of the refusals that were to come, and the rest are still to come
-abbrev pub ListsSoFar : Option (List (ℕ × Cause)) → Option (List (ℕ × Cause)) → List Refusal → Type 0
-ListsSoFar None now list = Unit {0}
-ListsSoFar (Some all) now list = (rest : List (ℕ × Cause)) × (now ≡ Some rest) × (map pair_of list ++ rest ≡ all)
+-- these refusals, and behind them those that come, where they are known
+abbrev pub all_behind : List Refusal → Option (List (ℕ × Cause)) → Option (List (ℕ × Cause))
+all_behind list came = option_map (λ refusals. map pair_of list ++ refusals) came
 
-pub lists_none : (known : Option (List (ℕ × Cause))) → ListsSoFar known known []
-lists_none None = tt
-lists_none (Some all) = (all, refl, refl)
+pub lists_behind : (list : List Refusal) (came : Option (List (ℕ × Cause))) → ListsSoFar (all_behind list came) came list
+lists_behind list None = tt
+lists_behind list (Some refusals) = (refusals, refl, refl)
 
 pub lists_more : (known old new : Option (List (ℕ × Cause))) (list : List Refusal) (refusal : Refusal) → ListsSoFar known old list → GivesRefusal old new (Ok (Some refusal))
     → ListsSoFar known new (list ++ refusal ∷ [])
@@ -39,6 +38,11 @@ lists_all (Some all) None new list so_far gives = absurd (let wrong = so_far.1 i
 lists_all (Some all) (Some left) new list so_far gives =
     let same : left ≡ so_far.0 = let is = so_far.1 in cc in
     sym (append-nil (map pair_of list)) ∙ ap (λ (l : List (ℕ × Cause)). map pair_of list ++ l) (sym gives ∙ same) ∙ so_far.2
+
+pub lists_whole : (first : List Refusal) (came old new : Option (List (ℕ × Cause))) (list : List Refusal) → ListsSoFar (all_behind first came) old list → GivesRefusal old new (Ok None)
+    → IfSome came (λ refusals. ListsAll (map pair_of first ++ refusals) list)
+lists_whole first None old new list so_far gives = tt
+lists_whole first (Some refusals) old new list so_far gives = lists_all (Some (map pair_of first ++ refusals)) old new list so_far gives
 
 -- a search that gives a refusal goes on, before and after
 pub still_goes_on : {R : Type 0} (standing after : Standing) (old new : RecordReader R) (refusal : Refusal) → RepeatsSearch standing old new (Ok (Some refusal))

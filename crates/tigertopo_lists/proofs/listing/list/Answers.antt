@@ -1,4 +1,5 @@
-use Rattle.std.proofs.Common.{None, map, string_bytes, ap, sym}
+use Rattle.std.proofs.Common.{Bool, None, map, string_bytes, subst}
+use Rattle.tl_list.specs.Findings.{IsFoundIn}
 use Rattle.tigertopo_files.proofs.WorldLemmas.{does_so, does_then, does_stop}
 use Rattle.tigertopo_outcome.specs.Records.{StopsNever}
 use Rattle.tigertopo_files.specs.Reading.{text_under}
@@ -28,6 +29,6 @@ returns g c =
     let fails = StopsList (world g.F.FileSystem.under g.F.FileSystem.log g.F.FileSystem.knows c.args.files.now c.tell_found.new.files) c.args.options known asked in
     does_then u v after l m q k names asked.made _ fails c.in_ok-found.found
     (does_so _ names None _ _ StopsNever fails (λ t so. so) (λ s never. absurd never) _ first)
-    _ _ _ c.tell_found.result (c.tell_found.ensures known (ap (λ x. text_under x names) (sym first.keeps)) first.answered)
+    _ _ _ c.tell_found.result (c.tell_found.ensures known (subst (λ (skips : Bool). IsFoundIn c.args.options skips known c.in_ok-found.found) c.is_skipping-skips.ensures first.answered))
     (λ answer. answers_from u v after l m q k c.args.options known asked answer.status _ first.keeps)
     (stops_from u v after l m q k c.args.options known asked first.keeps)

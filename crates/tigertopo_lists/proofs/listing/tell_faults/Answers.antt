@@ -15,14 +15,14 @@ use Rattle.tigertopo_faults.specs.Lines.Again.{AreSpoken}
 use Rattle.tigertopo_faults.specs.Geojson.Texts.{faults_text}
 use Rattle.tigertopo_lists.specs.Listed.{featured, wanted_of}
 use Rattle.tigertopo_lists.specs.Keeping.{IsPrepared}
-use Rattle.tigertopo_lists.proofs.ListLemmas.{does_not, does_not_read_again, made_behind, may_again, answer_text, answer_status}
+use Rattle.tigertopo_lists.proofs.ListLemmas.{does_not, does_not_read_again, made_behind, answer_text, answer_status}
 use Rattle.tigertopo_lists.proofs.listing.tell_faults.Goals as goal
 
 pub returns-in_err-spoken : goal.returns-in_err-spoken
 returns-in_err-spoken g c =
     let w = world g.F.FileSystem.under g.F.FileSystem.log g.F.FileSystem.knows c.args.files.now c.speak_of.new.files in
     let asked = wanted_of (map string_bytes c.args.names.now) c.args.wanted in
-    does_not_read_again Spoken w asked c.in_err-spoken.ensures.stays _ c.in_err-spoken.field-0.0 (stops_for _ _ c.in_err-spoken.field-0.0 (λ why. (may_again asked (sym c.reads_again.ensures ∙ why.0), why.1)) c.in_err-spoken.ensures.stops) c.in_err-spoken.ensures.logged c.from_residual.result c.from_residual.ensures.1
+    does_not_read_again Spoken w asked c.in_err-spoken.ensures.stays _ c.in_err-spoken.field-0.0 (stops_for _ _ c.in_err-spoken.field-0.0 (λ why. (sym c.reads_again.ensures ∙ why.0, why.1)) c.in_err-spoken.ensures.stops) c.in_err-spoken.ensures.logged c.from_residual.result c.from_residual.ensures.1
 
 pub returns-in_err-text : goal.returns-in_err-text
 returns-in_err-text g c =

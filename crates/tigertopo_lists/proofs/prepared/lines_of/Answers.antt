@@ -1,7 +1,7 @@
 use Rattle.std.proofs.Common.{ℕ, List, ◌++◌, take, ap, sym, ◌∙◌}
 use Rattle.tl_list_text.specs.Texts.{lines}
 use Rattle.tl_check_verdict.specs.Messages.{map_fault_text}
-use Rattle.tigertopo_lists.proofs.LeftLemmas.{lines_more}
+use Rattle.tigertopo_lists.proofs.LineLemmas.{lines_more}
 use Rattle.tigertopo_lists.proofs.prepared.lines_of.Goals as goal
 
 pub loop-fault-preserved : goal.loop-fault-preserved

@@ -8,7 +8,7 @@ use Rattle.tigertopo_files.proofs.WorldLemmas.{does_answer, does_fail, does_so}
 use Rattle.tigertopo_outcome.specs.declared.said.Answer.{Answer}
 use Rattle.tigertopo_lists.specs.declared.listed.Listed.{Listed}
 use Rattle.tigertopo_lists.specs.Listed.{StopsAgain, StopsList, refused_text, wanted_of}
-use Rattle.tigertopo_lists.proofs.ListLemmas.{does_not_read_again, fault_stops, made_behind, may_again, refused_answers}
+use Rattle.tigertopo_lists.proofs.ListLemmas.{does_not_read_again, fault_stops, made_behind, refused_answers}
 use Rattle.tigertopo_lists.proofs.refused.tell_refusals.Goals as goal
 
 pub returns-in_err-prepared : goal.returns-in_err-prepared
@@ -17,7 +17,7 @@ returns-in_err-prepared g c = λ known all are nothing.
     let w = world g.F.FileSystem.under g.F.FileSystem.log g.F.FileSystem.knows c.args.files.now c.prepare_refused.new.files in
     does_so w [] asked.made _ _ (StopsAgain w asked) (StopsList w c.args.options known asked) (λ t is. is) (fault_stops c.args.options known asked w) _
     (does_not_read_again (Answer Listed × Vec ℕ Global) w asked c.in_err-prepared.ensures.stays _ c.in_err-prepared.field-0.0
-    (stops_for _ _ c.in_err-prepared.field-0.0 (λ why. (may_again asked why.0, why.1)) c.in_err-prepared.ensures.stops) c.in_err-prepared.ensures.logged c.from_residual.result c.from_residual.ensures.1)
+    (stops_for _ _ c.in_err-prepared.field-0.0 (λ why. why) c.in_err-prepared.ensures.stops) c.in_err-prepared.ensures.logged c.from_residual.result c.from_residual.ensures.1)
 
 pub make_without_faults-requires : goal.make_without_faults-requires
 make_without_faults-requires g c =

@@ -6,7 +6,7 @@ use Rattle.tl_map_county.specs.TheMap.{TheMap}
 use Rattle.tl_check_verdict.specs.declared.fault.MapFault.{MapFault}
 use Rattle.tl_cert_output.proofs.StopLemmas.{by_stop, stops_for}
 use Rattle.tigertopo_files.specs.Files.{Under}
-use Rattle.tigertopo_where.specs.Left.{numbers_of}
+use Rattle.tl_record.specs.Left.{numbers_of}
 use Rattle.tigertopo_where.proofs.HintLemmas.AgainLemmas.{fails_behind}
 use Rattle.tigertopo_faults.specs.Lines.Again.{AreSpoken}
 use Rattle.tigertopo_faults.specs.Records.SpokenOf.{chains_of}

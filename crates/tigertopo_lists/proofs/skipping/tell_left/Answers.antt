@@ -9,7 +9,7 @@ use Rattle.tigertopo_faults.specs.Records.Keeping.{held}
 use Rattle.tigertopo_faults.specs.Geojson.Texts.{faults_text}
 use Rattle.tigertopo_lists.specs.declared.skipping.LeftTexts.{LeftTexts}
 use Rattle.tigertopo_lists.specs.Listed.{StopsAgain, StopsList, featured, wanted_of}
-use Rattle.tigertopo_lists.proofs.ListLemmas.{does_not_read_again, fault_stops, made_behind, may_again, left_answers}
+use Rattle.tigertopo_lists.proofs.ListLemmas.{does_not_read_again, fault_stops, made_behind, left_answers}
 use Rattle.tigertopo_lists.proofs.skipping.tell_left.Goals as goal
 
 pub returns-in_err-texts : goal.returns-in_err-texts
@@ -18,7 +18,7 @@ returns-in_err-texts g c = λ known are found.
     let w = world g.F.FileSystem.under g.F.FileSystem.log g.F.FileSystem.knows c.args.files.now c.prepare_left.new.files in
     does_so w [] asked.made _ _ (StopsAgain w asked) (StopsList w c.args.options known asked) (λ t is. is) (fault_stops c.args.options known asked w) _
     (does_not_read_again LeftTexts w asked c.in_err-texts.ensures.stays _ c.in_err-texts.field-0.0
-    (stops_for _ _ c.in_err-texts.field-0.0 (λ why. (may_again asked why.0, why.1)) c.in_err-texts.ensures.stops) c.in_err-texts.ensures.logged c.from_residual.result c.from_residual.ensures.1)
+    (stops_for _ _ c.in_err-texts.field-0.0 (λ why. why) c.in_err-texts.ensures.stops) c.in_err-texts.ensures.logged c.from_residual.result c.from_residual.ensures.1)
 
 pub make_collection-requires : goal.make_collection-requires
 make_collection-requires g c =

@@ -1,18 +1,21 @@
-use Rattle.tl_map.proofs.JoinedLemmas.{of_text as joined_text}
-use Rattle.tl_list.proofs.Assembling.{kept_told, refused_told}
+use Rattle.tl_list.proofs.Assembling.{found_refused, kept_told, left_text, refused_told, told_of_some}
 use Rattle.tl_list.proofs.of_records.list_with_map.Goals as goal
 
-pub returns-in-Some-clause-listed : goal.returns-in-Some-clause-listed
-returns-in-Some-clause-listed g c =
-    let read = c.in_ok-both.ensures.read in
-    kept_told c.args.options
-    (g.R.Source.remaining c.args.records.now) _ _ c.in-Some.both c.list_kept.result
-    (joined_text c.args.options (g.R.Source.remaining c.args.records.now) _ c.with-reader.ensures.records)
-    (rw (c.in-Some.is, ← c.skipped.ensures) at read) c.list_kept.ensures.listed
+pub returns-in_ok-listed-in-Some-clause-found : goal.returns-in_ok-listed-in-Some-clause-found
+returns-in_ok-listed-in-Some-clause-found g c =
+    let known = g.R.Source.remaining c.args.records.now in
+    let read = c.in_ok-refused.ensures.read in
+    let kept = rw (c.in-Some.is, ← c.skipped.ensures) at read in
+    let lists = c.in_ok-listed-in-Some.ensures.listed in
+    let came = left_text c.args.options known _ c.with-reader.ensures.left in
+    c.found_in.ensures c.args.options c.args.skips known (record {
+      all = refused_told c.args.options c.args.skips known _ c.in_ok-refused.field-0.refused.items c.with-reader.ensures.refusals kept.1.all;
+      none = kept.1.none;
+      told = kept_told c.args.options c.args.skips known _ _ c.in-Some.both c.in_ok-listed-in-Some.listed came kept.0 lists;
+      of_some = told_of_some c.args.options c.args.skips known _ _ c.in-Some.both c.in_ok-listed-in-Some.listed kept.0 lists;
+    })
 
-pub returns-in-None-clause-listed : goal.returns-in-None-clause-listed
-returns-in-None-clause-listed g c =
-    let read = c.in_ok-both.ensures.read in
-    let stopped = rw c.in-None.is at read in
-    refused_told c.args.options (g.R.Source.remaining c.args.records.now) _ _ _ stopped.line stopped.cause
-    c.list_refused.result c.with-reader.ensures.records c.with-reader.ensures.refusals stopped.refused stopped.refusals c.list_refused.ensures.listed
+pub returns-in-None-clause-found : goal.returns-in-None-clause-found
+returns-in-None-clause-found g c =
+    let read = c.in_ok-refused.ensures.read in
+    found_refused c.args.options c.args.skips (g.R.Source.remaining c.args.records.now) _ c.in_ok-refused.field-0.refused c.with-reader.ensures.refusals (rw c.in-None.is at read)

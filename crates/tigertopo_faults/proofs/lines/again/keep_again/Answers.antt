@@ -3,7 +3,7 @@ use Rattle.tl_cert_output.specs.Stops.{StopsFor}
 use Rattle.tl_cert_output.proofs.StopLemmas.{by_stop, stops_for}
 use Rattle.tigertopo_files.specs.Files.{Under, bytes_under}
 use Rattle.tigertopo_files.specs.World.{world}
-use Rattle.tigertopo_where.specs.Left.{numbers_of}
+use Rattle.tl_record.specs.Left.{numbers_of}
 use Rattle.tigertopo_where.specs.Hint.Again.{FailsAgain}
 use Rattle.tigertopo_where.proofs.PlacedLemmas.{behind_slice}
 use Rattle.tigertopo_where.proofs.HintLemmas.HintLemmas.{among, same_count, text_at}

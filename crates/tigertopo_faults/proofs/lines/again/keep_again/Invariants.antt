@@ -1,5 +1,5 @@
 use Rattle.std.proofs.Common.{◌≡◌, ◌≤◌, ℕ, List, length, true, map, string_bytes}
-use Rattle.tigertopo_where.specs.Left.{numbers_of}
+use Rattle.tl_record.specs.Left.{numbers_of}
 use Rattle.tigertopo_where.specs.Hint.Telling.{HaveTexts}
 use Rattle.tigertopo_faults.specs.declared.records.subject.Subject.{Subject}
 use Rattle.tigertopo_faults.specs.Records.Kept.{is_wanted}

@@ -1,7 +1,7 @@
 use Rattle.std.proofs.Common.{◌≡◌, Some, map}
 use Rattle.std.specs.Prelude.{option_copied}
 use Rattle.tl_record.specs.Layout.{layout_with}
-use Rattle.tigertopo_where.specs.Left.{numbers_of}
+use Rattle.tl_record.specs.Left.{numbers_of}
 use Rattle.tigertopo_where.specs.LinePlaces.{line_count}
 use Rattle.tigertopo_faults.specs.Records.SpokenOf.{chains_of}
 use Rattle.tigertopo_faults.proofs.RecordsLemmas.ReadingLemmas.{then_all}

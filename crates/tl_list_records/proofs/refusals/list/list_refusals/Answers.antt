@@ -1,12 +1,14 @@
-use Rattle.std.proofs.Common.{◌∙◌, refl}
+use Rattle.std.proofs.Common.{List, [], ◌∷◌, ◌++◌, ◌∙◌, refl, sym, ap, append-nil, append_assoc}
+use Rattle.tl_record.specs.declared.refusal.Refusal.{Refusal}
 use Rattle.std.proofs.lemmas.Result.{err_from_is_err_and}
 use Rattle.tl_record.specs.Reader.{standing_of, refusals_to_come}
-use Rattle.tl_list_records.proofs.RefusalsLemmas.ListLemmas.{lists_none, lists_more, lists_all, still_goes_on, failure_told}
+use Rattle.tl_list_records.proofs.RefusalsLemmas.ListLemmas.{lists_behind, lists_more, lists_whole, still_goes_on, failure_told}
 use Rattle.tl_list_records.proofs.refusals.list.list_refusals.Goals as goal
 
 pub refusals-init : goal.refusals-init
 refusals-init g c = record {
-  so_far = rw c.new-list.ensures.items (lists_none (refusals_to_come g.R.Source.remaining c.args.reader.now));
+  so_far = lists_behind c.args.list.items (refusals_to_come g.R.Source.remaining c.args.reader.now);
+  front = ([], sym (append-nil c.args.list.items));
   failures = refl;
   same = refl;
   goes = refl;
@@ -21,7 +23,11 @@ refusals-preserved g c =
     let failures = found.failures in
     let before = c.refusals.invariant in
     record {
-      so_far = rw c.in_ok-push-in-Ok-Some.ensures.items (lists_more _ _ _ c.refusals.list.items c.in-Ok-Some.refusal before.so_far (rw c.in-Ok-Some.field-0-is at gives));
+      so_far = rw c.in_ok-push-in-Ok-Some.ensures.items (lists_more _ _ _ c.refusals.all.items c.in-Ok-Some.refusal before.so_far (rw c.in-Ok-Some.field-0-is at gives));
+      front = (
+        before.front.0 ++ c.in-Ok-Some.refusal ∷ [],
+        c.in_ok-push-in-Ok-Some.ensures.items ∙ ap (λ (l : List Refusal). l ++ c.in-Ok-Some.refusal ∷ []) before.front.1 ∙ append_assoc c.args.list.items before.front.0 (c.in-Ok-Some.refusal ∷ []),
+      );
       failures = failures ∙ before.failures;
       same = found.same_reference ∙ before.same;
       goes = still_goes_on (standing_of c.refusals.reader) (standing_of c.next_refusal.new.self) c.refusals.reader c.next_refusal.new.self c.in-Ok-Some.refusal (rw c.in-Ok-Some.field-0-is at repeats) (rw c.in-Ok-Some.field-0-is at settles) ∙ before.goes;
@@ -34,6 +40,7 @@ returns-in-Err-Device g c =
     let before = c.refusals.invariant in
     record {
       refusals = tt;
+      front = tt;
       failures = failure_told (standing_of c.args.reader.now) (standing_of c.refusals.reader) _ _ _ before.failures before.goes (rw c.in-Err-Device.field-0-is at failures);
       stops = tt;
       same_reference = found.same_reference ∙ before.same;
@@ -46,6 +53,7 @@ returns-in-Err-Endless g c =
     let before = c.refusals.invariant in
     record {
       refusals = tt;
+      front = tt;
       failures = (rw c.in-Err-Endless.field-0-is at failures) ∙ before.failures;
       stops = tt;
       same_reference = found.same_reference ∙ before.same;
@@ -57,7 +65,8 @@ returns-in-Ok-None g c =
     let gives = found.gives in
     let before = c.refusals.invariant in
     record {
-      refusals = lists_all _ _ _ c.refusals.list.items before.so_far (rw c.in-Ok-None.field-0-is at gives);
+      refusals = lists_whole c.args.list.items _ _ _ c.refusals.all.items before.so_far (rw c.in-Ok-None.field-0-is at gives);
+      front = before.front;
       failures = found.failures ∙ before.failures;
       stops = tt;
       same_reference = found.same_reference ∙ before.same;
@@ -70,6 +79,7 @@ returns-in_err-push-in-Ok-Some g c =
     let before = c.refusals.invariant in
     rw (p.1, p.2) (record {
       refusals = tt;
+      front = tt;
       failures = found.failures ∙ before.failures;
       stops = tt;
       same_reference = found.same_reference ∙ before.same;

@@ -5,4 +5,5 @@ use Rattle.tl_list_records.proofs.refusals.list.refused_lines.Goals as goal
 
 pub returns-clause-refusals : goal.returns-clause-refusals
 returns-clause-refusals g c =
-    lists_text (refusals_of (layout_with c.args.options)) (g.R.Source.remaining c.args.records.now) _ _ c.list_refusals.result c.with-reader.ensures.refusals c.list_refusals.ensures.refusals
+    let listed = c.list_refusals.ensures.refusals in
+    lists_text (refusals_of (layout_with c.args.options)) (g.R.Source.remaining c.args.records.now) _ _ c.list_refusals.result c.with-reader.ensures.refusals (rw c.new.ensures.items at listed)

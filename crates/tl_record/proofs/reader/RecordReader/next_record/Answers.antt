@@ -23,3 +23,12 @@ returns-clause-whole_lines g c = rw c.with_record.ensures c.read_next-answer.ens
 
 pub returns-clause-refusals : goal.returns-clause-refusals
 returns-clause-refusals g c = c.read_next-answer.ensures.refusals
+
+pub returns-clause-left : goal.returns-clause-left
+returns-clause-left g c = rw c.with_record.ensures c.read_next-answer.ensures.left
+
+pub returns-clause-stops : goal.returns-clause-stops
+returns-clause-stops g c = rw c.with_record.ensures c.read_next-answer.ensures.stops
+
+pub returns-clause-onward : goal.returns-clause-onward
+returns-clause-onward g c = c.read_next-answer.ensures.onward

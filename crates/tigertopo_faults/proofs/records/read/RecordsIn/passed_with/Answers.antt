@@ -1,4 +1,4 @@
-use Rattle.tigertopo_where.specs.Left.{numbers_of}
+use Rattle.tl_record.specs.Left.{numbers_of}
 use Rattle.tigertopo_faults.proofs.RecordsLemmas.ReadingLemmas.{behind_one}
 use Rattle.tigertopo_faults.proofs.records.read.RecordsIn.passed_with.Goals as goal
 

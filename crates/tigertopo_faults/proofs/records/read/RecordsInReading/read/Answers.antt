@@ -1,5 +1,5 @@
 use Rattle.std.proofs.Common.{◌∙◌, drop, true, refl}
-use Rattle.tigertopo_where.specs.Left.{numbers_of}
+use Rattle.tl_record.specs.Left.{numbers_of}
 use Rattle.tigertopo_where.proofs.FindingLemmas.{counts_none, passes_more}
 use Rattle.tigertopo_where.proofs.HintLemmas.LineLemmas.{counted_in}
 use Rattle.tigertopo_faults.proofs.RecordsLemmas.ReadingLemmas.{found_all, found_more, passed_so}

@@ -1,7 +1,7 @@
 use Rattle.std.proofs.Common.{◌≡◌, ◌≤◌, drop, length}
 use Rattle.std.specs.Io.KnownBytes.{prepend_known}
 use Rattle.tigertopo_where.specs.Finding.{PassesTo}
-use Rattle.tigertopo_where.specs.Left.{numbers_of}
+use Rattle.tl_record.specs.Left.{numbers_of}
 use Rattle.tigertopo_faults.proofs.RecordsLemmas.ReadingLemmas.{FoundSoFar}
 use Rattle.tigertopo_faults.proofs.records.read.RecordsInReading.read.Given as goal
 
