@@ -5,5 +5,6 @@ pub mod ShownLemmas
 pub mod DegreeLemmas
 pub mod LocationLemmas
 pub mod HintLemmas
+pub mod FoundLemmas
 pub mod PlacedLemmas
 pub mod LeftLemmas
