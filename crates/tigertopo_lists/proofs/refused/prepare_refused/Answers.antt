@@ -12,6 +12,6 @@ returns-clause-prepared g c =
     let u = g.F.FileSystem.under c.args.files.now in
     let asked = wanted_of (map string_bytes c.args.names.now) c.args.wanted in
     let sought = λ (rs : List Refusal). sought_lines asked.told asked.made rs in
-    c.in_ok-field-0.ensures u (λ again.
+    c.in_ok-refused_texts.ensures u (λ again.
     subst (λ (fs : List FoundLine). AreFound u asked.names (sought c.args.list.items) fs) (sym c.as_slice-found.ensures.value)
     (subst (λ (rs : List Refusal). AreFound u asked.names (sought rs) c.in_ok-spoken.spoken.refused.items) c.as_slice-refusals.ensures.value (c.in_ok-spoken.ensures.refused again)))
