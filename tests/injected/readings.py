@@ -1,7 +1,6 @@
 #!/usr/bin/env python3
 """Counts how often the built program reads each file that it is given: once for what is asked, and once more at most, for the records that
-faults speak of, for the places of refused lines, or for a hint. Refused lines that are both printed with their places and made into a file
-are looked up for each; where they are skipped, files are read again for the records of the faults of what is left, too.
+faults speak of and the places of refused lines, or for a hint.
 
 usage: readings.py [PROGRAM]
 
@@ -39,6 +38,7 @@ RUNS = [
     *(["audit", "--all", "--skip-refused", *words, *files] for files in ([SOUND], [LONG], REFUSED, [*REFUSED, TOWN])
       for words in ([], *FORMS, ["--where", "--geojson", MADE], ["--json", "--geojson", MADE])),
 ]
+MOST_READINGS = 2
 OPENED = re.compile(r'openat\([^,]*, "(.*)", .*\) = (\d+)')
 READ = re.compile(r"(?:read|pread64)\((\d+), .*\) = (\d+)")
 
@@ -46,15 +46,6 @@ READ = re.compile(r"(?:read|pread64)\((\d+), .*\) = (\d+)")
 def can_play():
     """Whether strace is there. Else all of this is skipped."""
     return skipped.has("how often files are read", "strace")
-
-
-def most_readings(words):
-    """How often a run may read a file at most, by its words."""
-    has_file, has_places = "--geojson" in words, "--where" in words or "--json" in words
-    is_audit, is_refused = words[0] == "audit", LONG in words
-    twice_told = is_audit and is_refused and has_file and has_places
-    skips = is_audit and is_refused and "--skip-refused" in words
-    return 2 + twice_told + (skips and (has_file or has_places))
 
 
 def readings(calls, names):
@@ -80,7 +71,7 @@ def play_all(program=PROGRAM):
             names = [str(it) for it in words if isinstance(it, Path)]
             told = readings(calls.read_text(errors="replace").splitlines(), names)
             # That some file was read shows that the calls are told.
-            is_well = 1 <= max(told.values()) <= most_readings(words)
+            is_well = 1 <= max(told.values()) <= MOST_READINGS
             passed, failed = passed + is_well, failed + (not is_well)
             if not is_well:
                 print(f"{' '.join(map(str, words))}: read so often: {told}")

@@ -6,6 +6,7 @@ use Rattle.std.specs.Global.{Global}
 use Rattle.std.specs.Option.{IfSome}
 use Rattle.std.specs.Result.{IsErrAnd}
 use Rattle.std.proofs.lemmas.Option.{IfSome_then}
+use Rattle.std.proofs.lemmas.List.{take_all}
 use Rattle.tl_record.specs.declared.layout.Layout.{Layout}
 use Rattle.tl_record.specs.declared.options.Options.{Options}
 use Rattle.tl_record.specs.declared.refusal.Refusal.{Refusal}
@@ -34,7 +35,11 @@ use Rattle.tl_cert_output.specs.declared.stop.Stop.{Stop}
 use Rattle.tl_cert_output.specs.declared.stop.Stop.TheVariants.{Record, Memory, Device, Budget}
 use Rattle.tl_cert_output.specs.Stops.{StopsFor}
 use Rattle.tl_list_text.specs.Texts.{lines, printed, told_refusal, count_line}
-use Rattle.tigertopo_where.specs.Hint.Placed.{placed_text, refused_text, RiseFrom, TellsPlaces}
+use Rattle.tigertopo_where.specs.Hint.Placed.{IsPlaced, placed_text, refused_text, RiseFrom, TellsPlaces}
+use Rattle.tigertopo_where.specs.declared.hint.form.RefusedForm.{RefusedForm}
+use Rattle.tigertopo_where.specs.declared.hint.found.FoundLine.{FoundLine}
+use Rattle.tigertopo_where.specs.Hint.Found.{AreFound, found_text}
+use Rattle.tigertopo_where.proofs.PlacedLemmas.{found_placed}
 use Rattle.tigertopo_where.specs.declared.hint.form.RefusedForm.TheVariants.{Features as RefusedFeatures}
 use Rattle.tigertopo_where.specs.declared.hint.form.RefusedForm.TheVariants.{Lines as RefusedLines}
 use Rattle.tigertopo_where.specs.Hint.Telling.{HaveTexts}
@@ -56,10 +61,10 @@ use Rattle.tigertopo_outcome.specs.Records.{StopsNever}
 use Rattle.tigertopo_outcome.specs.declared.said.Answer.{Answer}
 use Rattle.tigertopo_lists.specs.declared.listed.Listed.{Listed}
 use Rattle.tigertopo_lists.specs.declared.listed.Listed.TheVariants.{Listing, Lines}
-use Rattle.tigertopo_lists.specs.Listed.{Asked, ListAnswers, IsSoundList, IsFaultList, StopsList, StopsAgain, has_places, listed_text, most_of, told_text, featured, reads_again, refused_form, is_skipping, stops_refused}
+use Rattle.tigertopo_lists.specs.Listed.{Asked, ListAnswers, IsSoundList, IsFaultList, StopsList, StopsAgain, has_places, listed_text, most_of, told_text, featured, reads_again, refused_form, refusals_last, is_skipping, stops_refused}
 use Rattle.tigertopo_lists.specs.Listed.{AreRefused}
 use Rattle.tigertopo_lists.specs.Listed.{refused_text as refused_collection}
-use Rattle.tigertopo_lists.specs.Keeping.{AreFeatures, ArePlaced, ArePrepared, IsLeftPrepared, IsPrepared, IsRefusedList, first_stop, faults_answer}
+use Rattle.tigertopo_lists.specs.Keeping.{AnswersFound, AreFeatures, ArePrepared, IsLeftPrepared, IsPrepared, IsRefusedList, first_stop, faults_answer, sought_lines}
 
 -- ---- what is done with files
 
@@ -213,15 +218,44 @@ plain_refused layout under names FormLines most list none = record {
 plain_refused layout under names FormRecords most list none = absurd (cc none)
 plain_refused layout under names FormObjects most list none = absurd (cc none)
 
-pub placed_refused : (layout : Layout) (under : Under) (names : List (List ℕ)) (form : Form) (most : Option ℕ) (list : Vec Refusal Global) (text : Vec ℕ Global) → has_places form ≡ true
-    → ArePlaced form layout under names most list.items text.items → IsRefusedList layout under names form most list (record { status = 3; text = Lines text })
-placed_refused layout under names form most list text asks placed = record {
-  told = placed.0;
-  stand = λ same. placed.2;
-  plain = λ none. absurd (let wrong = sym none ∙ asks in cc);
-  is = refl;
-  lines = placed.1;
-}
+-- those that are printed, and those that stand in the file, are the first of those that are sought
+printed_first : (told : Told) (made : Option (List ℕ)) (list : List Refusal) → (count : ℕ) × (printed (most_of told) list ≡ take count (sought_lines told made list))
+printed_first told None list = let those = printed (most_of told) list in (length those, sym (take_all (length those) those (omega arith)))
+printed_first One (Some name) list = let those = take 1 list in (length those, sym (take_all (length those) those (omega arith)))
+printed_first (All None skips) (Some name) list = (length list, sym (take_all (length list) list (omega arith)))
+printed_first (All (Some most) skips) (Some name) list = (most, refl)
+
+featured_first : (told : Told) (made : Option (List ℕ)) (list : List Refusal) → is_some made ≡ true → (count : ℕ) × (featured told list ≡ take count (sought_lines told made list))
+featured_first told None list asks = absurd (cc asks)
+featured_first told (Some name) list asks = let those = featured told list in (length those, sym (take_all (length those) those (omega arith)))
+
+-- so it is told where they stand
+module _ (layout : Layout) (under : Under) (names : List (List ℕ)) (told : Told) (made : Option (List ℕ)) (list : List Refusal) (found : List FoundLine) (are : AreFound under names (sought_lines told made list) found) where
+  first_placed : (form : RefusedForm) (refusals : List Refusal) (text : List ℕ) → (count : ℕ) × (refusals ≡ take count (sought_lines told made list)) → text ≡ found_text form layout names refusals found
+      → IsPlaced form layout under names refusals text
+  first_placed form refusals text first is =
+      subst (λ (rs : List Refusal). IsPlaced form layout under names rs text) (sym first.1)
+      (found_placed form layout names under (sought_lines told made list) found first.0 text are (is ∙ ap (λ (rs : List Refusal). found_text form layout names rs found) first.1))
+
+  pub features_placed : is_some made ≡ true → (text : List ℕ) → text ≡ found_text RefusedFeatures layout names (featured told list) found → IsPlaced RefusedFeatures layout under names (featured told list) text
+  features_placed asks text is = first_placed RefusedFeatures (featured told list) text (featured_first told made list asks) is
+
+  pub printed_placed : (form : RefusedForm) → IsPlaced form layout under names (printed (most_of told) list) (found_text form layout names (printed (most_of told) list) found)
+  printed_placed form = first_placed form (printed (most_of told) list) _ (printed_first told made list) refl
+
+pub placed_refused : (layout : Layout) (asked : Asked) (list : Vec Refusal Global) (found : List FoundLine) (text : Vec ℕ Global) → has_places asked.form ≡ true
+    → text.items ≡ found_text (refused_form asked.form) layout asked.names (printed (most_of asked.told) list.items) found
+    ++ refusals_last asked.form (most_of asked.told) (length list.items) (length (printed (most_of asked.told) list.items))
+    → AnswersFound layout asked list found (record { status = 3; text = Lines text })
+placed_refused layout asked list found text asks is = λ under are.
+    let placed = printed_placed layout under asked.names asked.told asked.made list.items found (are asks) (refused_form asked.form) in
+    record {
+      told = placed.0;
+      stand = λ same. placed.2;
+      plain = λ none. absurd (let wrong = sym none ∙ asks in cc);
+      is = refl;
+      lines = is ∙ ap (λ t. t ++ refusals_last asked.form (most_of asked.told) (length list.items) (length (printed (most_of asked.told) list.items))) placed.1;
+    }
 
 module _ (options : Options) (known : Option (List ℕ)) (asked : Asked) where
   -- a map is sound

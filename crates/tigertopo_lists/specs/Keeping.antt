@@ -20,6 +20,8 @@ use Rattle.tigertopo_words.specs.declared.form.Form.{Form}
 use Rattle.tigertopo_words.specs.declared.form.Form.TheVariants.{Lines}
 use Rattle.tl_record.specs.declared.layout.Layout.{Layout}
 use Rattle.tigertopo_files.specs.Files.{Under}
+use Rattle.tigertopo_where.specs.declared.hint.found.FoundLine.{FoundLine}
+use Rattle.tigertopo_where.specs.Hint.Found.{AreFound}
 use Rattle.tigertopo_where.specs.Hint.Placed.{IsPlaced, TellsPlaces}
 use Rattle.tigertopo_where.specs.declared.hint.form.RefusedForm.TheVariants.{Features}
 use Rattle.tl_record.specs.Left.{numbers_of}
@@ -50,11 +52,6 @@ abbrev pub faults_answer : Option (Vec ℕ Global) → Vec MapFault Global → �
 faults_answer (Some text) faults touched told = record { status = 1; text = listed.Lines text }
 faults_answer None faults touched told = record { status = 1; text = listed.Listing (listing.Faults faults touched) (most_of told) }
 
--- a text of refused lines, all or so many from the front, each with where it stands, and how many there are
-abbrev pub ArePlaced : Form → Layout → Under → List (List ℕ) → Option ℕ → List Refusal → List ℕ → Type 0
-ArePlaced form layout under names most refusals text =
-    (told : List (List ℕ)) × (text ≡ refusals_text form most refusals told) × TellsPlaces (refused_form form) layout under names (printed most refusals) told
-
 -- refused lines are answered, all or so many from the front, with where they stand if the form has that
 pub record IsRefusedList (layout : Layout) (under : Under) (names : List (List ℕ)) (form : Form) (most : Option ℕ) (list : Vec Refusal Global) (answer : Answer Listed) : Type 0 where
   pub told : List (List ℕ)
@@ -62,6 +59,17 @@ pub record IsRefusedList (layout : Layout) (under : Under) (names : List (List �
   pub plain : has_places form ≡ false → told ≡ []
   pub is : answer.status ≡ 3
   pub lines : listed_text answer.text ≡ refusals_text form most list.items told
+
+-- the refused lines of which it is told where they stand: those that stand in the file that is made, and else those that are printed
+abbrev pub sought_lines : Told → Option (List ℕ) → List Refusal → List Refusal
+sought_lines told None list = printed (most_of told) list
+sought_lines told (Some name) list = featured told list
+
+-- what is answered of refused lines, where these were found in files
+abbrev pub AnswersFound : Layout → Asked → Vec Refusal Global → List FoundLine → Answer Listed → Type 0
+AnswersFound layout asked list found answer = (under : Under)
+    → (has_places asked.form ≡ true → AreFound under asked.names (sought_lines asked.told asked.made list.items) found)
+    → IsRefusedList layout under asked.names asked.form (most_of asked.told) list answer
 
 -- the features of refused lines, each with where it stands, if they are asked for
 abbrev pub AreFeatures : Option (List ℕ) → Layout → Under → List (List ℕ) → List Refusal → List ℕ → Type 0
@@ -71,6 +79,12 @@ AreFeatures made layout under names refusals text = is_some made ≡ true → Is
 pub record ArePrepared (layout : Layout) (under : Under) (asked : Asked) (list : Vec Refusal Global) (prepared : Answer Listed × Vec ℕ Global) : Type 0 where
   pub answer : IsRefusedList layout under asked.names asked.form (most_of asked.told) list prepared.0
   pub features : AreFeatures asked.made layout under asked.names (featured asked.told list.items) prepared.1.items
+
+-- the same, where they were found in files
+abbrev pub ArePreparedOf : Layout → Asked → Vec Refusal Global → List FoundLine → Answer Listed × Vec ℕ Global → Type 0
+ArePreparedOf layout asked list found prepared = (under : Under)
+    → (reads_again asked.form asked.made ≡ true → AreFound under asked.names (sought_lines asked.told asked.made list.items) found)
+    → ArePrepared layout under asked list prepared
 
 -- what is answered of refused lines and of what is left, the records that its faults speak of, and the features of the refused lines that
 -- the file has

@@ -133,10 +133,14 @@ abbrev pub reads_again : Form → Option (List ℕ) → Bool
 reads_again form None = has_places form
 reads_again form (Some name) = true
 
+-- how many refused lines were skipped, as a line
+abbrev pub skipped_line : ℕ → List ℕ
+skipped_line count = codes "refused lines=" ++ decimal count ++ codes " skipped\n"
+
 -- the last line where refused lines are skipped, which says how many
 abbrev pub skipped_text : Form → ℕ → List ℕ
-skipped_text form.Lines count = codes "refused lines=" ++ decimal count ++ codes " skipped\n"
-skipped_text form.Records count = codes "refused lines=" ++ decimal count ++ codes " skipped\n"
+skipped_text form.Lines count = skipped_line count
+skipped_text form.Records count = skipped_line count
 skipped_text form.Objects count = skipped_end count
 
 -- the file of no fault, with these features of refused lines, each with a comma in front
@@ -199,8 +203,7 @@ pub record TellsFaults (w : World) (options : Options) (known : Option (List ℕ
   pub is : status ≡ 1
   pub lines : text ≡ told_text asked.names (chains_of map) spoken asked.form asked.told faults.items touched
 
--- Lines are refused, and the map may say nothing of them: each of the records', and no other. They are told so: `features` where each stands
--- as the file has it, and `told` as it is printed, if places are asked for.
+-- where refused lines stand is told: `features` as the file has it, if one is made, and `told` as it is printed, if that is asked for
 pub record AreRefused (w : World) (options : Options) (known : Option (List ℕ)) (asked : Asked) (list : List Refusal) (features told : List (List ℕ)) : Type 0 where
   pub stand : TellsWhere (is_some asked.made) Features (layout_with options) known w.before asked.names (featured asked.told list) features
   pub places : TellsWhere (has_places asked.form) (refused_form asked.form) (layout_with options) known w.before asked.names (printed (most_of asked.told) list) told

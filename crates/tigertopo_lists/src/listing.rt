@@ -196,9 +196,9 @@ fn tell_faults<F: FileSystem>(
         hasher,
         names,
         options,
+        wanted,
         &[],
         drawn,
-        reads_again(wanted.form, wanted.made),
         shown,
     )?;
     let text = prepare(

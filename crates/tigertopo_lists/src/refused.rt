@@ -1,32 +1,36 @@
 //! Lines that are refused, as they are answered, and the file of them.
 
-ghost use Rattle.std.specs.Prelude.{◌≡◌, [], ℕ, List, Option, None, true, false, IfOk, IfErr, IfSome, map as map_list, option_map, is_some, string_bytes};
+ghost use Rattle.std.specs.Prelude.{◌≡◌, ◌++◌, [], ℕ, List, Option, None, true, false, IfOk, IfErr, IfSome};
+ghost use Rattle.std.specs.Prelude.{length, map as map_list, option_map, is_some, string_bytes};
 ghost use Rattle.tl_record.specs.Layout.{layout_with};
 ghost use Rattle.tl_cert_output.specs.Stops.{StopsFor};
 ghost use Rattle.tl_list_text.specs.Listings.{IsListingOf};
+ghost use Rattle.tl_list_text.specs.Texts.{printed};
 ghost use Rattle.tl_list_text.specs.declared.listing.Listing.TheVariants.{Refused as RefusedLines};
 ghost use Rattle.tigertopo_files.specs.Log.{LogsAgain};
 ghost use Rattle.tigertopo_where.specs.Hint.Again.{FailsAgain};
 ghost use Rattle.tigertopo_files.specs.World.{Does, MayMake, world};
+ghost use Rattle.tigertopo_where.specs.Hint.Found.{found_text};
+ghost use Rattle.tigertopo_where.specs.declared.hint.form.RefusedForm.TheVariants.{Features};
 ghost use Rattle.tigertopo_files.specs.declared.beginning.FileKind.TheVariants.{Collection};
 ghost use Rattle.tl_list.specs.Findings.{IsLeft};
 ghost use Rattle.tigertopo_lists.specs.Listed.{ListAnswers, StopsList, has_places, listed_text};
 ghost use Rattle.tigertopo_lists.specs.Listed.{is_skipping, reads_again, refusals_last, refused_form, stops_refused, wanted_of};
-ghost use Rattle.tigertopo_lists.specs.Keeping.{AreFeatures, ArePlaced, ArePrepared, IsRefusedList, first_stop};
+ghost use Rattle.tigertopo_lists.specs.Keeping.{AnswersFound, ArePrepared, ArePreparedOf, first_stop};
 
 use crate::collection::make_without_faults;
 use crate::listed::Listed;
 use crate::listing::{Wanted, has_places, most_of};
 use crate::skipping::tell_left;
-use crate::speaking::featured;
+use crate::speaking::{featured, speak_of};
 use arrayvec::ArrayString;
-use std::alloc::Global;
+use std::alloc::{AllocError, Global};
 use std::hash::RandomState;
 use tigertopo_faults::objects::refusals_end;
 use tigertopo_files::FileSystem;
 use tigertopo_outcome::said::Answer;
 use tigertopo_outcome::stop::REFUSED;
-use tigertopo_where::hint::{RefusedForm, place_refusals};
+use tigertopo_where::hint::{FoundLine, RefusedForm, push_refusals};
 use tigertopo_words::{Form, Told};
 use tl_cert_output::Stop;
 use tl_list::LeftFaults;
@@ -81,7 +85,7 @@ fn tell_refusals<F: FileSystem>(
         → Does w [] asked.made (λ answer. ListAnswers w options known asked answer.status (listed_text answer.text))
         (StopsList w options known asked) result }
 {
-    let prepared = prepare_refused(files, alloc, options, names, wanted, list)?;
+    let prepared = prepare_refused(files, alloc, hasher, options, names, wanted, list)?;
     make_without_faults(
         files,
         alloc,
@@ -93,10 +97,11 @@ fn tell_refusals<F: FileSystem>(
     Ok(prepared.0)
 }
 
-/// What is answered of lines that are refused, and the features of those that the file has, which is made of them if it is wanted.
-pub(crate) fn prepare_refused<F: FileSystem>(
+// What is answered of lines that are refused, and the features of those that the file has, which is made of them if it is wanted.
+fn prepare_refused<F: FileSystem>(
     files: &mut F,
     alloc: Global,
+    hasher: RandomState,
     options: Options,
     names: &[String],
     wanted: Wanted<'_>,
@@ -108,41 +113,57 @@ pub(crate) fn prepare_refused<F: FileSystem>(
     ensures stays { F.under files.new ≡ F.under files.old }
     ensures logged { F.knows ≡ true → LogsAgain (F.log files.old) (F.log files.new) result }
 {
-    let listed = list.as_slice();
-    let shown = featured(wanted.told, listed);
-    let features = place_features(files, alloc, options, names, wanted.made, shown)?;
-    let most = most_of(wanted.told);
-    let answer = tell_all_refused(files, alloc, options, names, wanted.form, most, list)?;
+    let refusals = list.as_slice();
+    let spoken = speak_of(
+        files,
+        alloc,
+        hasher,
+        names,
+        options,
+        wanted,
+        refusals,
+        None,
+        &[],
+    )?;
+    let found = spoken.refused.as_slice();
+    Ok(refused_texts(alloc, options, names, wanted, list, found)?)
+}
+
+/// The same of lines that were found in files.
+pub(crate) fn refused_texts(
+    alloc: Global,
+    options: Options,
+    names: &[String],
+    wanted: Wanted<'_>,
+    list: Vec<Refusal>,
+    found: &[FoundLine],
+) -> Result<(Answer<Listed>, Vec<u8>), AllocError>
+    ensures { IfOk result (ArePreparedOf (layout_with options) (wanted_of (map_list string_bytes names.now) wanted.entry) list found.now) }
+{
+    let shown = featured(wanted.told, list.as_slice());
+    let features = features_of(alloc, options, names, wanted.made, shown, found)?;
+    let answer = tell_all_refused(alloc, options, names, wanted, list, found)?;
     Ok((answer, features))
 }
 
-// The features of refused lines, each with where it stands and with a comma in front, if a file is made of them.
-fn place_features<F: FileSystem>(
-    files: &mut F,
+// The features of refused lines, each with where it was found and with a comma in front, if a file is made of them.
+fn features_of(
     alloc: Global,
     options: Options,
     names: &[String],
     made: &Option<String>,
     refusals: &[Refusal],
-) -> Result<Vec<u8>, Stop>
-    ensures placed { IfOk result (λ text. AreFeatures (option_map string_bytes made.now) (layout_with options) (F.under files.old)
-        (map_list string_bytes names.now) refusals.now text.items) }
-    ensures stops { IfErr result (StopsFor ((is_some (option_map string_bytes made.now) ≡ true)
-        × FailsAgain (world F.under F.log F.knows files.old files.new) (map_list string_bytes names.now))) }
-    ensures stays { F.under files.new ≡ F.under files.old }
-    ensures logged { F.knows ≡ true → LogsAgain (F.log files.old) (F.log files.new) result }
+    found: &[FoundLine],
+) -> Result<Vec<u8>, AllocError>
+    ensures { IfOk result (λ text. is_some (option_map string_bytes made.now) ≡ true
+        → text.items ≡ found_text Features (layout_with options) (map_list string_bytes names.now) refusals.now found.now) }
 {
-    match made {
-        Some(_) => place_refusals(
-            files,
-            alloc,
-            names,
-            options,
-            RefusedForm::Features,
-            refusals,
-        ),
-        None => Ok(Vec::new(alloc)),
+    let mut text = Vec::new(alloc);
+    if made.is_some() {
+        let form = RefusedForm::Features;
+        push_refusals(&mut text, form, options, names, refusals, found)?;
     }
+    Ok(text)
 }
 
 /// Whether refused lines are skipped.
@@ -166,23 +187,19 @@ fn stops_refused(told: Told, form: Form) -> bool
     }
 }
 
-// Answers lines that are refused: all, or so many from the front, with where they stand if the form has that.
-fn tell_all_refused<F: FileSystem>(
-    files: &mut F,
+// Answers lines that are refused: all, or so many from the front, with where they were found if the form has that.
+fn tell_all_refused(
     alloc: Global,
     options: Options,
     names: &[String],
-    form: Form,
-    most: Option<u64>,
+    wanted: Wanted<'_>,
     list: Vec<Refusal>,
-) -> Result<Answer<Listed>, Stop>
-    ensures answered { IfOk result (IsRefusedList (layout_with options) (F.under files.old) (map_list string_bytes names.now) form most list) }
-    ensures stops { IfErr result (StopsFor ((has_places form ≡ true)
-        × FailsAgain (world F.under F.log F.knows files.old files.new) (map_list string_bytes names.now))) }
-    ensures stays { F.under files.new ≡ F.under files.old }
-    ensures logged { F.knows ≡ true → LogsAgain (F.log files.old) (F.log files.new) result }
+    found: &[FoundLine],
+) -> Result<Answer<Listed>, AllocError>
+    ensures { IfOk result (AnswersFound (layout_with options) (wanted_of (map_list string_bytes names.now) wanted.entry) list found.now) }
 {
-    if !has_places(form) {
+    let most = most_of(wanted.told);
+    if !has_places(wanted.form) {
         return Ok(Answer {
             status: REFUSED,
             text: Listed::Listing {
@@ -191,31 +208,31 @@ fn tell_all_refused<F: FileSystem>(
             },
         });
     }
-    let text = placed_list(files, alloc, options, names, form, list.as_slice(), most)?;
+    let listed = list.as_slice();
+    let text = placed_list(alloc, options, names, wanted.form, listed, most, found)?;
     Ok(Answer {
         status: REFUSED,
         text: Listed::Lines(text),
     })
 }
 
-// Lines that are refused, all or so many from the front, each with where it stands, and how many there are.
-fn placed_list<F: FileSystem>(
-    files: &mut F,
+// Lines that are refused, all or so many from the front, each with where it was found, and how many there are.
+fn placed_list(
     alloc: Global,
     options: Options,
     names: &[String],
     form: Form,
     list: &[Refusal],
     most: Option<u64>,
-) -> Result<Vec<u8>, Stop>
-    ensures placed { IfOk result (λ text. ArePlaced form (layout_with options) (F.under files.old) (map_list string_bytes names.now)
-        most list.now text.items) }
-    ensures stops { IfErr result (StopsFor (FailsAgain (world F.under F.log F.knows files.old files.new) (map_list string_bytes names.now))) }
-    ensures stays { F.under files.new ≡ F.under files.old }
-    ensures logged { F.knows ≡ true → LogsAgain (F.log files.old) (F.log files.new) result }
+    found: &[FoundLine],
+) -> Result<Vec<u8>, AllocError>
+    ensures { let shown = printed most list.now in
+        IfOk result (λ text. text.items ≡ found_text (refused_form form) (layout_with options) (map_list string_bytes names.now) shown found.now
+        ++ refusals_last form most (length list.now) (length shown)) }
 {
     let shown = first_of(list, most);
-    let mut text = place_refusals(files, alloc, names, options, refused_form(form), shown)?;
+    let mut text = Vec::new(alloc);
+    push_refusals(&mut text, refused_form(form), options, names, shown, found)?;
     let end = refusals_last(form, most, list.len() as u64, shown.len() as u64);
     text.extend_from_slice(end.as_str().as_bytes())?;
     Ok(text)

@@ -1,6 +1,7 @@
 //! Refused lines that are skipped, as they are answered with the faults of the records that are left, and the file of both.
 
-ghost use Rattle.std.specs.Prelude.{◌≡◌, ◌++◌, [], true, ℕ, List, Option, Some, IfOk, IfErr, IfSome, map as map_list, option_copied, option_map, string_bytes};
+ghost use Rattle.std.specs.Prelude.{◌≡◌, ◌++◌, [], true, ℕ, List, Option, Some, IfOk, IfErr, IfSome};
+ghost use Rattle.std.specs.Prelude.{map as map_list, option_copied, option_map, string_bytes};
 ghost use Rattle.tl_record.specs.Layout.{layout_with};
 ghost use Rattle.tl_cert_output.specs.Stops.{StopsFor};
 ghost use Rattle.tl_cert_output.specs.declared.stop.Stop.TheVariants.{Memory};
@@ -16,9 +17,9 @@ ghost use Rattle.tigertopo_lists.specs.Keeping.{IsLeftPrepared};
 
 use crate::collection::make_collection;
 use crate::listed::Listed;
-use crate::listing::{Wanted, reads_again};
+use crate::listing::Wanted;
 use crate::prepared::whole_text;
-use crate::refused::prepare_refused;
+use crate::refused::refused_texts;
 use crate::speaking::{featured, speak_of};
 use arrayvec::ArrayString;
 use std::alloc::Global;
@@ -107,10 +108,9 @@ fn prepare_left<F: FileSystem>(
     let drawn = left.map.as_ref();
     let faults = left.faults.as_slice();
     let shown = featured(wanted.told, faults);
-    let again = reads_again(wanted.form, wanted.made);
-    let passed = list.as_slice();
+    let refusals = list.as_slice();
     let spoken = speak_of(
-        files, alloc, hasher, names, options, passed, drawn, again, shown,
+        files, alloc, hasher, names, options, wanted, refusals, drawn, shown,
     )?;
     let told = whole_text(
         alloc,
@@ -122,8 +122,9 @@ fn prepare_left<F: FileSystem>(
         faults,
         left.touched,
     )?;
-    let count = passed.len() as u64;
-    let refused = prepare_refused(files, alloc, options, names, wanted, list)?;
+    let count = refusals.len() as u64;
+    let found = spoken.refused.as_slice();
+    let refused = refused_texts(alloc, options, names, wanted, list, found)?;
     let behind = told.as_slice();
     let text = text_of_all(alloc, &refused.0.text, behind, wanted.form, count)?;
     Ok(LeftTexts {

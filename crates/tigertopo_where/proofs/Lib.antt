@@ -5,4 +5,5 @@ pub mod ShownLemmas
 pub mod DegreeLemmas
 pub mod LocationLemmas
 pub mod HintLemmas
+pub mod FoundLemmas
 pub mod PlacedLemmas

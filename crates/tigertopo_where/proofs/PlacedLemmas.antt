@@ -1,362 +1,262 @@
--- Refused lines and where they stand.
-use Rattle.std.proofs.Common.{◌≡◌, ℕ, zero, suc, ◌+◌, ◌-◌, ◌≤◌, ◌<◌, nat_le, Bool, true, false, List, [], ◌∷◌, ◌++◌, Option, None, Some, map, length, take, drop, get_or, refl, sym, ap, subst, ◌∙◌, arith, append_assoc, append-nil}
-use Rattle.std.specs.Prelude.{option_map, IfSome}
-use Rattle.std.specs.Option.{option_map_or}
-use Rattle.std.proofs.Math.Seq.{take-add}
-use Rattle.std.proofs.lemmas.Option.{IfSome_then}
-use Rattle.std.proofs.lemmas.Bool.{le-leb, lt-leb}
-use Rattle.std.proofs.lemmas.List.{length-append, length-take-le, take_all, drop_all, drop-drop, take-append-drop, length-drop}
+-- Refused lines that were found, as they are told with where they stand.
+use Rattle.std.proofs.Common.{◌≡◌, ◌≢◌, ℕ, zero, suc, ◌+◌, ◌-◌, ◌==◌, ◌≤◌, ◌<◌, nat_le, Bool, true, false, List, [], ◌∷◌, ◌++◌, Option, None, Some, map, length, take, drop, get_or, refl, sym, ap, ap₂, ◌∙◌, arith, append_assoc, append-nil, inl, inr}
+use Rattle.std.specs.Prelude.{option_map, slice_get, slice_index_or}
+use Rattle.std.specs.Option.{option_map_or, option_and_then}
+use Rattle.std.proofs.lemmas.Bool.{cases_Bool, cases_eq, leb-true, leb-false}
+use Rattle.std.proofs.lemmas.Bool.Decides.{nat_tests}
+use Rattle.std.proofs.lemmas.List.{length-drop, take_all, take-append-drop}
 use Rattle.tl_record.specs.declared.layout.Layout.{Layout}
 use Rattle.tl_record.specs.declared.refusal.Refusal.{Refusal}
 use Rattle.tl_record.specs.declared.stop.Cause.{Cause}
 use Rattle.tl_record.specs.Limits.{most_line_bytes}
 use Rattle.tl_record.specs.Lines.{raw_lines}
-use Rattle.tigertopo_files.specs.Files.{Under, bytes_under}
-use Rattle.tigertopo_where.specs.declared.lines.Found.TheVariants.{Line}
-use Rattle.tigertopo_where.specs.declared.hint.placed.ToldLines.{ToldLines}
-use Rattle.tigertopo_where.specs.Finding.{PassesTo, Shows}
-use Rattle.tigertopo_where.specs.LinePlaces.{line_at, line_count, place_of, text_on}
+use Rattle.tigertopo_files.specs.Files.{Under}
 use Rattle.tigertopo_where.specs.declared.hint.form.RefusedForm.{RefusedForm}
-use Rattle.tigertopo_where.specs.Hint.Telling.{HaveTexts}
-use Rattle.tigertopo_where.specs.Hint.Placed.{refused_text, no_place, told_place, placed_text, place_among, places_of, line_in, RiseFrom, IsPlaced}
-use Rattle.tigertopo_where.specs.Hint.Placing.{place_in, behind, TellsFirst, AreTold, ArePlacedFirst, TellsOne}
-use Rattle.tigertopo_where.proofs.HintLemmas.HintLemmas.{one_left, same_count, same_got, text_at}
-use Rattle.tigertopo_where.proofs.FindingLemmas.{line_within}
+use Rattle.tigertopo_where.specs.declared.hint.found.FoundLine.{FoundLine}
+use Rattle.tigertopo_where.specs.LinePlaces.{line_at, line_count, place_of, text_on}
+use Rattle.tigertopo_where.specs.Hint.Found.{found_line, found_place, found_text, numbered, all_numbered, next_cause, next_found, found_among, AreFound}
+use Rattle.tigertopo_where.specs.Hint.Placed.{refused_text, no_place, told_place, placed_text, line_in, places_of, RiseFrom, IsPlaced}
+use Rattle.tigertopo_where.proofs.FoundLemmas.{long_numbered}
+use Rattle.tigertopo_where.proofs.HintLemmas.HintLemmas.{fused}
 
--- what is told of a line that was found
-pub shown_in : (told : List ℕ → List ℕ) (none : List ℕ) (line : Option (List ℕ)) (bytes : List ℕ) (len : ℕ) (goes_on : Bool) → Shows line bytes (Line len goes_on)
-    → told (take len bytes) ≡ option_map_or (λ l. told (take most_line_bytes l)) line none
-shown_in told none None bytes len goes_on shows = absurd (let wrong = shows in cc)
-shown_in told none (Some line) bytes len goes_on shows = ap told shows.1
+-- what is left behind so many, as a slice
+pub behind_slice : {A : Type 0} (xs : List A) (i : ℕ) → take (length xs - i) (drop i xs) ≡ drop i xs
+behind_slice xs i = let long = length-drop i xs in take_all (length xs - i) (drop i xs) (omega (arith, long))
 
--- one more was told
-pub placed_more : (form : RefusedForm) (refusals : List Refusal) (told : List (List ℕ)) (refusal : Refusal) (place : List ℕ) → length told ≡ length refusals
-    → placed_text form (refusals ++ refusal ∷ []) (told ++ place ∷ []) ≡ placed_text form refusals told ++ (refused_text form refusal ++ place)
-placed_more form [] [] refusal place same = append-nil (refused_text form refusal ++ place)
-placed_more form [] (other ∷ told) refusal place same = absurd (omega arith)
-placed_more form (first ∷ refusals) [] refusal place same = absurd (omega arith)
-placed_more form (first ∷ refusals) (other ∷ told) refusal place same =
-    ap (λ t. refused_text form first ++ other ++ t) (placed_more form refusals told refusal place (omega arith))
-    ∙ sym (append_assoc (refused_text form first ++ other) (placed_text form refusals told) (refused_text form refusal ++ place))
+-- ---- one more is told
 
--- the same where no places are told
-pub plain_more : (form : RefusedForm) (refusals : List Refusal) (refusal : Refusal)
-    → placed_text form (refusals ++ refusal ∷ []) [] ≡ placed_text form refusals [] ++ (refused_text form refusal ++ no_place form)
-plain_more form [] refusal = append-nil (refused_text form refusal ++ no_place form)
-plain_more form (first ∷ refusals) refusal =
-    ap (λ t. refused_text form first ++ no_place form ++ t) (plain_more form refusals refusal)
-    ∙ sym (append_assoc (refused_text form first ++ no_place form) (placed_text form refusals []) (refused_text form refusal ++ no_place form))
+-- what is told of the place of a refused line with this number
+abbrev place_at : RefusedForm → List (List ℕ) → ℕ → List ℕ
+place_at form told i = option_map_or (λ (place : List ℕ). place) (slice_get told i) (no_place form)
 
--- each of these lines comes behind the one before, and the first behind those that were passed
-abbrev pub Rises : ℕ → List Refusal → Type 0
-Rises passed refusals = (before : ℕ) × (passed ≤ before) × RiseFrom before refusals
+placed_step : (form : RefusedForm) (refusals : List Refusal) (told : List (List ℕ)) (i : ℕ) (refusal : Refusal) → i < length refusals → refusal ≡ get_or refusals i refusal
+    → placed_text form (take (i + 1) refusals) told ≡ placed_text form (take i refusals) told ++ (refused_text form refusal ++ place_at form told i)
+placed_step form [] told i refusal within is = absurd (omega arith)
+placed_step form (first ∷ rest) [] zero refusal within is =
+    append-nil (refused_text form first ++ no_place form) ∙ ap (λ r. refused_text form r ++ no_place form) (sym is)
+placed_step form (first ∷ rest) (place ∷ told) zero refusal within is =
+    append-nil (refused_text form first ++ place) ∙ ap (λ r. refused_text form r ++ place) (sym is)
+placed_step form (first ∷ rest) [] (suc i) refusal within is =
+    let next : suc i + 1 ≡ suc (i + 1) = omega arith in
+    ap (λ n. placed_text form (take n (first ∷ rest)) []) next
+    ∙ ap (λ t. refused_text form first ++ no_place form ++ t) (placed_step form rest [] i refusal (omega (arith, within)) is)
+    ∙ sym (append_assoc (refused_text form first ++ no_place form) (placed_text form (take i rest) []) (refused_text form refusal ++ no_place form))
+placed_step form (first ∷ rest) (place ∷ told) (suc i) refusal within is =
+    let next : suc i + 1 ≡ suc (i + 1) = omega arith in
+    ap (λ n. placed_text form (take n (first ∷ rest)) (place ∷ told)) next
+    ∙ ap (λ t. refused_text form first ++ place ++ t) (placed_step form rest told i refusal (omega (arith, within)) is)
+    ∙ sym (append_assoc (refused_text form first ++ place) (placed_text form (take i rest) told) (refused_text form refusal ++ place_at form told i))
 
--- ---- a refusal more, on the way through a text
+got_place : {A : Type 0} (h : A → List ℕ) (none : List ℕ) (found : List A) (i : ℕ)
+    → option_map_or h (slice_get found i) none ≡ option_map_or (λ (place : List ℕ). place) (slice_get (map h found) i) none
+got_place h none [] i = refl
+got_place h none (first ∷ found) zero = refl
+got_place h none (first ∷ found) (suc i) = got_place h none found i
 
-taken_more : (refusals : List Refusal) (i : ℕ) (refusal : Refusal) → i < length refusals → refusal ≡ get_or refusals i refusal → take (i + 1) refusals ≡ take i refusals ++ refusal ∷ []
-taken_more [] i refusal within is = absurd (omega arith)
-taken_more (first ∷ refusals) zero refusal within is = ap (λ r. r ∷ []) (sym is)
-taken_more (first ∷ refusals) (suc i) refusal within is =
-    let next : suc i + 1 ≡ suc (i + 1) = omega arith in rw next (ap (λ l. first ∷ l) (taken_more refusals i refusal (omega arith) is))
+pub told_more : {A : Type 0} (h : A → List ℕ) (form : RefusedForm) (refusals : List Refusal) (found : List A) (i : ℕ) (refusal : Refusal) (first old mid new : List ℕ) → i < length refusals → refusal ≡ get_or refusals i refusal
+    → old ≡ first ++ placed_text form (take i refusals) (map h found) → mid ≡ old ++ refused_text form refusal → new ≡ mid ++ option_map_or h (slice_get found i) (no_place form)
+    → new ≡ first ++ placed_text form (take (i + 1) refusals) (map h found)
+told_more h form refusals found i refusal first old mid new within is so_far grown ended =
+    let told = map h found in
+    let place = place_at form told i in
+    ended ∙ ap (λ t. mid ++ t) (got_place h (no_place form) found i) ∙ ap (λ t. t ++ place) grown ∙ append_assoc old (refused_text form refusal) place
+    ∙ ap (λ t. t ++ (refused_text form refusal ++ place)) so_far ∙ append_assoc first (placed_text form (take i refusals) told) (refused_text form refusal ++ place)
+    ∙ ap (λ t. first ++ t) (sym (placed_step form refusals told i refusal within is))
 
-long_taken : (refusals : List Refusal) (i : ℕ) → i ≤ length refusals → length (take i refusals) ≡ i
-long_taken refusals i within = length-take-le i refusals within
+-- ---- what is told of lines that were found is told of where they stand
 
--- one more was told with no place, behind a text
-pub plain_one_more : (form : RefusedForm) (refusals : List Refusal) (i : ℕ) (refusal : Refusal) (first old mid new : List ℕ) → i < length refusals → refusal ≡ get_or refusals i refusal
-    → old ≡ first ++ placed_text form (take i refusals) [] → mid ≡ old ++ refused_text form refusal → new ≡ mid ++ no_place form → new ≡ first ++ placed_text form (take (i + 1) refusals) []
-plain_one_more form refusals i refusal first old mid new within is so_far grown ended =
-    ended ∙ ap (λ t. t ++ no_place form) grown ∙ append_assoc old (refused_text form refusal) (no_place form)
-    ∙ ap (λ t. t ++ (refused_text form refusal ++ no_place form)) so_far ∙ append_assoc first (placed_text form (take i refusals) []) (refused_text form refusal ++ no_place form)
-    ∙ ap (λ t. first ++ t) (sym (plain_more form (take i refusals) refusal) ∙ ap (λ rs. placed_text form rs []) (sym (taken_more refusals i refusal within is)))
+-- what is told of the places of all
+abbrev padded : RefusedForm → List Refusal → List (List ℕ) → List (List ℕ)
+padded form [] told = []
+padded form (refusal ∷ rest) [] = no_place form ∷ padded form rest []
+padded form (refusal ∷ rest) (place ∷ told) = place ∷ padded form rest told
 
-rises_on : (refusals : List Refusal) (i passed now : ℕ) (refusal : Refusal) → i < length refusals → refusal ≡ get_or refusals i refusal → Rises passed (drop i refusals)
-    → (passed < refusal.line → now < refusal.line) → (passed < refusal.line) × Rises now (drop (i + 1) refusals)
-rises_on refusals i passed now refusal within is rises goes =
-    let split = one_left refusals i refusal within is in
-    let there = rw split at rises in
-    let ahead : passed < refusal.line = omega (arith, there.1, there.2.0) in
-    (ahead, (refusal.line, (let less = goes ahead in omega (arith, less)), there.2.1))
+padded_same : (form : RefusedForm) (refusals : List Refusal) (told : List (List ℕ)) → placed_text form refusals told ≡ placed_text form refusals (padded form refusals told)
+padded_same form [] told = refl
+padded_same form (refusal ∷ rest) [] = ap (λ t. refused_text form refusal ++ no_place form ++ t) (padded_same form rest [])
+padded_same form (refusal ∷ rest) (place ∷ told) = ap (λ t. refused_text form refusal ++ place ++ t) (padded_same form rest told)
 
 rises_less : (now line : ℕ) (refusals : List Refusal) → now ≤ line → RiseFrom line refusals → RiseFrom now refusals
 rises_less now line [] less rise = tt
 rises_less now line (refusal ∷ rest) less rise = (omega (arith, less, rise.0), rise.1)
 
--- ---- a place among the first of several files, and among those behind it
+-- ---- the item with a number, which counts from 1
 
-module _ (form : RefusedForm) (layout : Layout) (name : List ℕ) (names : List (List ℕ)) (text : List ℕ) (texts : List (List ℕ)) where
-  first_place : (number : ℕ) (cause : Cause) → number ≤ line_count text
-      → place_among form layout (name ∷ names) (text ∷ texts) (record { line = number; cause = cause }) ≡ place_in form layout name text number cause
-  first_place number cause here = let yes : nat_le number (line_count text) ≡ true = le-leb number (line_count text) here in rw yes refl
+abbrev at_number : {A : Type 0} → ℕ → List A → Option A
+at_number zero xs = None
+at_number (suc before) xs = slice_get xs before
 
-  one_on : (cause : Cause) (place : Option (ℕ × ℕ))
-      → option_map_or (line_in form layout (name ∷ names) (text ∷ texts) cause) (option_map text_on place) (no_place form) ≡ option_map_or (line_in form layout names texts cause) place (no_place form)
-  one_on cause None = refl
-  one_on cause (Some place) = let next : place.0 + 1 ≡ suc place.0 = omega arith in rw next refl
+at_none : {A : Type 0} (number : ℕ) → (let none : Option A = None in at_number number [] ≡ none)
+at_none zero = refl
+at_none (suc before) = refl
 
-  later_place : (number : ℕ) (cause : Cause) → line_count text < number
-      → place_among form layout (name ∷ names) (text ∷ texts) (record { line = number; cause = cause }) ≡ place_among form layout names texts (record { line = number - line_count text; cause = cause })
-  later_place number cause past =
-      let no : nat_le number (line_count text) ≡ false = lt-leb number (line_count text) past in
-      rw no (one_on cause (place_of (map line_count texts) (number - line_count text)))
+at_line : (number : ℕ) (lines : List (List ℕ)) → at_number number lines ≡ line_at number lines
+at_line zero lines = refl
+at_line (suc before) lines = refl
 
-  pub later_places : (before now : ℕ) (refusals : List Refusal) → now ≡ before + line_count text → RiseFrom now refusals
-      → places_of form layout names texts (behind now refusals) ≡ places_of form layout (name ∷ names) (text ∷ texts) (behind before refusals)
-  later_places before now [] is rise = refl
-  later_places before now (refusal ∷ rest) is rise =
-      let less : refusal.line - before - line_count text ≡ refusal.line - now = omega (arith, is) in
-      let here = later_place (refusal.line - before) refusal.cause (omega (arith, is, rise.0)) in
-      let there = later_places before now rest is (rises_less now refusal.line rest (omega (arith, rise.0)) rise.1) in
-      let same = ap (λ (n : ℕ). place_among form layout names texts (record { line = n; cause = refusal.cause })) (sym less) ∙ sym here in
-      λ i. same i ∷ there i
+at_on : {A : Type 0} (passed number : ℕ) (line : A) (lines : List A) → passed + 1 < number → at_number (number - (passed + 1)) lines ≡ at_number (number - passed) (line ∷ lines)
+at_on passed number line lines ahead =
+    let here : number - (passed + 1) ≡ suc (number - (passed + 2)) = omega (arith, ahead) in
+    let there : number - passed ≡ suc (suc (number - (passed + 2))) = omega (arith, ahead) in
+    rw (here, there) refl
 
-pub place_found : (form : RefusedForm) (layout : Layout) (name text : List ℕ) (refusal : Refusal) (before number : ℕ) (bytes : List ℕ) (len : ℕ) (goes_on : Bool) → number ≡ refusal.line - before
-    → Shows (line_at number (raw_lines text)) bytes (Line len goes_on)
-    → (told_place form layout name number (take len bytes) refusal.cause ≡ place_in form layout name text (refusal.line - before) refusal.cause) × (refusal.line - before ≤ line_count text)
-place_found form layout name text refusal before number bytes len goes_on is shows =
-    rw (← is) (
-      shown_in (λ line. told_place form layout name number line refusal.cause) (no_place form) (line_at number (raw_lines text)) bytes len goes_on shows,
-      line_within (raw_lines text) number bytes len goes_on shows,
-    )
+got_front : {A : Type 0} (xs ys : List A) (i : ℕ) → i < length xs → slice_get (xs ++ ys) i ≡ slice_get xs i
+got_front [] ys i within = absurd (omega arith)
+got_front (x ∷ xs) ys zero within = refl
+got_front (x ∷ xs) ys (suc i) within = got_front xs ys i (omega (arith, within))
 
--- ---- how many of the refused lines of a file were told
+got_past : {A : Type 0} (xs ys : List A) (i : ℕ) → slice_get (xs ++ ys) (length xs + i) ≡ slice_get ys i
+got_past [] ys i = let same : 0 + i ≡ i = omega arith in ap (slice_get ys) same
+got_past (x ∷ xs) ys i = let next : suc (length xs) + i ≡ suc (length xs + i) = omega arith in ap (slice_get (x ∷ (xs ++ ys))) next ∙ got_past xs ys i
 
--- what was told so far of refused lines that come behind so many lines, in a file of this name and of a text that may be known
-abbrev pub ToldSoFar : RefusedForm → Layout → List ℕ → ℕ → Option (List ℕ) → List Refusal → (count passed : ℕ) → List ℕ → Type 0
-ToldSoFar form layout name before known refusals count passed text =
-    (told : List (List ℕ)) × (length told ≡ count) × (text ≡ placed_text form (take count refusals) told)
-    × IfSome known (λ held. RiseFrom before refusals → Rises (before + passed) (drop count refusals)
-    × ((names texts : List (List ℕ)) → told ++ places_of form layout (name ∷ names) (held ∷ texts) (behind before (drop count refusals))
-    ≡ places_of form layout (name ∷ names) (held ∷ texts) (behind before refusals)))
+at_front : {A : Type 0} (xs ys : List A) (number : ℕ) → number ≤ length xs → at_number number (xs ++ ys) ≡ at_number number xs
+at_front xs ys zero within = refl
+at_front xs ys (suc before) within = got_front xs ys before (omega (arith, within))
 
-module _ (form : RefusedForm) (layout : Layout) (name : List ℕ) (before : ℕ) where
-  pub told_none : (known : Option (List ℕ)) (refusals : List Refusal) (text : List ℕ) → text ≡ [] → ToldSoFar form layout name before known refusals 0 0 text
-  told_none None refusals text none = ([], refl, none, tt)
-  told_none (Some held) refusals text none = ([], refl, none, λ rise. ((before, omega arith, rise), λ names texts. refl))
+at_past : {A : Type 0} (xs ys : List A) (number : ℕ) → length xs < number → at_number number (xs ++ ys) ≡ at_number (number - length xs) ys
+at_past xs ys number past =
+    let here : number ≡ suc (length xs + (number - length xs - 1)) = omega (arith, past) in
+    let there : number - length xs ≡ suc (number - length xs - 1) = omega (arith, past) in
+    ap (λ n. at_number n (xs ++ ys)) here ∙ got_past xs ys (number - length xs - 1) ∙ sym (ap (λ n. at_number n ys) there)
 
-  known_more : (known : Option (List ℕ)) (refusals : List Refusal) (i passed now : ℕ) (refusal : Refusal) (told : List (List ℕ)) (added : List ℕ)
-      → i < length refusals → refusal ≡ get_or refusals i refusal
-      → IfSome known (λ held. RiseFrom before refusals → Rises (before + passed) (drop i refusals)
-      × ((names texts : List (List ℕ)) → told ++ places_of form layout (name ∷ names) (held ∷ texts) (behind before (drop i refusals)) ≡ places_of form layout (name ∷ names) (held ∷ texts) (behind before refusals)))
-      → IfSome known (λ held. before + passed < refusal.line → (added ≡ place_in form layout name held (refusal.line - before) refusal.cause) × (refusal.line - before ≤ line_count held))
-      → (before + passed < refusal.line → before + now < refusal.line)
-      → IfSome known (λ held. RiseFrom before refusals → Rises (before + now) (drop (i + 1) refusals)
-      × ((names texts : List (List ℕ)) → (told ++ added ∷ []) ++ places_of form layout (name ∷ names) (held ∷ texts) (behind before (drop (i + 1) refusals)) ≡ places_of form layout (name ∷ names) (held ∷ texts) (behind before refusals)))
-  known_more None refusals i passed now refusal told added within is so_far tells goes = tt
-  known_more (Some held) refusals i passed now refusal told added within is so_far tells goes = λ rise.
-      let now_told = so_far rise in
-      let on = rises_on refusals i (before + passed) (before + now) refusal within is now_told.0 goes in
-      let one = tells on.0 in
-      let split = one_left refusals i refusal within is in (
-        on.1,
-        λ names texts.
-            let rest = places_of form layout (name ∷ names) (held ∷ texts) (behind before (drop (i + 1) refusals)) in
-            let here : added ≡ place_among form layout (name ∷ names) (held ∷ texts) (record { line = refusal.line - before; cause = refusal.cause }) =
-            one.0 ∙ sym (first_place form layout name names held texts (refusal.line - before) refusal.cause one.1) in
-            append_assoc told (added ∷ []) rest ∙ ap (λ (place : List ℕ). told ++ place ∷ rest) here
-            ∙ ap (λ (l : List Refusal). told ++ places_of form layout (name ∷ names) (held ∷ texts) (behind before l)) (sym split) ∙ now_told.1 names texts,
-      )
+got_numbered : (file passed : ℕ) (lines : List (List ℕ)) (i : ℕ)
+    → slice_get (numbered file passed lines) i ≡ option_map (λ (line : List ℕ). (file, (passed + suc i, take most_line_bytes line))) (slice_get lines i)
+got_numbered file passed [] i = refl
+got_numbered file passed (line ∷ rest) zero = refl
+got_numbered file passed (line ∷ rest) (suc i) =
+    let next : passed + 1 + suc i ≡ passed + suc (suc i) = omega arith in
+    got_numbered file (passed + 1) rest i ∙ ap (λ (n : ℕ). option_map (λ (line : List ℕ). (file, (n, take most_line_bytes line))) (slice_get rest i)) next
 
-  pub told_more : (known : Option (List ℕ)) (Passes : List ℕ → Type 0) (refusals : List Refusal) (i passed now : ℕ) (refusal : Refusal) (old new : List ℕ)
-      → i < length refusals → refusal ≡ get_or refusals i refusal → ToldSoFar form layout name before known refusals i passed old
-      → TellsOne form layout name before refusal passed now old new Passes true → IfSome known Passes
-      → (before + passed < refusal.line → before + now < refusal.line) → ToldSoFar form layout name before known refusals (i + 1) now new
-  told_more known Passes refusals i passed now refusal old new within is so_far one stands goes =
-      let told = so_far.0 in
-      let long : length (told ++ one.0 ∷ []) ≡ i + 1 = length-append told (one.0 ∷ []) ∙ ap (λ n. n + 1) so_far.1 in
-      let taken = taken_more refusals i refusal within is in
-      let same : length told ≡ length (take i refusals) = so_far.1 ∙ sym (long_taken refusals i (omega arith)) in (
-        told ++ one.0 ∷ [],
-        long,
-        one.1 ∙ ap (λ t. t ++ (refused_text form refusal ++ one.0)) so_far.2 ∙ sym (placed_more form (take i refusals) told refusal one.0 same) ∙ ap (λ rs. placed_text form rs (told ++ one.0 ∷ [])) (sym taken),
-        known_more known refusals i passed now refusal told one.0 within is so_far.3 (IfSome_then known stands (λ held passes. one.2 held passes)) goes,
-      )
+at_numbered : (file : ℕ) (lines : List (List ℕ)) (number : ℕ)
+    → at_number number (numbered file 0 lines) ≡ option_map (λ (line : List ℕ). (file, (number, take most_line_bytes line))) (line_at number lines)
+at_numbered file lines zero = refl
+at_numbered file lines (suc before) =
+    let same : 0 + suc before ≡ suc before = omega arith in
+    got_numbered file 0 lines before ∙ ap (λ (n : ℕ). option_map (λ (line : List ℕ). (file, (n, take most_line_bytes line))) (slice_get lines before)) same
 
-  -- the next one comes behind the file
-  left_known : (known : Option (List ℕ)) (Passes : List ℕ → Type 0) (refusals : List Refusal) (i passed now : ℕ) (refusal : Refusal) (told : List (List ℕ)) → i < length refusals → refusal ≡ get_or refusals i refusal
-      → IfSome known (λ held. RiseFrom before refusals → Rises (before + passed) (drop i refusals)
-      × ((names texts : List (List ℕ)) → told ++ places_of form layout (name ∷ names) (held ∷ texts) (behind before (drop i refusals)) ≡ places_of form layout (name ∷ names) (held ∷ texts) (behind before refusals)))
-      → before + now < refusal.line → ((held : List ℕ) → Passes held → now ≡ line_count held) → IfSome known Passes
-      → IfSome known (λ held. RiseFrom before refusals → RiseFrom (before + now) (drop i refusals) × TellsFirst form layout name held before refusals told (before + now) (drop i refusals))
-  left_known None Passes refusals i passed now refusal told within is so_far ahead counts stands = tt
-  left_known (Some held) Passes refusals i passed now refusal told within is so_far ahead counts stands = λ rise.
-      let now_told = so_far rise in
-      let split = one_left refusals i refusal within is in
-      let rising = now_told.0 in
-      let behind_it = rw split at rising in
-      let rest : RiseFrom (before + now) (refusal ∷ drop (i + 1) refusals) = (ahead, behind_it.2.1) in
-      let all : RiseFrom (before + now) (drop i refusals) = subst (RiseFrom (before + now)) (sym split) rest in (
-        all,
-        λ names texts.
-            ap (λ (l : List (List ℕ)). told ++ l) (later_places form layout name names held texts before (before + now) (drop i refusals) (ap (λ (n : ℕ). before + n) (counts held stands)) all)
-            ∙ now_told.1 names texts,
-      )
+-- ---- lines that are found one after the other
 
-  pub told_first : (known : Option (List ℕ)) (Passes : List ℕ → Type 0) (refusals : List Refusal) (i passed : ℕ) (refusal : Refusal) (old : List ℕ) (part : ToldLines)
-      → i < length refusals → refusal ≡ get_or refusals i refusal → ToldSoFar form layout name before known refusals i passed old
-      → part.told ≡ i → TellsOne form layout name before refusal passed part.lines old part.text.items Passes false → IfSome known Passes → AreTold form layout name before refusals known part
-  told_first known Passes refusals i passed refusal old part within is so_far count one stands =
-      rw count (
-        omega arith,
-        λ left. one.2,
-        so_far.0,
-        so_far.1,
-        one.0 ∙ so_far.2,
-        left_known known Passes refusals i passed part.lines refusal so_far.0 within is so_far.3 one.1 one.3 stands,
-      )
+module _ (passed : ℕ) (refusal : Refusal) (others : List Refusal) (line : ℕ × (ℕ × List ℕ)) (lines : List (ℕ × (ℕ × List ℕ))) where
+  abbrev found_by : Option Cause → List (Cause × (ℕ × (ℕ × List ℕ)))
+  found_by cause =
+      let first = option_map_or (λ (c : Cause). (c, line) ∷ []) cause [] in
+      first ++ found_among (passed + 1) (drop (length first) (refusal ∷ others)) lines
 
-  -- all were told
-  all_known : (known : Option (List ℕ)) (refusals : List Refusal) (i passed : ℕ) (told : List (List ℕ)) → length refusals ≤ i
-      → IfSome known (λ held. RiseFrom before refusals → Rises (before + passed) (drop i refusals)
-      × ((names texts : List (List ℕ)) → told ++ places_of form layout (name ∷ names) (held ∷ texts) (behind before (drop i refusals)) ≡ places_of form layout (name ∷ names) (held ∷ texts) (behind before refusals)))
-      → IfSome known (λ held. RiseFrom before refusals → RiseFrom (before + passed) [] × TellsFirst form layout name held before refusals told (before + passed) [])
-  all_known None refusals i passed told all so_far = tt
-  all_known (Some held) refusals i passed told all so_far = λ rise.
-      (tt, λ names texts. ap (λ (l : List Refusal). told ++ places_of form layout (name ∷ names) (held ∷ texts) (behind before l)) (sym (drop_all i refusals all)) ∙ (so_far rise).1 names texts)
+  found_here : refusal.line ≡ passed + 1 → found_among passed (refusal ∷ others) (line ∷ lines) ≡ (refusal.cause, line) ∷ found_among (passed + 1) others lines
+  found_here here = ap found_by (cause_here here)
+    where
+      cause_here : refusal.line ≡ passed + 1 → next_cause (passed + 1) (refusal ∷ others) ≡ Some refusal.cause
+      cause_here same = grind (arith, nat_tests, same)
 
-  pub told_all : (known : Option (List ℕ)) (refusals : List Refusal) (i : ℕ) (part : ToldLines) → length refusals ≤ i → i ≤ length refusals → part.told ≡ length refusals
-      → ToldSoFar form layout name before known refusals i part.lines part.text.items → AreTold form layout name before refusals known part
-  told_all known refusals i part all within count so_far =
-      let same : i ≡ length refusals = omega arith in
-      let none : drop (length refusals) refusals ≡ [] = drop_all (length refusals) refusals (omega arith) in
-      let told = so_far.2 in
-      let told_there = so_far.3 in
-      rw (count, none) (
-        omega arith,
-        λ left. absurd (omega (arith, left)),
-        so_far.0,
-        so_far.1 ∙ same,
-        told ∙ ap (λ (n : ℕ). placed_text form (take n refusals) so_far.0) same,
-        all_known known refusals i part.lines so_far.0 all told_there,
-      )
+  found_later : refusal.line ≢ passed + 1 → found_among passed (refusal ∷ others) (line ∷ lines) ≡ found_among (passed + 1) (refusal ∷ others) lines
+  found_later there = ap found_by (cause_there there)
+    where
+      cause_there : refusal.line ≢ passed + 1 → next_cause (passed + 1) (refusal ∷ others) ≡ None
+      cause_there other = grind (arith, nat_tests, other)
 
--- what is passed of a text that may be known
-pub stands_in : (known now : Option (List ℕ)) (passed : ℕ) → PassesTo passed known now → IfSome known (λ held. PassesTo passed (Some held) now)
-stands_in None now passed passes = tt
-stands_in (Some held) now passed passes = passes
+module _ (form : RefusedForm) (layout : Layout) (names : List (List ℕ)) where
+  -- what is told of a line, if it is there
+  abbrev told_of : Cause → Option (ℕ × (ℕ × List ℕ)) → List ℕ
+  told_of cause line = option_map_or (λ (its : ℕ × (ℕ × List ℕ)). found_place form layout names (cause, its)) line (no_place form)
 
--- ---- one file after the other
+  -- what is told of a refused line among lines that come behind so many
+  abbrev stands_among : ℕ → List (ℕ × (ℕ × List ℕ)) → Refusal → List ℕ
+  stands_among passed lines refusal = told_of refusal.cause (at_number (refusal.line - passed) lines)
 
--- refused lines more behind those that were told
-placed_behind : (form : RefusedForm) (refusals more : List Refusal) (told others : List (List ℕ)) → length told ≡ length refusals
-    → placed_text form (refusals ++ more) (told ++ others) ≡ placed_text form refusals told ++ placed_text form more others
-placed_behind form [] more [] others same = refl
-placed_behind form [] more (place ∷ told) others same = absurd (omega arith)
-placed_behind form (refusal ∷ refusals) more [] others same = absurd (omega arith)
-placed_behind form (refusal ∷ refusals) more (place ∷ told) others same =
-    ap (λ t. refused_text form refusal ++ place ++ t) (placed_behind form refusals more told others (omega arith))
-    ∙ sym (append_assoc (refused_text form refusal ++ place) (placed_text form refusals told) (placed_text form more others))
+  nothing_stands : (passed : ℕ) (refusals : List Refusal) → padded form refusals [] ≡ map (stands_among passed []) refusals
+  nothing_stands passed [] = refl
+  nothing_stands passed (refusal ∷ rest) =
+      ap₂ (λ (p : List ℕ) (l : List (List ℕ)). p ∷ l) (sym (ap (told_of refusal.cause) (at_none (refusal.line - passed)))) (nothing_stands passed rest)
 
-nowhere : (form : RefusedForm) (layout : Layout) (names : List (List ℕ)) (before : ℕ) (refusals : List Refusal) → places_of form layout names [] (behind before refusals) ≡ map (λ refusal. no_place form) refusals
-nowhere form layout names before [] = refl
-nowhere form layout names before (refusal ∷ rest) = ap (λ l. no_place form ∷ l) (nowhere form layout names before rest)
+  stand_on : (passed : ℕ) (line : ℕ × (ℕ × List ℕ)) (lines : List (ℕ × (ℕ × List ℕ))) (refusals : List Refusal) → RiseFrom (passed + 1) refusals
+      → map (stands_among (passed + 1) lines) refusals ≡ map (stands_among passed (line ∷ lines)) refusals
+  stand_on passed line lines [] rise = refl
+  stand_on passed line lines (refusal ∷ rest) rise =
+      ap₂ (λ (p : List ℕ) (l : List (List ℕ)). p ∷ l) (ap (told_of refusal.cause) (at_on passed refusal.line line lines rise.0))
+      (stand_on passed line lines rest (rises_less (passed + 1) refusal.line rest (omega (arith, rise.0)) rise.1))
 
-same_behind : (refusals : List Refusal) → behind 0 refusals ≡ refusals
-same_behind [] = refl
-same_behind (refusal ∷ rest) = let same : refusal.line - 0 ≡ refusal.line = omega arith in λ i. record { line = same i; cause = refusal.cause } ∷ same_behind rest i
+  found_stand : (lines : List (ℕ × (ℕ × List ℕ))) (passed : ℕ) (refusals others : List Refusal) → RiseFrom passed refusals
+      → padded form refusals (map (found_place form layout names) (found_among passed (refusals ++ others) lines)) ≡ map (stands_among passed lines) refusals
+  found_stand lines passed [] others rise = refl
+  found_stand [] passed (refusal ∷ rest) others rise = nothing_stands passed (refusal ∷ rest)
+  found_stand (line ∷ lines) passed (refusal ∷ rest) others rise =
+      elim (cases_eq refusal.line (passed + 1)) [
+        | inl here ↦
+            let behind = rises_less (passed + 1) refusal.line rest (omega (arith, here)) rise.1 in
+            let first : refusal.line - passed ≡ 1 = omega (arith, here) in
+            ap (λ l. padded form (refusal ∷ rest) (map (found_place form layout names) l)) (found_here passed refusal (rest ++ others) line lines here)
+            ∙ ap₂ (λ (p : List ℕ) (l : List (List ℕ)). p ∷ l) (sym (ap (λ n. told_of refusal.cause (at_number n (line ∷ lines))) first))
+            (found_stand lines (passed + 1) rest others behind ∙ stand_on passed line lines rest behind)
+        | inr there ↦
+            let ahead : passed + 1 < refusal.line = omega (arith, there, rise.0) in
+            ap (λ l. padded form (refusal ∷ rest) (map (found_place form layout names) l)) (found_later passed refusal (rest ++ others) line lines there)
+            ∙ found_stand lines (passed + 1) (refusal ∷ rest) others (ahead, rise.1) ∙ stand_on passed line lines (refusal ∷ rest) (ahead, rise.1)
+      ]
 
--- what was told so far among files of these names, of which so many were read
-abbrev pub PlacedSoFar : {A : Type 0} → RefusedForm → Layout → Under → (A → List ℕ) → List A → List Refusal → ℕ → ToldLines → Type 0
-PlacedSoFar form layout under h names refusals i placed =
-    (placed.told ≤ length refusals) × (told : List (List ℕ)) × (length told ≡ placed.told) × (placed.text.items ≡ placed_text form (take placed.told refusals) told)
-    × ((texts : List (List ℕ)) → HaveTexts under (map h names) texts → RiseFrom 0 refusals → RiseFrom placed.lines (drop placed.told refusals)
-    × (told ++ places_of form layout (map h (drop i names)) (drop i texts) (behind placed.lines (drop placed.told refusals)) ≡ places_of form layout (map h names) texts refusals))
+  -- ---- among the lines of several texts, the first of which is that of the file with this number
 
-module _ {A : Type 0} (form : RefusedForm) (layout : Layout) (under : Under) (h : A → List ℕ) (names : List A) (refusals : List Refusal) where
-  pub placed_none : (placed : ToldLines) → placed.text.items ≡ [] → placed.told ≡ 0 → placed.lines ≡ 0 → PlacedSoFar form layout under h names refusals 0 placed
-  placed_none placed none count lines =
-      rw (count, lines, none) (omega arith, [], refl, refl, λ texts have rise. (rise, ap (places_of form layout (map h names) texts) (same_behind refusals)))
+  module _ (cause : Cause) where
+    abbrev line_from : ℕ → List (List ℕ) → ℕ × ℕ → List ℕ
+    line_from file texts place =
+        option_map_or (λ (line : List ℕ). told_place form layout (slice_index_or names (file + place.0) []) place.1 (take most_line_bytes line) cause)
+        (option_and_then (λ (text : List ℕ). line_at place.1 (raw_lines text)) (slice_get texts place.0)) (no_place form)
 
-  -- what was told of one file more
-  pub placed_more_files : (i : ℕ) (placed part now : ToldLines) (name : A) (known : Option (List ℕ)) → i < length names → name ≡ get_or names i name → known ≡ bytes_under under (h name)
-      → PlacedSoFar form layout under h names refusals i placed → AreTold form layout (h name) placed.lines (drop placed.told refusals) known part
-      → now.text.items ≡ placed.text.items ++ part.text.items → now.told ≡ placed.told + part.told → now.lines ≡ placed.lines + part.lines
-      → PlacedSoFar form layout under h names refusals (i + 1) now
-  placed_more_files i placed part now name known within is reads so_far told text count lines =
-      let fits : part.told ≤ length refusals - placed.told = let long = length-drop placed.told refusals in omega (arith, told.0, long) in
-      let names_told = so_far.1 in
-      let those = told.2 in
-      let long_so : length (take placed.told refusals) ≡ placed.told = long_taken refusals placed.told so_far.0 in
-      let long_all : length (names_told ++ those) ≡ now.told = length-append names_told those ∙ ap (λ n. n + length those) so_far.2 ∙ ap (λ n. placed.told + n) told.3 ∙ sym count in
-      let split : take now.told refusals ≡ take placed.told refusals ++ take part.told (drop placed.told refusals) = ap (λ n. take n refusals) count ∙ take-add placed.told part.told refusals in
-      let left : drop part.told (drop placed.told refusals) ≡ drop now.told refusals = drop-drop part.told placed.told refusals ∙ ap (λ n. drop n refusals) (sym count) in (
-        omega (arith, fits, so_far.0, count),
-        names_told ++ those,
-        long_all,
-        text ∙ ap (λ t. t ++ part.text.items) so_far.3 ∙ ap (λ t. placed_text form (take placed.told refusals) names_told ++ t) told.4
-            ∙ sym (placed_behind form (take placed.told refusals) (take part.told (drop placed.told refusals)) names_told those (so_far.2 ∙ sym long_so))
-            ∙ ap (λ rs. placed_text form rs (names_told ++ those)) (sym split),
+    one_on : (file : ℕ) (text : List ℕ) (rest : List (List ℕ)) (place : Option (ℕ × ℕ))
+        → option_map_or (line_from (file + 1) rest) place (no_place form) ≡ option_map_or (line_from file (text ∷ rest)) (option_map text_on place) (no_place form)
+    one_on file text rest None = refl
+    one_on file text rest (Some place) =
+        let next : place.0 + 1 ≡ suc place.0 = omega arith in
+        let same : file + 1 + place.0 ≡ file + suc place.0 = omega arith in
+        rw (next, same) refl
+
+    told_line : (file number : ℕ) (line : Option (List ℕ)) → told_of cause (option_map (λ (l : List ℕ). (file, (number, take most_line_bytes l))) line)
+        ≡ option_map_or (λ (l : List ℕ). told_place form layout (slice_index_or names file []) number (take most_line_bytes l) cause) line (no_place form)
+    told_line file number None = refl
+    told_line file number (Some line) = refl
+
+    stands_from : (texts : List (List ℕ)) (file number : ℕ)
+        → told_of cause (at_number number (all_numbered file texts)) ≡ option_map_or (line_from file texts) (place_of (map line_count texts) number) (no_place form)
+    stands_from [] file number = ap (told_of cause) (at_none number)
+    stands_from (text ∷ rest) file number =
+        let lines = numbered file 0 (raw_lines text) in
+        let long : length lines ≡ line_count text = long_numbered file 0 (raw_lines text) in
+        elim (cases_Bool (nat_le number (line_count text))) [
+          | inl here ↦
+              let within = leb-true number (line_count text) here in
+              let same : file + 0 ≡ file = omega arith in
+              ap (told_of cause) (at_front lines (all_numbered (file + 1) rest) number (omega (arith, long, within)) ∙ at_numbered file (raw_lines text) number)
+              ∙ told_line file number (line_at number (raw_lines text)) ∙ rw (here, same) refl
+          | inr there ↦
+              let past = leb-false number (line_count text) there in
+              ap (told_of cause) (at_past lines (all_numbered (file + 1) rest) number (omega (arith, long, past)) ∙ ap (λ n. at_number (number - n) (all_numbered (file + 1) rest)) long)
+              ∙ stands_from rest (file + 1) (number - line_count text) ∙ one_on file text rest (place_of (map line_count rest) (number - line_count text)) ∙ rw there refl
+        ]
+
+    first_file : (texts : List (List ℕ)) (place : Option (ℕ × ℕ))
+        → option_map_or (line_from 0 texts) place (no_place form) ≡ option_map_or (line_in form layout names texts cause) place (no_place form)
+    first_file texts None = refl
+    first_file texts (Some place) = let same : 0 + place.0 ≡ place.0 = omega arith in rw same refl
+
+  all_stand : (texts : List (List ℕ)) (refusals : List Refusal) → map (stands_among 0 (all_numbered 0 texts)) refusals ≡ places_of form layout names texts refusals
+  all_stand texts [] = refl
+  all_stand texts (refusal ∷ rest) =
+      let same : refusal.line - 0 ≡ refusal.line = omega arith in
+      ap₂ (λ (p : List ℕ) (l : List (List ℕ)). p ∷ l)
+      (ap (λ n. told_of refusal.cause (at_number n (all_numbered 0 texts))) same ∙ stands_from refusal.cause texts 0 refusal.line
+      ∙ first_file refusal.cause texts (place_of (map line_count texts) refusal.line)) (all_stand texts rest)
+
+  -- a text of the first so many of refused lines that were found
+  pub found_placed : (under : Under) (refusals : List Refusal) (found : List FoundLine) (count : ℕ) (text : List ℕ) → AreFound under names refusals found
+      → text ≡ found_text form layout names (take count refusals) found
+      → IsPlaced form layout under names (take count refusals) text
+  found_placed under refusals found count text are is =
+      let shown = take count refusals in
+      let told = map (λ (its : FoundLine). found_place form layout names (found_line its)) found in (
+        padded form shown told,
+        is ∙ padded_same form shown told,
         λ texts have rise.
-            let size = same_count h under names texts have in
-            let held = get_or texts i [] in
-            let there : known ≡ Some held = reads ∙ text_at h under names texts i name within is have in
-            let tells = told.5 in
-            let before = so_far.4 texts have rise in
-            let here = (rw there at tells) before.0 in
-            let first_name : map h (drop i names) ≡ h name ∷ map h (drop (i + 1) names) = ap (map h) (one_left names i name within is) in
-            let there_text : i < length texts = omega (arith, size, within) in
-            let first_text : drop i texts ≡ held ∷ drop (i + 1) texts = one_left texts i held there_text (sym (same_got texts i held [] there_text)) in
-            let rest_told = here.1 (map h (drop (i + 1) names)) (drop (i + 1) texts) in
-            rw (lines, ← left) (
-              here.0,
-              append_assoc names_told those _ ∙ ap (λ l. names_told ++ l) rest_told
-                  ∙ ap (λ (ns : List (List ℕ)). names_told ++ places_of form layout ns (held ∷ drop (i + 1) texts) (behind placed.lines (drop placed.told refusals))) (sym first_name)
-                  ∙ ap (λ (ts : List (List ℕ)). names_told ++ places_of form layout (map h (drop i names)) ts (behind placed.lines (drop placed.told refusals))) (sym first_text)
-                  ∙ before.1,
-            ),
+            let lines = all_numbered 0 texts in
+            ap (padded form shown) (sym (fused (found_place form layout names) found_line found)
+            ∙ ap (map (found_place form layout names)) (are texts have ∙ ap (λ rs. found_among 0 rs lines) (sym (take-append-drop count refusals))))
+            ∙ found_stand lines 0 shown (drop count refusals) rise ∙ all_stand texts shown,
       )
-
-  -- all files were read
-  pub placed_in_all : (i : ℕ) (placed : ToldLines) → length names ≤ i → PlacedSoFar form layout under h names refusals i placed → ArePlacedFirst form layout under (map h names) refusals placed
-  placed_in_all i placed past so_far = (
-    so_far.0,
-    so_far.1,
-    so_far.2,
-    so_far.3,
-    λ texts have rise.
-        let size = same_count h under names texts have in
-        let none : drop i texts ≡ [] = drop_all i texts (omega (arith, size, past)) in
-        ap (λ l. so_far.1 ++ l) (sym (nowhere form layout (map h (drop i names)) placed.lines (drop placed.told refusals)))
-        ∙ ap (λ (ts : List (List ℕ)). so_far.1 ++ places_of form layout (map h (drop i names)) ts (behind placed.lines (drop placed.told refusals))) (sym none)
-        ∙ (so_far.4 texts have rise).1,
-  )
-
-  -- all refused lines were told
-  pub placed_whole : (i : ℕ) (placed : ToldLines) → placed.told ≡ length refusals → PlacedSoFar form layout under h names refusals i placed → ArePlacedFirst form layout under (map h names) refusals placed
-  placed_whole i placed all so_far =
-      let none : drop placed.told refusals ≡ [] = drop_all placed.told refusals (omega (arith, all)) in (
-        so_far.0,
-        so_far.1,
-        so_far.2,
-        so_far.3,
-        λ texts have rise.
-            ap (λ (rs : List Refusal). so_far.1 ++ map (λ refusal. no_place form) rs) none
-            ∙ ap (λ (rs : List Refusal). so_far.1 ++ places_of form layout (map h (drop i names)) (drop i texts) (behind placed.lines rs)) (sym none)
-            ∙ (so_far.4 texts have rise).1,
-      )
-
-  -- one of the files can't be read again
-  pub placed_up_to : (i : ℕ) (placed : ToldLines) → ((texts : List (List ℕ)) → HaveTexts under (map h names) texts → ⊥) → PlacedSoFar form layout under h names refusals i placed
-      → ArePlacedFirst form layout under (map h names) refusals placed
-  placed_up_to i placed unknown so_far = (so_far.0, so_far.1, so_far.2, so_far.3, λ texts have rise. absurd (unknown texts have))
-
--- no places are told of the others
-plain_all : (form : RefusedForm) (refusals : List Refusal) → placed_text form refusals [] ≡ placed_text form refusals (map (λ refusal. no_place form) refusals)
-plain_all form [] = refl
-plain_all form (refusal ∷ rest) = ap (λ t. refused_text form refusal ++ no_place form ++ t) (plain_all form rest)
-
-pub placed_then : (form : RefusedForm) (layout : Layout) (under : Under) (names : List (List ℕ)) (refusals : List Refusal) (placed : ToldLines) (text : List ℕ)
-    → ArePlacedFirst form layout under names refusals placed → text ≡ placed.text.items ++ placed_text form (drop placed.told refusals) [] → IsPlaced form layout under names refusals text
-placed_then form layout under names refusals placed text first grown =
-    let rest = map (λ refusal. no_place form) (drop placed.told refusals) in
-    let long : length (take placed.told refusals) ≡ placed.told = long_taken refusals placed.told first.0 in (
-      first.1 ++ rest,
-      grown ∙ ap (λ t. t ++ placed_text form (drop placed.told refusals) []) first.3 ∙ ap (λ t. placed_text form (take placed.told refusals) first.1 ++ t) (plain_all form (drop placed.told refusals))
-          ∙ sym (placed_behind form (take placed.told refusals) (drop placed.told refusals) first.1 rest (first.2 ∙ sym long))
-          ∙ ap (λ rs. placed_text form rs (first.1 ++ rest)) (take-append-drop placed.told refusals),
-      λ texts have rise. first.4 texts have rise,
-    )
-
--- what is left behind so many, as a slice
-pub behind_slice : {A : Type 0} (xs : List A) (i : ℕ) → take (length xs - i) (drop i xs) ≡ drop i xs
-behind_slice xs i = let long = length-drop i xs in take_all (length xs - i) (drop i xs) (omega (arith, long))

@@ -6,4 +6,5 @@ pub mod Objects
 pub mod Telling
 pub mod Again
 pub mod Placed
+pub mod Found
 pub mod Placing

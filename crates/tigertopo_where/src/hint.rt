@@ -6,6 +6,7 @@
 
 mod advice;
 mod form;
+mod found;
 mod object;
 mod placed;
 mod refused;
@@ -13,5 +14,6 @@ mod shown;
 mod tell;
 
 pub use form::RefusedForm;
-pub use placed::place_refusals;
+pub use found::{FoundLine, SoughtLines};
+pub use placed::push_refusals;
 pub use tell::{say_hint, trouble_line};

@@ -1,27 +1,33 @@
-//! Reads a file for the records that faults speak of.
+//! Reads a file for the records that faults speak of, and for refused lines.
 
 ghost use Rattle.std.specs.Prelude.{◌≡◌, ◌∷◌, ◌<◌, ◌≤◌, [], List, ℕ, Option, OnOk, IfOk, IfErr, IfSome, length, drop};
 ghost use Rattle.std.specs.Bool.{OnTrue};
 ghost use Rattle.std.specs.Io.KnownBytes.{prepend_known};
+ghost use Rattle.tl_record.specs.Lines.{raw_lines};
 ghost use Rattle.tl_cert_output.specs.Stops.{StopsFor};
 ghost use Rattle.tigertopo_where.specs.Finding.{IsWithin, PassesTo};
 ghost use Rattle.tl_record.specs.Left.{numbers_of};
+ghost use Rattle.tigertopo_where.specs.LinePlaces.{line_at};
 ghost use Rattle.tigertopo_where.specs.Hint.Again.{HasNoEnd};
+ghost use Rattle.tigertopo_where.specs.Hint.Found.{FindsAll, FindsNext};
 ghost use Rattle.tigertopo_where.specs.Hint.Placing.{FailsRead};
 ghost use Rattle.tigertopo_faults.specs.Records.Reading.{FindsWanted, HasRecords, IsShown, TakesFirst, TakesShown, is_passed, numbers_behind, with_line};
 
 use crate::records::kept::KeptLines;
 use std::alloc::{AllocError, Global};
 use tigertopo_files::Reading;
+use tigertopo_where::hint::{FoundLine, SoughtLines};
 use tigertopo_where::{BLOCK, Found, pass_line, show_line};
 use tl_cert_output::Stop;
 use tl_record::{Judgement, Layout, LineBuffer, MAX_LINES, Record, Refusal, Source, judge_line};
 
-/// What a file has of the records that faults speak of.
+/// What a file has of the records that faults speak of, and of refused lines.
 #[derive(Drop)]
 pub(crate) struct FileRecords {
     /// These records with the numbers of their lines in all files, in the order of the file.
     pub found: Vec<(u64, Record)>,
+    /// These refused lines, in the order of the file.
+    pub refused: Vec<FoundLine>,
     /// How many lines the file has.
     pub lines: u64,
     /// How many lines of all files are accepted up to its end, if none is refused.
@@ -30,14 +36,15 @@ pub(crate) struct FileRecords {
     pub passed: usize,
 }
 
-/// The records of a file that wanted subjects name. So many lines come before it in all files, if none of them is refused. Refused lines
-/// are passed over, of which these are still to come.
+/// The records of a file that wanted subjects name, and refused lines that are sought. So many lines come before it in all files, if none
+/// of them is refused. Refused lines are passed over, of which these are still to come.
 #[derive(Clone, Copy)]
 pub(crate) struct RecordsIn<'a> {
     pub kept: &'a KeptLines,
     pub layout: &'a Layout,
     pub accepted: Option<u64>,
     pub passed: &'a [Refusal],
+    pub sought: SoughtLines<'a>,
 }
 
 impl RecordsIn<'_> {
@@ -64,19 +71,26 @@ impl RecordsIn<'_> {
         if passes { passed + 1 } else { passed }
     }
 
-    // Takes the next line off, and says whether there was one. It may be passed over; else where it holds a record that is wanted, that is
-    // found.
+    // Takes the next line off, which has this number in the file, and says whether there was one. It is found where it is a refused line that
+    // is sought. It may be passed over; else where it holds a record that is wanted, that is found.
     fn take_line<S: Source>(
         &self,
         found: &mut Vec<(u64, Record)>,
+        refused: &mut Vec<FoundLine>,
         buffer: &mut LineBuffer<BLOCK>,
         source: &mut S,
         accepted: &mut Option<u64>,
         passes: bool,
+        number: u64,
     ) -> Result<bool, Stop>
+        requires { 0 < number }
         ensures takes { IfOk result (λ some. IfSome (prepend_known buffer.old (S.remaining source.old)) (λ text.
             TakesFirst self.now.layout.now self.now.kept.now passes text (prepend_known buffer.new (S.remaining source.new))
             accepted.old accepted.new found.old.items found.new.items some)) }
+        ensures refused { IfOk result (λ some. IfSome (prepend_known buffer.old (S.remaining source.old)) (λ text.
+            FindsNext self.now.sought number (line_at 1 (raw_lines text)) refused.old.items refused.new.items)) }
+        ensures fewer { OnOk result (length refused.old.items ≤ length self.now.sought.refusals.now
+            → length refused.new.items ≤ length self.now.sought.refusals.now) }
         ensures stops { IfErr result (λ stop. (count : ℕ) (held : Option (List ℕ))
             → PassesTo count held (prepend_known buffer.old (S.remaining source.old))
             → FailsRead (S.failure_count source.old) (S.failure_count source.new) held stop) }
@@ -86,7 +100,9 @@ impl RecordsIn<'_> {
             Ok(shown) => shown,
             Err(_) => return Err(Stop::Device),
         };
-        *accepted = self.take_shown(found, *accepted, passes, buffer.bytes(), shown)?;
+        let first = buffer.bytes();
+        self.sought.keep(refused, number, first, shown)?;
+        *accepted = self.take_shown(found, *accepted, passes, first, shown)?;
         match pass_line(buffer, source) {
             Ok(some) => Ok(some),
             Err(_) => Err(Stop::Device),
@@ -152,8 +168,10 @@ impl RecordsIn<'_> {
 impl Reading for RecordsIn<'_> {
     type Answer = FileRecords;
 
-    ghost answers = { λ asked known single part. (part.passed ≤ length asked.passed.now) × IfSome single (λ text.
-        HasRecords asked.layout.now asked.kept.now asked.accepted (numbers_of asked.passed.now) text part) };
+    ghost answers = { λ asked known single part. (part.passed ≤ length asked.passed.now)
+        × (length part.refused.items ≤ length asked.sought.refusals.now) × IfSome single (λ text.
+        HasRecords asked.layout.now asked.kept.now asked.accepted (numbers_of asked.passed.now) text part
+        × FindsAll asked.sought text part.refused.items) };
 
     ghost stops = { λ asked known single. StopsFor (HasNoEnd single) };
 
@@ -164,14 +182,24 @@ impl Reading for RecordsIn<'_> {
         single: &mut S,
     ) -> Result<FileRecords, Stop> {
         let mut found = Vec::new(alloc);
+        let mut refused = Vec::new(alloc);
         let mut buffer = LineBuffer::new();
         let mut accepted = self.accepted;
         let mut passed = 0;
         'lines: for lines in 0..u64::MAX {
             let passes = self.passes(accepted, passed);
-            if !self.take_line(&mut found, &mut buffer, single, &mut accepted, passes)? {
+            if !self.take_line(
+                &mut found,
+                &mut refused,
+                &mut buffer,
+                single,
+                &mut accepted,
+                passes,
+                lines + 1,
+            )? {
                 return Ok(FileRecords {
                     found,
+                    refused,
                     lines,
                     accepted,
                     passed,

@@ -22,7 +22,7 @@ pub returns-in_err-spoken : goal.returns-in_err-spoken
 returns-in_err-spoken g c =
     let w = world g.F.FileSystem.under g.F.FileSystem.log g.F.FileSystem.knows c.args.files.now c.speak_of.new.files in
     let asked = wanted_of (map string_bytes c.args.names.now) c.args.wanted in
-    does_not_read_again Spoken w asked c.in_err-spoken.ensures.stays _ c.in_err-spoken.field-0.0 (stops_for _ _ c.in_err-spoken.field-0.0 (λ why. (sym c.reads_again.ensures ∙ why.0, why.1)) c.in_err-spoken.ensures.stops) c.in_err-spoken.ensures.logged c.from_residual.result c.from_residual.ensures.1
+    does_not_read_again Spoken w asked c.in_err-spoken.ensures.stays _ c.in_err-spoken.field-0.0 (stops_for _ _ c.in_err-spoken.field-0.0 (λ why. (why.0, why.1)) c.in_err-spoken.ensures.stops) c.in_err-spoken.ensures.logged c.from_residual.result c.from_residual.ensures.1
 
 pub returns-in_err-text : goal.returns-in_err-text
 returns-in_err-text g c =
@@ -74,7 +74,7 @@ returns g c =
       speak = λ again.
           subst (λ (m : Option TheMap). AreSpoken (layout_with c.args.options) [] u names m (featured c.args.wanted.told c.args.faults.items) spoken) drawn
           (subst (λ (fs : List MapFault). AreSpoken (layout_with c.args.options) [] u names (option_copied c.as_ref-drawn.result) fs spoken) shown
-          (c.in_ok-spoken.ensures.spoken (c.reads_again.ensures ∙ again)));
+          (c.in_ok-spoken.ensures.spoken again));
       kept = subst (λ (t : List ℕ). Made w asked.made t) same c.in_ok-make_collection.ensures.answered;
       is = rw c.faults_answer.ensures (answer_status c.args.wanted.told c.args.faults c.args.touched text);
       lines = rw c.faults_answer.ensures (answer_text names (chains_of c.args.map) spoken c.args.wanted.form c.args.wanted.told c.args.faults c.args.touched text prepared);

@@ -7,8 +7,8 @@ use Rattle.tigertopo_faults.specs.Records.SpokenOf.{chains_of}
 use Rattle.tigertopo_faults.proofs.RecordsLemmas.ReadingLemmas.{then_all}
 use Rattle.tigertopo_faults.proofs.lines.again.lines_again.Goals as goal
 
-pub returns-clause-found : goal.returns-clause-found
-returns-clause-found g c = λ texts have.
+pub returns-clause-held : goal.returns-clause-held
+returns-clause-held g c = λ texts have.
     let kept = c.in_ok-counts.ensures.kept in
     let whole = (rw (c.in-Some.is, c.layout_with-layout.ensures) at kept) texts have in
     let counted : Some c.in-Some.counts.items ≡ Some (map line_count texts) = whole.counted in (

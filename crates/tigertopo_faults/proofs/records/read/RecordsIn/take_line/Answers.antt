@@ -8,7 +8,7 @@ returns-in-Ok-pass_line-clause-takes g c =
     let mid = prepend_known c.show_line.new.buffer (g.S.Source.remaining c.show_line.new.source) in
     let rest = prepend_known c.pass_line.new.buffer (g.S.Source.remaining c.pass_line.new.source) in
     takes_shown c.args.self.now.layout.now c.args.self.now.kept.now c.args.passes c.args.accepted.now c.in_ok-accepted.field-0 c.args.found.now.items c.take_shown.new.found.items before mid rest
-    c.show_line.new.buffer c.bytes.result.now c.in-Ok.shown c.in-Ok-pass_line.some c.in-Ok.ensures.kept c.in-Ok.ensures.found c.in-Ok-pass_line.ensures.passes c.bytes.ensures.value c.in_ok-accepted.ensures
+    c.show_line.new.buffer c.bytes-first.result.now c.in-Ok.shown c.in-Ok-pass_line.some c.in-Ok.ensures.kept c.in-Ok.ensures.found c.in-Ok-pass_line.ensures.passes c.bytes-first.ensures.value c.in_ok-accepted.ensures
 
 pub returns-in-Err-pass_line-clause-stops : goal.returns-in-Err-pass_line-clause-stops
 returns-in-Err-pass_line-clause-stops g c = λ count held passes.

@@ -1,0 +1,21 @@
+use Rattle.std.proofs.Common.{ℕ, Option, List, map, option_map, string_bytes, ap, ◌∙◌, true, ◌≡◌}
+use Rattle.std.specs.Prelude.{is_some}
+use Rattle.tl_record.specs.Layout.{layout_with}
+use Rattle.tl_record.specs.declared.refusal.Refusal.{Refusal}
+use Rattle.tigertopo_where.specs.declared.hint.form.RefusedForm.TheVariants.{Features}
+use Rattle.tigertopo_where.specs.Hint.Found.{found_text}
+use Rattle.tigertopo_lists.specs.Listed.{featured, wanted_of}
+use Rattle.tigertopo_lists.proofs.ListLemmas.{features_placed, reads_where_made, reads_where_placed}
+use Rattle.tigertopo_lists.proofs.refused.refused_texts.Goals as goal
+
+pub returns : goal.returns
+returns c = λ under are.
+    let asked = wanted_of (map string_bytes c.args.names.now) c.args.wanted in
+    let layout = layout_with c.args.options in
+    let listed = c.featured-shown.ensures ∙ ap (λ (rs : List Refusal). featured asked.told rs) c.as_slice.ensures.value in
+    record {
+      answer = c.in_ok-answer.ensures under (λ asks. are (reads_where_placed asked.form asked.made asks));
+      features = λ asks.
+          features_placed layout under asked.names asked.told asked.made c.args.list.items c.args.found.now (are (reads_where_made asked.form asked.made asks)) asks c.in_ok-features.features.items
+          (c.in_ok-features.ensures asks ∙ ap (λ (rs : List Refusal). found_text Features layout asked.names rs c.args.found.now) listed);
+    }
