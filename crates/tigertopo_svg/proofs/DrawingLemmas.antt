@@ -9,8 +9,9 @@ use Rattle.tl_geom.specs.declared.point.Point.{Point}
 use Rattle.tl_map_county.specs.declared.sides.Side.{Side}
 use Rattle.tl_map_county.specs.TheMap.{MapChain, IsChain}
 use Rattle.tigertopo_svg.specs.declared.frame.Frame.{Frame}
+use Rattle.tigertopo_svg.specs.declared.frame.Spot.{Spot}
 use Rattle.tigertopo_svg.specs.declared.walk.Stroke.{Stroke}
-use Rattle.tigertopo_svg.specs.Frames.{is_seen}
+use Rattle.tigertopo_svg.specs.Frames.{is_seen, spot_of}
 use Rattle.tigertopo_svg.specs.Strokes.{is_passed, strokes_from, chain_strokes, Drawing, drawings, is_shown}
 
 -- a list from the place of one of it on
@@ -38,11 +39,11 @@ few true xs ys n drawn left = drawn
 few false xs ys n drawn left = left
 
 -- there are no more strokes than points
-pub strokes_few : (f : Frame) (down : Bool) (last : Point) (points : List Point) → length (strokes_from f down last points) ≤ length points
-strokes_few f down last [] = omega arith
-strokes_few f down last (p ∷ rest) =
-    few (is_passed f last p rest) _ _ _ (omega (arith, strokes_few f down last rest))
-    (few (is_seen f last p) _ _ _ (omega (arith, strokes_few f true p rest)) (omega (arith, strokes_few f false p rest)))
+pub strokes_few : (f : Frame) (end : Option Spot) (last : Point) (points : List Point) → length (strokes_from f end last points) ≤ length points
+strokes_few f end last [] = omega arith
+strokes_few f end last (p ∷ rest) =
+    few (is_passed f last p rest) _ _ _ (omega (arith, strokes_few f end last rest))
+    (few (is_seen f last p) _ _ _ (omega (arith, strokes_few f (Some (spot_of f p)) p rest)) (omega (arith, strokes_few f None p rest)))
 
 -- what is counted of drawings: one chain more
 pub counted_next : (g : ℕ → Drawing → ℕ) (f : Frame) (chains : List MapChain) (n tlid : ℕ) (points : List Point) (left right : Side) (count next whole : ℕ)
@@ -76,7 +77,7 @@ pub at_most_one : (b : Bool) (n : ℕ) → n ≡ from_bool b → n ≤ 1
 at_most_one true n is = omega (arith, is)
 at_most_one false n is = omega (arith, is)
 
-not_none : (n : ℕ) → not (suc n == 0) ≡ true
+pub not_none : (n : ℕ) → not (suc n == 0) ≡ true
 not_none n = grind (arith, nat_tests)
 
 -- something is drawn of a chain where a walk along it comes to a stroke

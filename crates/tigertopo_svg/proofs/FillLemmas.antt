@@ -1,6 +1,6 @@
 -- Polygons that are filled.
-use Rattle.std.proofs.Common.{◌≡◌, ℕ, suc, ◌+◌, ◌-◌, ◌<◌, ◌≤◌, Bool, true, false, List, [], ◌∷◌, ◌++◌, length, drop, get_or, Some, refl, sym, ap, ◌∙◌, add-one, arith}
-use Rattle.std.specs.Prelude.{slice_get, slice_index, if◌then◌else◌, codes}
+use Rattle.std.proofs.Common.{◌≡◌, ℕ, ℤ, zero, suc, ◌+◌, ◌-◌, ◌<◌, ◌≤◌, Bool, true, false, List, [], ◌∷◌, ◌++◌, length, drop, get_or, Some, refl, sym, ap, subst, ◌∙◌, add-one, arith}
+use Rattle.std.specs.Prelude.{◌==◌, not, slice_get, slice_index, if◌then◌else◌, codes}
 use Rattle.std.proofs.lemmas.List.{length-drop, length-reverse}
 use Rattle.tl_geom.specs.declared.point.Point.{Point}
 use Rattle.tl_geom.specs.declared.rect.Rect.{Rect}
@@ -13,7 +13,7 @@ use Rattle.tigertopo_svg.specs.declared.frame.Spot.{Spot}
 use Rattle.tigertopo_svg.specs.Frames.{spot_of, no_points}
 use Rattle.tigertopo_svg.specs.Texts.{pair_text, move_text}
 use Rattle.tigertopo_svg.specs.Fills.{Filling, is_spot, step_text, steps_text, line_text, ring_start, around_darts, around_walks, rings_of, is_filled, fill_text, polygon_fill, fills_below}
-use Rattle.tigertopo_svg.proofs.DrawingLemmas.{from_place}
+use Rattle.tigertopo_svg.proofs.DrawingLemmas.{from_place, not_none}
 
 -- the way along points from a place on: a step before the way behind it
 pub line_next : (f : Frame) (ps : List Point) (n : ℕ) (p q : Point) → slice_get ps n ≡ Some p → slice_get ps (n + 1) ≡ Some q
@@ -28,13 +28,23 @@ single f [] few = refl
 single f (p ∷ []) few = refl
 single f (p ∷ q ∷ rest) few = absurd (omega (arith, few))
 
+-- a place of the picture is that of the point with this number
+pub record IsAt (f : Frame) (ps : List Point) (n : ℕ) (at : Spot) : Type 0 where
+  pub point : Point
+  pub is : slice_get ps n ≡ Some point
+  pub lies : at ≡ spot_of f point
+
 -- the same, behind a place that a loop has come to
-pub line_step : (f : Frame) (ps : List Point) (place : ℕ) (p q : Point) → 1 ≤ place → slice_get ps (place - 1) ≡ Some p → slice_get ps place ≡ Some q
-    → line_text f (drop (place - 1) ps) ≡ step_text (spot_of f p) (spot_of f q) ++ line_text f (drop (place + 1 - 1) ps)
-line_step f ps place p q some first second =
+pub line_step : (f : Frame) (ps : List Point) (place : ℕ) (from to : Spot) → 1 ≤ place → IsAt f ps (place - 1) from → IsAt f ps place to
+    → line_text f (drop (place - 1) ps) ≡ step_text from to ++ line_text f (drop (place + 1 - 1) ps)
+line_step f ps place from to some first second =
     let next : place - 1 + 1 ≡ place = omega arith in
     let same : place + 1 - 1 ≡ place - 1 + 1 = omega arith in
-    line_next f ps (place - 1) p q first (rw next second) ∙ ap (λ n. step_text (spot_of f p) (spot_of f q) ++ line_text f (drop n ps)) (sym same)
+    rw (first.lies, second.lies) (line_next f ps (place - 1) first.point second.point first.is (rw next second.is)
+    ∙ ap (λ n. step_text (spot_of f first.point) (spot_of f second.point) ++ line_text f (drop n ps)) (sym same))
+
+pub moved_on : (f : Frame) (ps : List Point) (place : ℕ) (at : Spot) → IsAt f ps place at → IsAt f ps (place + 1 - 1) at
+moved_on f ps place at is = let same : place + 1 - 1 ≡ place = omega arith in rw same is
 
 directed_long : (along : Bool) (ps : List Point) → length (directed along ps) ≡ length ps
 directed_long true ps = refl
@@ -43,10 +53,18 @@ directed_long false ps = length-reverse ps
 pub line_end : (f : Frame) (along : Bool) (ps : List Point) (place : ℕ) → length ps ≤ place → line_text f (drop (place - 1) (directed along ps)) ≡ []
 line_end f along ps place past = single f (drop (place - 1) (directed along ps)) (omega (arith, length-drop (place - 1) (directed along ps), directed_long along ps))
 
+-- there is none along no points
+none_few : (n : ℕ) → (n == 0) ≡ true → n ≤ 1
+none_few zero none = omega arith
+none_few (suc n) none = absurd (let e : false ≡ true = subst (λ b. not b ≡ true) none (not_none n) in cc)
+
+pub line_none : (f : Frame) (along : Bool) (ps : List Point) → (length ps == 0) ≡ true → [] ≡ line_text f (directed along ps)
+line_none f along ps none = sym (single f (directed along ps) (omega (arith, none_few (length ps) none, directed_long along ps)))
+
 -- a step that is written, and one that isn't
-pub step_there : (from to : Spot) → is_spot from to ≡ false → pair_text (codes "L") to.x to.y ≡ step_text from to
+pub step_there : (from to : Spot) (x y : ℤ) → is_spot from to ≡ false → x ≡ to.x → y ≡ to.y → pair_text (codes "L") x y ≡ step_text from to
 unfolding step_text
-step_there from to other = rw other refl
+step_there from to x y other along down = rw (along, down, other) refl
 
 pub step_none : (from to : Spot) → is_spot from to ≡ true → [] ≡ step_text from to
 unfolding step_text

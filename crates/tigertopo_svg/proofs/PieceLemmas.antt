@@ -39,3 +39,6 @@ flat_end f xs i past = ap (flat_map f) (drop_all i xs past)
 
 pub eight_pieces : (a b c d e f g h : List ℕ) → (a ++ b ++ c ++ d) ++ (e ++ f ++ g ++ h) ≡ a ++ b ++ c ++ d ++ e ++ f ++ g ++ h
 eight_pieces a b c d e f g h = simp append_assoc
+
+pub five_pieces : (a b c d e : List ℕ) → a ++ (b ++ c ++ d ++ e) ≡ a ++ b ++ c ++ d ++ e
+five_pieces a b c d e = simp append_assoc

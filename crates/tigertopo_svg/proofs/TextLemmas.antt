@@ -1,7 +1,7 @@
 -- Parts of a picture's text.
-use Rattle.std.proofs.Common.{◌≡◌, ℕ, ℤ, pos, ◌+ℤ◌, List, [], ◌++◌, ◌+◌, ◌-◌, ◌<◌, ◌≤◌, length, drop, Some, get_or, codes, true, false, refl, sym, ap, ap₂, ◌∙◌, arith}
+use Rattle.std.proofs.Common.{◌≡◌, ℕ, ℤ, pos, ◌+ℤ◌, List, [], ◌∷◌, ◌++◌, ◌+◌, ◌-◌, ◌<◌, ◌≤◌, length, drop, Some, get_or, codes, true, false, refl, sym, ap, ap₂, ◌∙◌, arith}
 use Rattle.std.specs.Prelude.{◌-ℤ◌, ◌==◌, decimal, not, if◌then◌else◌, Option, slice_get, flat_map, zip}
-use Rattle.std.proofs.lemmas.List.{drop_all}
+use Rattle.std.proofs.lemmas.List.{drop_all, drop_more}
 use Rattle.std.specs.Option.{option_map_or}
 use Rattle.std.proofs.lemmas.Option.{slice_get-get_or}
 use Rattle.std.specs.Fmt.{signed_decimal}
@@ -9,22 +9,29 @@ use Rattle.tl_geom.specs.declared.point.Point.{Point}
 use Rattle.tl_geom.specs.declared.rational.Rational.{Rational}
 use Rattle.tl_check_verdict.specs.declared.fault.MapFault.{MapFault}
 use Rattle.tigertopo_svg.proofs.DrawingLemmas.{from_place}
+use Rattle.tigertopo_svg.proofs.PieceLemmas.{flat_next, flat_end, five_pieces}
 use Rattle.tigertopo_svg.specs.declared.frame.Frame.{Frame}
 use Rattle.tigertopo_svg.specs.declared.frame.Spot.{Spot}
 use Rattle.tigertopo_svg.specs.declared.walk.Stroke.{Stroke}
 use Rattle.tigertopo_svg.specs.Frames.{spot_of, is_inside}
-use Rattle.tigertopo_svg.specs.Texts.{move_text, start_text, stroke_text, dot_text, dot_at, ends_text, circle_head, closer, closer_text, east_label, west_label, fault_text, faults_part}
+use Rattle.tigertopo_svg.specs.Texts.{pair_text, move_text, start_text, stroke_text, dot_text, dot_at, ends_text, escaped_byte, circle_head, closer, closer_text, east_label, west_label, fault_text, faults_part}
 
--- a stroke that is put together
-pub stroke_parts : (s : Stroke) (start one two : List ℕ) (x y : ℤ) → start ≡ start_text s → one ≡ start ++ codes "l" ++ signed_decimal x → two ≡ one ++ codes " " ++ signed_decimal y
-    → x ≡ s.to.x -ℤ s.from.x → y ≡ s.to.y -ℤ s.from.y → two ≡ stroke_text s
+-- the command that goes to a place
+pub move_parts : (s : Spot) (x y : ℤ) → x ≡ s.x → y ≡ s.y → pair_text (codes "M") x y ≡ move_text s
+move_parts s x y along down = rw (along, down) refl
+
+-- a stroke behind its start
+pub stroke_parts : (s : Stroke) (x y : ℤ) → x ≡ s.to.x -ℤ s.from.x → y ≡ s.to.y -ℤ s.from.y
+    → start_text s ++ (codes "l" ++ signed_decimal x ++ codes " " ++ signed_decimal y) ≡ stroke_text s
 unfolding stroke_text
-stroke_parts s start one two x y begins first second along up = rw (second, first, begins, along, up) refl
+stroke_parts s x y along up =
+    five_pieces (start_text s) (codes "l") (signed_decimal x) (codes " ") (signed_decimal y)
+    ∙ ap₂ (λ u v. pair_text (start_text s ++ codes "l") u v) along up
 
--- a dot that is put together, and one that isn't there
-pub dot_parts : (f : Frame) (p : Point) (spot : Spot) (one two : List ℕ) → is_inside f p ≡ true → spot ≡ spot_of f p → one ≡ move_text spot → two ≡ one ++ codes "h0" → two ≡ dot_text f p
+-- a dot, and one that isn't there
+pub dot_parts : (f : Frame) (p : Point) (spot : Spot) → is_inside f p ≡ true → spot ≡ spot_of f p → move_text spot ++ codes "h0" ≡ dot_text f p
 unfolding dot_text
-dot_parts f p spot one two inside at first second = rw (inside, second, first, at) refl
+dot_parts f p spot inside at = rw (inside, at) refl
 
 pub no_dot : (f : Frame) (p : Point) → is_inside f p ≡ false → [] ≡ dot_text f p
 unfolding dot_text
@@ -80,3 +87,12 @@ pub faults_end : (f : Frame) (faults : List MapFault) (places : List (Option Rat
 unfolding faults_part
 faults_end f faults places n past =
     ap (λ xs. flat_map (λ (it : MapFault × Option Rational). fault_text f it.0 it.1) (zip xs (drop n places))) (drop_all n faults past)
+
+-- a byte more that stands in the file as it is
+pub plain_more : (text : List ℕ) (i d : ℕ) → i < length text → escaped_byte (get_or text i d) ≡ get_or text i d ∷ [] → flat_map escaped_byte (drop (i + 1) text) ≡ drop (i + 1) text
+    → flat_map escaped_byte (drop i text) ≡ drop i text
+plain_more text i d within plain same =
+    flat_next escaped_byte text i d within ∙ ap₂ (λ a b. a ++ b) plain same ∙ sym (drop_more text i d within)
+
+pub plain_end : (text : List ℕ) (i : ℕ) → length text ≤ i → flat_map escaped_byte (drop i text) ≡ drop i text
+plain_end text i past = flat_end escaped_byte text i past ∙ sym (drop_all i text past)

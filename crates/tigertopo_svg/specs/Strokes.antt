@@ -1,8 +1,9 @@
 -- What is drawn of chains: strokes from point to point.
-use Rattle.std.specs.Prelude.{◌==◌, Bool, false, true, not, ◌&&◌, if◌then◌else◌, List, [], ◌∷◌, length}
+use Rattle.std.specs.Prelude.{◌==◌, Bool, false, true, not, ◌&&◌, if◌then◌else◌, List, [], ◌∷◌, length, Option, Some, None, is_none, unwrap_or}
 use Rattle.tl_geom.specs.declared.point.Point.{Point}
 use Rattle.tl_map_county.specs.TheMap.{MapChain}
 use Rattle.tigertopo_svg.specs.declared.frame.Frame.{Frame}
+use Rattle.tigertopo_svg.specs.declared.frame.Spot.{Spot}
 use Rattle.tigertopo_svg.specs.declared.walk.Stroke.{Stroke}
 use Rattle.tigertopo_svg.specs.declared.walk.Walk.{Walk}
 use Rattle.tigertopo_svg.specs.Frames.{spot_of, is_near, is_small, is_seen, around_points, no_points}
@@ -11,24 +12,28 @@ use Rattle.tigertopo_svg.specs.Frames.{spot_of, is_near, is_small, is_seen, arou
 abbrev pub is_passed : Frame → (last p : Point) → List Point → Bool
 is_passed f last p rest = is_near f last p && not (length rest == 0)
 
--- the strokes from a point on through these, where the last stroke before ended there or wasn't drawn. Points that are passed over
--- are left out, and so is what isn't seen
-abbrev pub strokes_from : Frame → Bool → (last : Point) → List Point → List Stroke
-strokes_from f down last [] = []
-strokes_from f down last (p ∷ rest) =
-    if is_passed f last p rest then strokes_from f down last rest
+-- the stroke from the last point to another: from the place where the stroke before it ended, or else anew
+abbrev pub stroke_to : Frame → (end : Option Spot) → (last p : Point) → Stroke
+stroke_to f end last p = record { from = unwrap_or end (spot_of f last); to = spot_of f p; begins = is_none end }
+
+-- the strokes from a point on through these, where the last stroke before ended there at this place, or wasn't drawn. Points that are
+-- passed over are left out, and so is what isn't seen
+abbrev pub strokes_from : Frame → (end : Option Spot) → (last : Point) → List Point → List Stroke
+strokes_from f end last [] = []
+strokes_from f end last (p ∷ rest) =
+    if is_passed f last p rest then strokes_from f end last rest
     else if is_seen f last p
-    then (record { from = spot_of f last; to = spot_of f p; begins = not down }) ∷ strokes_from f true p rest
-    else strokes_from f false p rest
+    then stroke_to f end last p ∷ strokes_from f (Some (spot_of f p)) p rest
+    else strokes_from f None p rest
 
 -- the strokes that a walk along a chain still has to come to
 abbrev pub strokes_left : Walk → List Stroke
-strokes_left w = strokes_from w.frame w.is_down w.last w.rest.now
+strokes_left w = strokes_from w.frame w.end w.last w.rest.now
 
 -- the strokes of a chain by its points: none where the rectangle about them is smaller than a third of a pixel
 abbrev pub chain_strokes : Frame → List Point → List Stroke
 chain_strokes f [] = []
-chain_strokes f (p ∷ rest) = if is_small f (around_points no_points (p ∷ rest)) then [] else strokes_from f false p rest
+chain_strokes f (p ∷ rest) = if is_small f (around_points no_points (p ∷ rest)) then [] else strokes_from f None p rest
 
 -- what is drawn of a chain: its strokes, and its points from start to end
 pub record Drawing : Type 0 where

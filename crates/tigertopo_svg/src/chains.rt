@@ -20,7 +20,7 @@ pub fn walk_along(frame: Frame, points: &[Point]) -> Walk<'_>
     }
     Walk {
         frame,
-        is_down: false,
+        end: None,
         last: *first,
         rest,
     }
@@ -32,7 +32,7 @@ fn nothing(frame: Frame, points: &[Point]) -> Walk<'_>
 {
     Walk {
         frame,
-        is_down: false,
+        end: None,
         last: Point { x: 0, y: 0 },
         rest: &points[points.len()..],
     }

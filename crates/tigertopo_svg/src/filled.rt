@@ -15,7 +15,8 @@ ghost use Rattle.tigertopo_svg.specs.Fills.{all_fills, fills_part};
 use crate::bounds::around;
 use crate::fills::Fills;
 use crate::frame::{Frame, Spot};
-use crate::text::{fill_head, line_text, move_text};
+use crate::pairs::{print_move, print_pair};
+use crate::text::fill_head;
 use tigertopo_geojson::{Groups, point_at, walk_at};
 use tl_cert_output::Printer;
 use tl_geom::{Point, Rect};
@@ -211,8 +212,7 @@ fn print_walk<S: Sink>(map: &Map, frame: Frame, walk: &[u32], printer: &mut Prin
     ensures { Prints S.contents S.failure_count (out.old, printer.old) (out.new, printer.new)
         (ring_text frame map.now.chains walk.now) }
 {
-    let start = move_text(frame.spot(map.dart_start(walk[0])));
-    printer.add(start.as_str().as_bytes(), out);
+    print_move(frame.spot(map.dart_start(walk[0])), printer, out);
     print_darts(map, frame, walk, printer, out);
     printer.add(b"z", out);
 }
@@ -253,10 +253,14 @@ fn print_line<S: Sink>(
     ensures { Prints S.contents S.failure_count (out.old, printer.old) (out.new, printer.new)
         (way_text frame (directed is_along points.now)) }
 {
+    if points.is_empty() {
+        return;
+    }
+    let mut from = frame.spot(point_at(points, is_along, 0));
     for place in 1..points.len() {
-        let from = frame.spot(point_at(points, is_along, place - 1));
         let to = frame.spot(point_at(points, is_along, place));
         print_step(from, to, printer, out);
+        from = to;
     }
 }
 
@@ -265,8 +269,7 @@ fn print_step<S: Sink>(from: Spot, to: Spot, printer: &mut Printer, out: &mut S)
     ensures { Prints S.contents S.failure_count (out.old, printer.old) (out.new, printer.new) (step_text from to) }
 {
     if !is_spot(from, to) {
-        let text = line_text(to);
-        printer.add(text.as_str().as_bytes(), out);
+        print_pair(b"L", to.x, to.y, printer, out);
     }
 }
 

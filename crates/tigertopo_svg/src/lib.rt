@@ -16,6 +16,7 @@ mod key;
 pub mod laws;
 mod lean;
 mod marks;
+mod pairs;
 mod picture;
 mod places;
 mod print;

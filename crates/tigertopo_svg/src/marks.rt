@@ -1,18 +1,20 @@
 //! What is marked in a picture: nodes, polygons' points and faults.
 
-ghost use Rattle.std.specs.Prelude.{◌≡◌, ◌<◌, take, drop, flat_map, length, List, ℕ};
+ghost use Rattle.std.specs.Prelude.{◌≡◌, ◌<◌, [], ◌∷◌, take, drop, flat_map, length, List, ℕ};
+ghost use Rattle.std.specs.Bool.{OnFalse, OnTrue};
 ghost use Rattle.tl_cert_output.specs.Writing.{line_of};
 ghost use Rattle.tl_cert_output.specs.Printing.{Prints};
 ghost use Rattle.tigertopo_svg.specs.Frames.{spot_at};
 ghost use Rattle.tigertopo_svg.specs.Strokes.{strokes_left};
 ghost use Rattle.tigertopo_svg.specs.Pictures.{drawn};
-ghost use Rattle.tigertopo_svg.specs.Texts.{dot_text, ends_text, polygon_text, escaped_byte, circle_text, circle_at, fault_text, faults_part};
+ghost use Rattle.tigertopo_svg.specs.Texts.{ends_text, polygon_text, escaped_byte, circle_text, circle_at, fault_text, faults_part};
 
 use crate::chains::walk_along;
 use crate::frame::Frame;
+use crate::pairs::print_dot;
 use crate::picture::Picture;
 use crate::places::{Mark, mark_if};
-use crate::text::{circle_head, closer_text, dot_text, label_head};
+use crate::text::{circle_head, closer_text, label_head};
 use crate::walk::Walk;
 use tl_cert_output::Printer;
 use tl_check_verdict::MapFault;
@@ -49,14 +51,6 @@ fn print_ends<S: Sink>(
         print_dot(frame, points[0], printer, out);
         print_dot(frame, points[points.len() - 1], printer, out);
     }
-}
-
-// Prints the dot at a point, where it lies in the picture.
-fn print_dot<S: Sink>(frame: Frame, p: Point, printer: &mut Printer, out: &mut S)
-    ensures { Prints S.contents S.failure_count (out.old, printer.old) (out.new, printer.new) (dot_text frame p) }
-{
-    let text = dot_text(frame, p);
-    printer.add(text.as_str().as_bytes(), out);
 }
 
 /// Prints the dots at the polygons' points.
@@ -163,6 +157,37 @@ fn code_of(said: &[u8]) -> &[u8]
 
 // Prints a text as it stands in the file.
 fn print_escaped<S: Sink>(text: &[u8], printer: &mut Printer, out: &mut S)
+    ensures { Prints S.contents S.failure_count (out.old, printer.old) (out.new, printer.new)
+        (flat_map escaped_byte text.now) }
+{
+    if is_plain(text) {
+        printer.add(text, out);
+    } else {
+        print_bytes(text, printer, out);
+    }
+}
+
+// Whether each byte of a text stands there as it is.
+fn is_plain(text: &[u8]) -> bool
+    ensures { OnTrue result (flat_map escaped_byte text.now ≡ text.now) }
+{
+    for byte in text {
+        if is_named(*byte) {
+            return false;
+        }
+    }
+    true
+}
+
+// Whether a byte may stand there by a name.
+fn is_named(byte: u8) -> bool
+    ensures { OnFalse result (escaped_byte byte ≡ byte ∷ []) }
+{
+    byte == b'&' || byte == b'<' || byte == b'>'
+}
+
+// Prints each byte of a text.
+fn print_bytes<S: Sink>(text: &[u8], printer: &mut Printer, out: &mut S)
     ensures { Prints S.contents S.failure_count (out.old, printer.old) (out.new, printer.new)
         (flat_map escaped_byte text.now) }
 {

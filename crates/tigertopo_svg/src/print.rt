@@ -17,9 +17,10 @@ use crate::fills::Fills;
 use crate::frame::Frame;
 use crate::key::print_key;
 use crate::marks::{print_faults, print_nodes, print_points};
+use crate::pairs::print_stroke;
 use crate::picture::Picture;
-use crate::text::{size_text, stroke_text};
-use crate::walk::{Stroke, Walk};
+use crate::text::size_text;
+use crate::walk::Walk;
 use tl_cert_output::{Printer, Stop};
 use tl_check_verdict::MapFault;
 use tl_geom::Rational;
@@ -154,14 +155,6 @@ fn print_strokes<S: Sink>(walk: &mut Walk<'_>, printer: &mut Printer, out: &mut 
     while let Some(stroke) = walk.next() {
         print_stroke(stroke, printer, out);
     }
-}
-
-// Prints a stroke.
-fn print_stroke<S: Sink>(stroke: Stroke, printer: &mut Printer, out: &mut S)
-    ensures { Prints S.contents S.failure_count (out.old, printer.old) (out.new, printer.new) (stroke_text stroke) }
-{
-    let text = stroke_text(stroke);
-    printer.add(text.as_str().as_bytes(), out);
 }
 
 // Prints the dots of nodes and of polygons' points, where they are marked.

@@ -1,14 +1,13 @@
 //! Parts of a picture's text, each put together before it is added to an output.
 
-ghost use Rattle.std.specs.Prelude.{◌≡◌, ◌+◌, ◌≤◌, ◌++◌, pos, ◌+ℤ◌, ◌-ℤ◌, codes, length};
+ghost use Rattle.std.specs.Prelude.{◌≡◌, ◌+◌, ◌≤◌, ◌++◌, pos, ◌+ℤ◌, ◌-ℤ◌, length};
 ghost use Rattle.arrayvec.specs.ArrayString.{array_string_len};
-ghost use Rattle.tigertopo_svg.specs.Texts.{pair_text, move_text, start_text, stroke_text, dot_text, size_text, circle_head};
+ghost use Rattle.tigertopo_svg.specs.Texts.{size_text, circle_head};
 ghost use Rattle.tigertopo_svg.specs.Colours.{hue};
 ghost use Rattle.tigertopo_svg.specs.Fills.{fill_head};
 ghost use Rattle.tigertopo_svg.specs.Texts.{closer, closer_text, is_eastern, west_label, east_label, label_head};
 
 use crate::frame::{Frame, Spot};
-use crate::walk::Stroke;
 use arrayvec::ArrayString;
 use itoa::{Buffer, Integer};
 use tl_geom::Point;
@@ -27,35 +26,6 @@ pub fn push_number<I: Integer>(text: &mut ArrayString<PART_ROOM>, word: &str, nu
     text.push_str(digits.format(number));
 }
 
-// Adds the command that goes to a place.
-fn push_move(text: &mut ArrayString<PART_ROOM>, spot: Spot)
-    requires { array_string_len text.old ≤ 200 }
-    ensures bytes { text.new.bytes ≡ text.old.bytes ++ move_text spot }
-    ensures room { array_string_len text.new ≤ array_string_len text.old + 82 }
-{
-    push_number(text, "M", spot.x);
-    push_number(text, " ", spot.y);
-}
-
-/// The command that goes to a place.
-pub fn move_text(spot: Spot) -> ArrayString<PART_ROOM>
-    ensures { result.bytes ≡ move_text spot }
-{
-    let mut text = ArrayString::new();
-    push_move(&mut text, spot);
-    text
-}
-
-/// The command that draws a line to a place.
-pub fn line_text(spot: Spot) -> ArrayString<PART_ROOM>
-    ensures { result.bytes ≡ pair_text (codes "L") spot.x spot.y }
-{
-    let mut text = ArrayString::new();
-    push_number(&mut text, "L", spot.x);
-    push_number(&mut text, " ", spot.y);
-    text
-}
-
 /// How what has a colour begins.
 pub fn fill_head(colour: u32) -> ArrayString<PART_ROOM>
     ensures { result.bytes ≡ fill_head colour }
@@ -71,47 +41,6 @@ fn hue(colour: u32) -> u64
     ensures { result ≡ hue colour }
 {
     137 * u64::from(colour) % 360
-}
-
-// Where a stroke starts, if it begins anew.
-fn start_text(stroke: Stroke) -> ArrayString<PART_ROOM>
-    ensures bytes { result.bytes ≡ start_text stroke }
-    ensures room { array_string_len result ≤ 100 }
-{
-    let mut text = ArrayString::new();
-    if stroke.begins {
-        push_move(&mut text, stroke.from);
-    }
-    text
-}
-
-/// A stroke: behind its start how far it goes.
-pub fn stroke_text(stroke: Stroke) -> ArrayString<PART_ROOM>
-    ensures { result.bytes ≡ stroke_text stroke }
-{
-    let mut text = start_text(stroke);
-    push_number(&mut text, "l", step(stroke.from.x, stroke.to.x));
-    push_number(&mut text, " ", step(stroke.from.y, stroke.to.y));
-    text
-}
-
-// How far it is from one number to another.
-fn step(from: i64, to: i64) -> i128
-    ensures { result ≡ to -ℤ from }
-{
-    i128::from(to) - i128::from(from)
-}
-
-/// A dot at a point, where it lies in the picture.
-pub fn dot_text(frame: Frame, p: Point) -> ArrayString<PART_ROOM>
-    ensures { result.bytes ≡ dot_text frame p }
-{
-    let mut text = ArrayString::new();
-    if frame.has_inside(p) {
-        push_move(&mut text, frame.spot(p));
-        text.push_str("h0");
-    }
-    text
 }
 
 /// How the file begins: what it shows, in tenths of a pixel.

@@ -1,7 +1,8 @@
 //! Walks along chains: what is drawn of them.
 
-ghost use Rattle.std.specs.Prelude.{◌≡◌, [], ◌∷◌, MatchOption};
-ghost use Rattle.tigertopo_svg.specs.Strokes.{is_passed, strokes_left};
+ghost use Rattle.std.specs.Prelude.{◌≡◌, [], ◌∷◌, Some, unwrap_or, MatchOption};
+ghost use Rattle.tigertopo_svg.specs.Frames.{spot_of};
+ghost use Rattle.tigertopo_svg.specs.Strokes.{is_passed, stroke_to, strokes_left};
 
 use crate::frame::{Frame, Spot};
 use tl_geom::Point;
@@ -18,8 +19,8 @@ pub struct Stroke {
 #[derive(Clone, Copy, Debug)]
 pub struct Walk<'a> {
     pub frame: Frame,
-    /// Whether the stroke to the last point was drawn.
-    pub is_down: bool,
+    /// The place where the stroke to the last point ended, if it was drawn.
+    pub end: Option<Spot>,
     pub last: Point,
     pub rest: &'a [Point],
 }
@@ -32,20 +33,37 @@ impl Walk<'_> {
         while let Some((point, rest)) = self.rest.split_first() {
             self.rest = rest;
             if !is_passed(self.frame, self.last, *point, rest) {
-                let from = self.last;
-                let begins = !self.is_down;
+                let last = self.last;
                 self.last = *point;
-                self.is_down = self.frame.sees(from, *point);
-                if self.is_down {
-                    return Some(Stroke {
-                        from: self.frame.spot(from),
-                        to: self.frame.spot(*point),
-                        begins,
-                    });
+                if self.frame.sees(last, *point) {
+                    return Some(self.stroke(last, *point));
                 }
+                self.end = None;
             }
         }
         None
+    }
+
+    // The stroke from the last point to one that is seen from there, at whose place it ends.
+    fn stroke(&mut self, last: Point, point: Point) -> Stroke
+        ensures stroke { result ≡ stroke_to self.old.frame self.old.end last point }
+        ensures walk { self.new ≡ record { frame = self.old.frame; end = Some (spot_of self.old.frame point); last = self.old.last; rest = self.old.rest } }
+    {
+        let begins = self.end.is_none();
+        let from = start_of(self.frame, self.end, last);
+        let to = self.frame.spot(point);
+        self.end = Some(to);
+        Stroke { from, to, begins }
+    }
+}
+
+// Where a stroke starts: where the one before it ended, or else at the last point.
+fn start_of(frame: Frame, end: Option<Spot>, last: Point) -> Spot
+    ensures { result ≡ unwrap_or end (spot_of frame last) }
+{
+    match end {
+        Some(end) => end,
+        None => frame.spot(last),
     }
 }
 

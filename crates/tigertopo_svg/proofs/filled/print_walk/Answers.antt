@@ -8,6 +8,5 @@ use Rattle.tigertopo_svg.proofs.filled.print_walk.Goals as goal
 pub returns : goal.returns
 unfolding ring_text
 returns g c =
-    let start = c.as_bytes.ensures.value ∙ c.as_str.ensures.value ∙ c.move_text-start.ensures ∙ ap move_text c.spot.ensures
-    ∙ start_is c.args.frame c.args.map.now.chains c.args.walk.now _ _ c.requires.some c.dart_start.ensures in
-    both (both (as_text c.add.ensures start) c.print_darts.ensures) c.add-2.ensures
+    let start = ap move_text c.spot.ensures ∙ start_is c.args.frame c.args.map.now.chains c.args.walk.now _ _ c.requires.some c.dart_start.ensures in
+    both (both (as_text c.print_move.ensures start) c.print_darts.ensures) c.add.ensures

@@ -1,13 +1,9 @@
-use Rattle.std.proofs.Common.{arith}
-use Rattle.tigertopo_svg.specs.Texts.{escaped_byte}
-use Rattle.tigertopo_svg.proofs.PieceLemmas.{at_start, piece_more, at_end, flat_next, flat_end}
+use Rattle.std.proofs.Common.{sym}
+use Rattle.tl_cert_output.proofs.PrinterLemmas.{as_text}
 use Rattle.tigertopo_svg.proofs.marks.print_escaped.Goals as goal
 
-pub loop-byte-init : goal.loop-byte-init
-loop-byte-init g c = at_start _ _ _
+pub returns-then-is_plain : goal.returns-then-is_plain
+returns-then-is_plain g c = as_text c.add.ensures (sym (rw c.if-is_plain.true at c.is_plain.ensures))
 
-pub loop-byte-preserved : goal.loop-byte-preserved
-loop-byte-preserved g c = piece_more _ (flat_next escaped_byte c.args.text.now c.loop-byte.byte-index _ c.loop-byte-test.true) c.loop-byte.invariant c.print_escaped_byte.ensures
-
-pub returns : goal.returns
-returns g c = at_end (flat_end escaped_byte c.args.text.now c.loop-byte.byte-index (omega arith)) c.loop-byte.invariant
+pub returns-else-is_plain : goal.returns-else-is_plain
+returns-else-is_plain g c = c.print_bytes.ensures

@@ -2,7 +2,7 @@ use Rattle.std.proofs.Common.{drop}
 use Rattle.std.specs.Prelude.{flat_map}
 use Rattle.tigertopo_svg.proofs.PieceLemmas.{PrintsUpTo}
 use Rattle.tigertopo_svg.specs.Texts.{escaped_byte}
-use Rattle.tigertopo_svg.proofs.marks.print_escaped.Given as goal
+use Rattle.tigertopo_svg.proofs.marks.print_bytes.Given as goal
 
 abbrev pub invariant-loop-byte : goal.invariant-loop-byte
 invariant-loop-byte g l =
