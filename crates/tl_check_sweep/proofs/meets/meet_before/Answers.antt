@@ -26,7 +26,7 @@ pub returns-then-not-are_one-clause-none : goal.returns-then-not-are_one-clause-
 returns-then-not-are_one-clause-none c = λ none.
     let last = subst (IsLast c.last_of-last.result) (sym (c.at-next.ensures.events [])) c.last_of-last.ensures in
     let up = rises_before c.args.events.now c.args.k c.last_of-last.result c.at-second.result.0 c.at-second.result.1 c.requires.some c.requires.within c.requires.rising last
-        (c.at-second.ensures.events []) no_event in
+    (c.at-second.ensures.events []) no_event in
     let low = last_level c.point.result (get_or c.args.events.now (c.args.k - 1) []) c.last_of-last.result (c.point.ensures []) last in
     let high = first_level c.point-2.result c.at-second.result.0 c.at-second.result.1 (subst (AreAt c.point-2.result) (c.at-second.ensures.events []) (c.point-2.ensures [])) in
     record {
