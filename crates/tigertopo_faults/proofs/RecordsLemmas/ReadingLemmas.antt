@@ -405,24 +405,14 @@ all_stay : (before : ℕ) (lines : List (List ℕ)) → lines_left before [] lin
 all_stay before [] = refl
 all_stay before (line ∷ rest) = ap (λ l. line ∷ l) (all_stay (before + 1) rest)
 
-passed_here : (before number : ℕ) (rest : List ℕ) → number ≡ before + 1 → is_passed (Some before) (number ∷ rest) ≡ true
-passed_here before number rest here = grind (arith, nat_tests)
-
-passed_there : (before number : ℕ) (rest : List ℕ) → number ≢ before + 1 → is_passed (Some before) (number ∷ rest) ≡ false
-passed_there before number rest there = grind (arith, nat_tests)
-
 -- so the lines of what is left are told
 same_lines : (before : ℕ) (numbers : List ℕ) (lines : List (List ℕ)) → lines_of_left before numbers lines ≡ lines_left before numbers lines
 same_lines before [] lines = sym (all_stay before lines)
 same_lines before (number ∷ rest) [] = refl
 same_lines before (number ∷ rest) (line ∷ lines) =
     elim (cases_Bool (number == before + 1)) [
-      | inl here ↦
-          let told = passed_here before number rest (eqb-true number (before + 1) here) in
-          rw (here, told) (ap (λ (l : List (List ℕ)). [] ∷ l) (same_lines (before + 1) rest lines))
-      | inr there ↦
-          let told = passed_there before number rest (λ same. let wrong = sym there ∙ eq-eqb number (before + 1) same in cc) in
-          rw (there, told) (ap (λ (l : List (List ℕ)). line ∷ l) (same_lines (before + 1) (number ∷ rest) lines))
+      | inl here ↦ rw here (ap (λ (l : List (List ℕ)). [] ∷ l) (same_lines (before + 1) rest lines))
+      | inr there ↦ rw there (ap (λ (l : List (List ℕ)). line ∷ l) (same_lines (before + 1) (number ∷ rest) lines))
     ]
 
 -- nothing is found behind a line that is refused
