@@ -105,7 +105,7 @@ fn tell_found<F: FileSystem>(
     found: Found,
 ) -> Result<Answer<Listed>, Stop>
     requires { MayMake (F.under files.old) (option_map string_bytes wanted.made.now) (map_list string_bytes names.now) Collection }
-    ensures { (known : Option (List ℕ)) → IsFoundIn options (is_skipping wanted.told) known found →
+    ensures { (known : Option (List ℕ)) → IsFoundIn options (is_skipping wanted.entry.told) known found →
         let w = world F.under F.log F.knows files.old files.new in
         let asked = wanted_of (map_list string_bytes names.now) wanted.entry in
         Does w [] asked.made (λ answer. ListAnswers w options known asked answer.status (listed_text answer.text))

@@ -52,7 +52,7 @@ pub(crate) fn tell_refused<F: FileSystem>(
 ) -> Result<Answer<Listed>, Stop>
     requires { MayMake (F.under files.old) (option_map string_bytes wanted.made.now) (map_list string_bytes names.now) Collection }
     ensures { (known : Option (List ℕ)) → IfSome known (λ text. IsListingOf options text (RefusedLines list))
-        → IsLeft options (is_skipping wanted.told) known (RefusedLines list) left →
+        → IsLeft options (is_skipping wanted.entry.told) known (RefusedLines list) left →
         let w = world F.under F.log F.knows files.old files.new in
         let asked = wanted_of (map_list string_bytes names.now) wanted.entry in
         Does w [] asked.made (λ answer. ListAnswers w options known asked answer.status (listed_text answer.text))
