@@ -6,13 +6,13 @@ use Rattle.tl_geom.specs.declared.point.Point.{Point}
 use Rattle.tl_geom.specs.declared.rect.Rect.{Rect}
 use Rattle.tl_check_sides.specs.Lists.{list_at}
 use Rattle.tigertopo_geojson.specs.Groups.{GoesThrough}
-use Rattle.tl_map_county.specs.TheMap.{MapChain, IsChain}
-use Rattle.tl_map_county.specs.Darts.{directed, is_along, dart_start}
+use Rattle.tl_map_county.specs.TheMap.{MapChain}
+use Rattle.tl_map_county.specs.Darts.{directed, dart_start}
 use Rattle.tigertopo_svg.specs.declared.frame.Frame.{Frame}
 use Rattle.tigertopo_svg.specs.declared.frame.Spot.{Spot}
 use Rattle.tigertopo_svg.specs.Frames.{spot_of, no_points}
 use Rattle.tigertopo_svg.specs.Texts.{pair_text, move_text}
-use Rattle.tigertopo_svg.specs.Fills.{Filling, is_spot, step_text, steps_text, line_text, ring_start, around_darts, around_walks, rings_of, is_filled, fill_text, polygon_fill, fills_below}
+use Rattle.tigertopo_svg.specs.Fills.{Filling, is_spot, step_text, line_text, ring_start, around_darts, around_walks, rings_of, is_filled, fill_text, polygon_fill, fills_below}
 use Rattle.tigertopo_svg.proofs.DrawingLemmas.{from_place, not_none}
 
 -- the way along points from a place on: a step before the way behind it

@@ -1,5 +1,5 @@
 -- What is drawn of chains: strokes from point to point.
-use Rattle.std.specs.Prelude.{◌==◌, Bool, false, true, not, ◌&&◌, if◌then◌else◌, List, [], ◌∷◌, length, Option, Some, None, is_none, unwrap_or}
+use Rattle.std.specs.Prelude.{◌==◌, Bool, not, ◌&&◌, if◌then◌else◌, List, [], ◌∷◌, length, Option, Some, None, is_none, unwrap_or}
 use Rattle.tl_geom.specs.declared.point.Point.{Point}
 use Rattle.tl_map_county.specs.TheMap.{MapChain}
 use Rattle.tigertopo_svg.specs.declared.frame.Frame.{Frame}

@@ -1,5 +1,5 @@
 -- Refused lines that were found, as they are told with where they stand.
-use Rattle.std.proofs.Common.{◌≡◌, ◌≢◌, ℕ, zero, suc, ◌+◌, ◌-◌, ◌==◌, ◌≤◌, ◌<◌, nat_le, Bool, true, false, List, [], ◌∷◌, ◌++◌, Option, None, Some, map, length, take, drop, get_or, refl, sym, ap, ap₂, ◌∙◌, arith, append_assoc, append-nil, inl, inr}
+use Rattle.std.proofs.Common.{◌≡◌, ◌≢◌, ℕ, zero, suc, ◌+◌, ◌-◌, ◌≤◌, ◌<◌, nat_le, List, [], ◌∷◌, ◌++◌, Option, None, Some, map, length, take, drop, get_or, refl, sym, ap, ap₂, ◌∙◌, arith, append_assoc, append-nil, inl, inr}
 use Rattle.std.specs.Prelude.{option_map, slice_get, slice_index_or}
 use Rattle.std.specs.Option.{option_map_or, option_and_then}
 use Rattle.std.proofs.lemmas.Bool.{cases_Bool, cases_eq, leb-true, leb-false}
@@ -14,7 +14,7 @@ use Rattle.tigertopo_files.specs.Files.{Under}
 use Rattle.tigertopo_where.specs.declared.hint.form.RefusedForm.{RefusedForm}
 use Rattle.tigertopo_where.specs.declared.hint.found.FoundLine.{FoundLine}
 use Rattle.tigertopo_where.specs.LinePlaces.{line_at, line_count, place_of, text_on}
-use Rattle.tigertopo_where.specs.Hint.Found.{found_line, found_place, found_text, numbered, all_numbered, next_cause, next_found, found_among, AreFound}
+use Rattle.tigertopo_where.specs.Hint.Found.{found_line, found_place, found_text, numbered, all_numbered, next_cause, found_among, AreFound}
 use Rattle.tigertopo_where.specs.Hint.Placed.{refused_text, no_place, told_place, placed_text, line_in, places_of, RiseFrom, IsPlaced}
 use Rattle.tigertopo_where.proofs.FoundLemmas.{long_numbered}
 use Rattle.tigertopo_where.proofs.HintLemmas.HintLemmas.{fused}

@@ -1,6 +1,6 @@
 -- What is told of a text, put together of what is told of its lines, its records and their map.
-use Rattle.std.proofs.Common.{◌≡◌, ◌≢◌, ℕ, inl, inr, List, [], ◌∷◌, ◌++◌, map, Option, Some, None, Result, Ok, Err, refl, sym, ap, ◌∙◌, subst, arith, Bool, true, false, length, Vec, Global}
-use Rattle.std.specs.Prelude.{IfOk, IfSome, slice_get}
+use Rattle.std.proofs.Common.{◌≡◌, ◌≢◌, ℕ, inl, inr, List, [], ◌∷◌, map, Option, Some, None, Ok, Err, refl, sym, ap, ◌∙◌, subst, arith, Bool, true, false, length, Vec, Global}
+use Rattle.std.specs.Prelude.{IfSome, slice_get}
 use Rattle.std.proofs.lemmas.Option.{IfSome_then}
 use Rattle.std.specs.Option.{option_map}
 use Rattle.tl_record.specs.declared.record.Record.{Record}

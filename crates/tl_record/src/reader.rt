@@ -54,7 +54,7 @@ pub enum Standing {
 }
 
 /// Gives the records of a source's text one after the other, up to its end or to its first refused line, and from there
-/// all lines that are refused.
+/// all lines that are refused; or, where [`RecordReader::pass_refused`] passes over each of them, the records behind them too.
 ///
 /// It keeps at most 65,536 bytes of the text, in an array, and takes no memory.
 #[derive(Drop)]

@@ -1,5 +1,4 @@
-use Rattle.std.proofs.Common.{ℕ, List, map, string_bytes, subst, sym}
-use Rattle.tl_record.specs.Layout.{layout_with}
+use Rattle.std.proofs.Common.{List, map, string_bytes, subst, sym}
 use Rattle.tl_record.specs.declared.refusal.Refusal.{Refusal}
 use Rattle.tigertopo_where.specs.declared.hint.found.FoundLine.{FoundLine}
 use Rattle.tigertopo_where.specs.Hint.Found.{AreFound}

@@ -1,5 +1,4 @@
-use Rattle.std.proofs.Common.{ℕ, Option, List, map, option_map, string_bytes, ap, ◌∙◌, true, ◌≡◌}
-use Rattle.std.specs.Prelude.{is_some}
+use Rattle.std.proofs.Common.{List, map, string_bytes, ap, ◌∙◌}
 use Rattle.tl_record.specs.Layout.{layout_with}
 use Rattle.tl_record.specs.declared.refusal.Refusal.{Refusal}
 use Rattle.tigertopo_where.specs.declared.hint.form.RefusedForm.TheVariants.{Features}

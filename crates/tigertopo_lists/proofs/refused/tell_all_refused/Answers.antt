@@ -1,9 +1,6 @@
-use Rattle.std.proofs.Common.{map, string_bytes, sym, List, ℕ, ◌∙◌, ap, ◌++◌, length}
+use Rattle.std.proofs.Common.{map, string_bytes, sym, ◌∙◌}
 use Rattle.tl_record.specs.Layout.{layout_with}
-use Rattle.tl_record.specs.declared.refusal.Refusal.{Refusal}
-use Rattle.tl_list_text.specs.Texts.{printed}
-use Rattle.tigertopo_where.specs.Hint.Found.{found_text}
-use Rattle.tigertopo_lists.specs.Listed.{most_of, refused_form, refusals_last, wanted_of}
+use Rattle.tigertopo_lists.specs.Listed.{most_of, wanted_of}
 use Rattle.tigertopo_lists.proofs.ListLemmas.{plain_refused, placed_refused}
 use Rattle.tigertopo_lists.proofs.refused.tell_all_refused.Goals as goal
 

@@ -1,4 +1,4 @@
-use Rattle.std.proofs.Common.{sym, ap, ◌==◌, ◌∙◌}
+use Rattle.std.proofs.Common.{ap, ◌==◌, ◌∙◌}
 use Rattle.tigertopo_where.proofs.FoundLemmas.{is_at}
 use Rattle.tigertopo_where.proofs.hint.found.SoughtLines.is_at.Goals as goal
 
