@@ -1,4 +1,3 @@
-pub mod RecordsLemmas
 pub mod LinesLemmas
 pub mod GeojsonLemmas
 pub mod ObjectLemmas

@@ -1,4 +1,3 @@
-pub mod Records
 pub mod Lines
 pub mod Geojson
 pub mod Objects

@@ -53,7 +53,7 @@ use Rattle.tl_record.specs.Left.{numbers_of}
 use Rattle.tl_list.specs.declared.left.LeftFaults.{LeftFaults}
 use Rattle.tigertopo_lists.specs.declared.skipping.LeftTexts.{LeftTexts}
 use Rattle.tl_list.proofs.Listed.{sound_alone}
-use Rattle.tigertopo_faults.specs.Records.Keeping.{held}
+use Rattle.tigertopo_records.specs.Keeping.{held}
 use Rattle.tigertopo_faults.specs.declared.lines.again.Spoken.{Spoken}
 use Rattle.tigertopo_faults.specs.Lines.Again.{AreSpoken}
 use Rattle.tigertopo_faults.specs.Geojson.Texts.{faults_text}

@@ -28,7 +28,7 @@ use Rattle.tl_record.specs.Left.{numbers_of}
 use Rattle.tl_list.specs.declared.left.LeftFaults.{LeftFaults}
 use Rattle.tigertopo_lists.specs.declared.skipping.LeftTexts.{LeftTexts}
 use Rattle.tigertopo_faults.specs.Lines.Again.{AreSpoken}
-use Rattle.tigertopo_faults.specs.Records.SpokenOf.{chains_of}
+use Rattle.tigertopo_records.specs.SpokenOf.{chains_of}
 use Rattle.tigertopo_lists.specs.Listed.{Asked, featured, has_places, listed_text, most_of, reads_again, refused_form, refusals_text, skipped_text, told_text}
 
 -- the line of the first fault, or nothing where all are told

@@ -34,8 +34,8 @@ use Rattle.tl_list_text.specs.declared.listing.Listing.TheVariants as listing
 use Rattle.tl_list_text.specs.Listings.{IsListingOf}
 use Rattle.tl_list_text.specs.Texts.{lines, listing_text, printed, count_line}
 use Rattle.tl_list.specs.Findings.{AreFaultsOf, AreFindingsOf, HasBeyond}
-use Rattle.tigertopo_faults.specs.Records.SpokenOf.{chains_of}
-use Rattle.tigertopo_faults.specs.Records.Keeping.{held}
+use Rattle.tigertopo_records.specs.SpokenOf.{chains_of}
+use Rattle.tigertopo_records.specs.Keeping.{held}
 use Rattle.tigertopo_faults.specs.declared.lines.again.Spoken.{Spoken}
 use Rattle.tigertopo_faults.specs.Lines.Again.{AreSpoken}
 use Rattle.tigertopo_faults.specs.Lines.Texts.{placed_text, chosen, end_text}

@@ -4,7 +4,7 @@ ghost use Rattle.std.specs.Prelude.{[], map, option_map, option_copied, string_b
 ghost use Rattle.tigertopo_faults.specs.Geojson.Texts.{faults_text};
 ghost use Rattle.tigertopo_files.specs.World.{Does, Made, MayMake, world};
 ghost use Rattle.tigertopo_files.specs.declared.beginning.FileKind.TheVariants.{Collection};
-ghost use Rattle.tigertopo_faults.specs.Records.Keeping.{held};
+ghost use Rattle.tigertopo_records.specs.Keeping.{held};
 ghost use Rattle.tigertopo_outcome.specs.Records.{StopsNever};
 ghost use Rattle.tigertopo_lists.specs.Listed.{refused_text};
 

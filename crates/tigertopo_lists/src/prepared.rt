@@ -1,7 +1,7 @@
 //! What is printed of faults, put together before anything is made or told.
 
 ghost use Rattle.std.specs.Prelude.{◌≡◌, IfOk, IfErr, map, option_copied, string_bytes};
-ghost use Rattle.tigertopo_faults.specs.Records.SpokenOf.{chains_of};
+ghost use Rattle.tigertopo_records.specs.SpokenOf.{chains_of};
 ghost use Rattle.tl_list_text.specs.Texts.{lines};
 ghost use Rattle.tl_check_verdict.specs.Messages.{map_fault_text};
 ghost use Rattle.tigertopo_faults.specs.Lines.Texts.{chosen};

@@ -9,7 +9,7 @@ use Rattle.tl_check_inside.specs.declared.misplaced.Misplaced.TheVariants.{OnCha
 use Rattle.tl_check_faces.specs.declared.fault.FaceFault.TheVariants.{Facing, Outward}
 use Rattle.tl_check_verdict.specs.declared.fault.MapFault.{MapFault}
 use Rattle.tl_check_verdict.specs.declared.fault.MapFault.TheVariants.{Records, Meet, Side, PolygonPoint, Cell, Face}
-use Rattle.tigertopo_faults.specs.Records.SpokenOf.{tlid_of, other_tlid}
+use Rattle.tigertopo_records.specs.SpokenOf.{tlid_of, other_tlid}
 
 -- one thing or two, or none
 abbrev pub Pair : Type 0 → Type 0

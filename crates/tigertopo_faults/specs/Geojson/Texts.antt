@@ -5,9 +5,9 @@ use Rattle.std.specs.List.{flat_map, list_any}
 use Rattle.tl_map_county.specs.declared.polygons.Polygon.{Polygon}
 use Rattle.tl_map_county.specs.TheMap.{TheMap, MapChain}
 use Rattle.tl_check_verdict.specs.declared.fault.MapFault.{MapFault}
-use Rattle.tigertopo_faults.specs.declared.records.line.RecordLine.{RecordLine}
-use Rattle.tigertopo_faults.specs.declared.records.subject.Subject.{Subject}
-use Rattle.tigertopo_faults.specs.Records.SpokenOf.{chains_of}
+use Rattle.tigertopo_records.specs.declared.line.RecordLine.{RecordLine}
+use Rattle.tigertopo_records.specs.declared.subject.Subject.{Subject}
+use Rattle.tigertopo_records.specs.SpokenOf.{chains_of}
 use Rattle.tl_geom.specs.declared.rational.Rational.{Rational}
 use Rattle.tigertopo_faults.specs.Lines.Places.{place_at}
 use Rattle.tigertopo_words.specs.Json.{string_text}

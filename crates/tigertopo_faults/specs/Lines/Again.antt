@@ -9,8 +9,8 @@ use Rattle.tl_check_verdict.specs.declared.fault.MapFault.{MapFault}
 use Rattle.tigertopo_where.specs.LinePlaces.{line_count}
 use Rattle.tl_record.specs.Left.{left_from}
 use Rattle.tigertopo_where.specs.Hint.Telling.{HaveTexts}
-use Rattle.tigertopo_faults.specs.Records.Finding.{HoldsAll}
-use Rattle.tigertopo_faults.specs.Records.SpokenOf.{chains_of}
+use Rattle.tigertopo_records.specs.Finding.{HoldsAll}
+use Rattle.tigertopo_records.specs.SpokenOf.{chains_of}
 use Rattle.tigertopo_faults.specs.Lines.Places.{fault_place}
 use Rattle.tigertopo_faults.specs.declared.lines.again.HeldLines.{HeldLines}
 use Rattle.tigertopo_faults.specs.declared.lines.again.Spoken.{Spoken}

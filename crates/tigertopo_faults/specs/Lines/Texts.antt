@@ -12,14 +12,14 @@ use Rattle.tl_check_verdict.specs.declared.fault.MapFault.TheVariants.{Meet}
 use Rattle.tl_check_verdict.specs.Messages.{map_fault_text}
 use Rattle.tigertopo_where.specs.LinePlaces.{place_of}
 use Rattle.tigertopo_where.specs.Degrees.{is_in_reach, location_text}
-use Rattle.tigertopo_faults.specs.declared.records.line.RecordLine.{RecordLine}
-use Rattle.tigertopo_faults.specs.declared.records.line.SegmentEnds.{SegmentEnds}
-use Rattle.tigertopo_faults.specs.declared.records.line.Part.{Part}
-use Rattle.tigertopo_faults.specs.declared.records.line.Part.TheVariants.{Start, Pair, End}
-use Rattle.tigertopo_faults.specs.declared.records.subject.Subject.{Subject}
-use Rattle.tigertopo_faults.specs.declared.records.subject.Subject.TheVariants.{Drawn}
-use Rattle.tigertopo_faults.specs.Records.Ends.{segment_lines, segment_within}
-use Rattle.tigertopo_faults.specs.Records.SpokenOf.{subjects_of}
+use Rattle.tigertopo_records.specs.declared.line.RecordLine.{RecordLine}
+use Rattle.tigertopo_records.specs.declared.line.SegmentEnds.{SegmentEnds}
+use Rattle.tigertopo_records.specs.declared.line.Part.{Part}
+use Rattle.tigertopo_records.specs.declared.line.Part.TheVariants.{Start, Pair, End}
+use Rattle.tigertopo_records.specs.declared.subject.Subject.{Subject}
+use Rattle.tigertopo_records.specs.declared.subject.Subject.TheVariants.{Drawn}
+use Rattle.tigertopo_records.specs.Ends.{segment_lines, segment_within}
+use Rattle.tigertopo_records.specs.SpokenOf.{subjects_of}
 use Rattle.tigertopo_faults.specs.Lines.Places.{place_at}
 use Rattle.tigertopo_words.specs.Escapes.{shown_name}
 use Rattle.tigertopo_words.specs.declared.budget.Told.{Told}

@@ -5,8 +5,8 @@ use Rattle.tl_geom.specs.declared.rational.Rational.{Rational}
 use Rattle.tl_map_county.specs.TheMap.{MapChain}
 use Rattle.tl_check_verdict.specs.declared.fault.MapFault.{MapFault}
 use Rattle.tigertopo_words.specs.declared.budget.Told.{Told}
-use Rattle.tigertopo_faults.specs.declared.records.line.RecordLine.{RecordLine}
-use Rattle.tigertopo_faults.specs.declared.records.subject.Subject.{Subject}
+use Rattle.tigertopo_records.specs.declared.line.RecordLine.{RecordLine}
+use Rattle.tigertopo_records.specs.declared.subject.Subject.{Subject}
 use Rattle.tigertopo_faults.specs.Lines.Places.{place_at}
 use Rattle.tigertopo_faults.specs.Lines.Texts.{chosen}
 use Rattle.tigertopo_faults.specs.Geojson.Words.{told_text}

@@ -5,7 +5,7 @@ ghost use Rattle.std.specs.Option.{option_map_or};
 ghost use Rattle.std.specs.List.{flat_map};
 ghost use Rattle.std.specs.List.Sorted.{IsPermutation, IsSorted};
 ghost use Rattle.std.specs.Ordering.{nat_cmp};
-ghost use Rattle.tigertopo_faults.specs.Records.SpokenOf.{chains_of};
+ghost use Rattle.tigertopo_records.specs.SpokenOf.{chains_of};
 ghost use Rattle.tl_cert_output.specs.Printing.{Prints};
 ghost use Rattle.tigertopo_faults.specs.Geojson.Named.{listed};
 ghost use Rattle.tigertopo_faults.specs.Geojson.Texts.{named_tlids, is_among, named_chain, chains_text};

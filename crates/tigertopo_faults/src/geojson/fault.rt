@@ -1,8 +1,8 @@
 //! A fault as a feature.
 
 ghost use Rattle.std.specs.Prelude.{map, string_bytes, option_copied, option_to_list, decimal, length};
-ghost use Rattle.tigertopo_faults.specs.Records.SpokenOf.{chains_of};
-ghost use Rattle.tigertopo_faults.specs.Records.Keeping.{held};
+ghost use Rattle.tigertopo_records.specs.SpokenOf.{chains_of};
+ghost use Rattle.tigertopo_records.specs.Keeping.{held};
 ghost use Rattle.tl_cert_output.specs.Printing.{Prints};
 ghost use Rattle.tigertopo_geojson.specs.Strings.{key_string};
 ghost use Rattle.tigertopo_geojson.specs.Features.{separated, features_below};
@@ -15,8 +15,8 @@ use crate::geojson::place::{print_exact, print_geometry};
 use crate::geojson::record::print_records;
 use crate::geojson::words::{print_words, rest_of};
 use crate::lines::{lines_for, place_at, segment_spoken};
-use crate::records::{RecordLines, subjects_of};
 use tigertopo_geojson::{print_key, print_lead};
+use tigertopo_records::{RecordLines, subjects_of};
 use tl_cert_output::Printer;
 use tl_check_verdict::MapFault;
 use tl_geom::Rational;

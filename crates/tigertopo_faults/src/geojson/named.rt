@@ -1,11 +1,11 @@
 //! What a fault names: TLIDs, polygons' keys and a LAND.
 
 ghost use Rattle.std.specs.Prelude.{◌≡◌, option_copied};
-ghost use Rattle.tigertopo_faults.specs.Records.SpokenOf.{chains_of};
+ghost use Rattle.tigertopo_records.specs.SpokenOf.{chains_of};
 ghost use Rattle.tigertopo_faults.specs.Geojson.Named.{each_once, record_tlid, record_key, record_land, point_tlid, point_keys};
 ghost use Rattle.tigertopo_faults.specs.Geojson.Named.{tlids_of, keys_of, land_of};
 
-use crate::records::tlid_of;
+use tigertopo_records::tlid_of;
 use tl_check_faces::FaceFault;
 use tl_check_inside::Misplaced;
 use tl_check_verdict::MapFault;

@@ -8,8 +8,8 @@ ghost use Rattle.tigertopo_geojson.specs.Features.{separated};
 ghost use Rattle.tigertopo_faults.specs.Geojson.Records.{type_text, unknown_text, known_text, line_text, record_text, records_text};
 
 use crate::geojson::ends::print_ends;
-use crate::records::RecordLine;
 use tigertopo_geojson::print_string;
+use tigertopo_records::RecordLine;
 use tigertopo_where::{TextLine, place_of};
 use tl_cert_output::Printer;
 use tl_record::{Record, Sink};

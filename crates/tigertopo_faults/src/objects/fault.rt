@@ -2,15 +2,15 @@
 
 ghost use Rattle.std.specs.Prelude.{map, string_bytes, option_copied, length};
 ghost use Rattle.tl_cert_output.specs.Printing.{Prints};
-ghost use Rattle.tigertopo_faults.specs.Records.SpokenOf.{chains_of};
-ghost use Rattle.tigertopo_faults.specs.Records.Keeping.{held};
+ghost use Rattle.tigertopo_records.specs.SpokenOf.{chains_of};
+ghost use Rattle.tigertopo_records.specs.Keeping.{held};
 ghost use Rattle.tigertopo_faults.specs.Objects.Texts.{about_text, fault_object, object_text, objects_below};
 
 use crate::geojson::{print_names, print_spoken, print_words, rest_of};
 use crate::lines::place_at;
 use crate::objects::about::print_details;
 use crate::objects::place::print_place;
-use crate::records::RecordLines;
+use tigertopo_records::RecordLines;
 use tl_cert_output::Printer;
 use tl_check_verdict::MapFault;
 use tl_geom::Rational;

@@ -1,6 +1,6 @@
 use Rattle.std.proofs.Common.{map, string_bytes}
 use Rattle.std.specs.Prelude.{option_copied}
-use Rattle.tigertopo_faults.specs.Records.Keeping.{held}
+use Rattle.tigertopo_records.specs.Keeping.{held}
 use Rattle.tigertopo_faults.specs.Geojson.Texts.{faults_text}
 use Rattle.tigertopo_files.proofs.WorldLemmas.{does_make}
 use Rattle.tigertopo_outcome.specs.Records.{StopsNever}

@@ -3,8 +3,8 @@ use Rattle.std.specs.Prelude.{option_copied, option_map}
 use Rattle.tl_record.specs.Layout.{layout_with}
 use Rattle.tl_map_county.specs.TheMap.{TheMap}
 use Rattle.tl_check_verdict.specs.declared.fault.MapFault.{MapFault}
-use Rattle.tigertopo_faults.specs.Records.SpokenOf.{chains_of}
-use Rattle.tigertopo_faults.specs.Records.Keeping.{held}
+use Rattle.tigertopo_records.specs.SpokenOf.{chains_of}
+use Rattle.tigertopo_records.specs.Keeping.{held}
 use Rattle.tl_cert_output.specs.Stops.{StopsFor}
 use Rattle.tl_cert_output.proofs.StopLemmas.{stops_for}
 use Rattle.tigertopo_files.specs.World.{Made, MayMake, world}

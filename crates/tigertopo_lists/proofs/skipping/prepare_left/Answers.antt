@@ -8,7 +8,7 @@ use Rattle.tl_record.specs.Left.{numbers_of}
 use Rattle.tigertopo_where.specs.declared.hint.found.FoundLine.{FoundLine}
 use Rattle.tigertopo_where.specs.Hint.Found.{AreFound}
 use Rattle.tigertopo_faults.specs.Lines.Again.{AreSpoken}
-use Rattle.tigertopo_faults.specs.Records.SpokenOf.{chains_of}
+use Rattle.tigertopo_records.specs.SpokenOf.{chains_of}
 use Rattle.tigertopo_lists.specs.Keeping.{sought_lines}
 use Rattle.tigertopo_lists.specs.Listed.{featured, listed_text, most_of, refusals_text, skipped_text, told_text, wanted_of}
 use Rattle.tigertopo_lists.proofs.skipping.prepare_left.Goals as goal

@@ -5,7 +5,7 @@ use Rattle.tl_cert_output.proofs.StopLemmas.{stops_for}
 use Rattle.tigertopo_files.specs.World.{Made, MayMake, world}
 use Rattle.tigertopo_files.specs.declared.beginning.FileKind.TheVariants.{Collection}
 use Rattle.tigertopo_files.proofs.WorldLemmas.{does_answer, does_fail, does_so}
-use Rattle.tigertopo_faults.specs.Records.Keeping.{held}
+use Rattle.tigertopo_records.specs.Keeping.{held}
 use Rattle.tigertopo_faults.specs.Geojson.Texts.{faults_text}
 use Rattle.tigertopo_lists.specs.declared.skipping.LeftTexts.{LeftTexts}
 use Rattle.tigertopo_lists.specs.Listed.{StopsAgain, StopsList, featured, wanted_of}

@@ -10,8 +10,8 @@ use Rattle.tigertopo_where.proofs.FoundLemmas.{found_in_all, found_more}
 use Rattle.tigertopo_where.proofs.PlacedLemmas.{behind_slice}
 use Rattle.tigertopo_where.proofs.HintLemmas.HintLemmas.{among, same_count, text_at}
 use Rattle.tigertopo_where.proofs.HintLemmas.AgainLemmas.{fails_among, fails_behind, passing_among, stops_logged, stops_one}
-use Rattle.tigertopo_faults.specs.declared.records.read.FileRecords.{FileRecords}
-use Rattle.tigertopo_faults.proofs.RecordsLemmas.ReadingLemmas.{fewer_behind, kept_all, kept_more, numbers_from}
+use Rattle.tigertopo_records.specs.declared.read.FileRecords.{FileRecords}
+use Rattle.tigertopo_records.proofs.ReadingLemmas.{fewer_behind, kept_all, kept_more, numbers_from}
 use Rattle.tigertopo_faults.proofs.lines.again.keep_again.Goals as goal
 
 pub returns-in_err-part-clause-stops : goal.returns-in_err-part-clause-stops

@@ -1,6 +1,0 @@
-use Rattle.std.proofs.Common.{sym, ◌∙◌}
-use Rattle.tigertopo_faults.proofs.RecordsLemmas.KeptLemmas.{inserted}
-use Rattle.tigertopo_faults.proofs.records.wanted.want.Goals as goal
-
-pub returns-in_ok-insert-clause-added : goal.returns-in_ok-insert-clause-added
-returns-in_ok-insert-clause-added c = λ s is. inserted c.args.subjects.now.keys c.insert.new.self.keys c.in-Some.subject s c.in_ok-insert.ensures.keys (sym c.in-Some.is ∙ is)

@@ -1,0 +1,13 @@
+use Rattle.std.proofs.Common.{◌<◌, arith, length, min}
+use Rattle.tigertopo_records.specs.Ends.{pairs_from}
+use Rattle.tigertopo_records.proofs.WalkLemmas.{goes_number}
+use Rattle.tigertopo_records.proofs.walk.Walk.pass_pairs.Goals as goal
+
+pub loop-number-preserved : goal.loop-number-preserved
+loop-number-preserved c =
+    let lines = c.args.lines.now in
+    let count = min (length lines) 999 in
+    let below = c.loop-number-test.true in
+    let end = c.min-number-end.ensures in
+    let within : c.loop-number.number < count = omega (arith, below, end) in
+    goes_number lines count c.loop-number.number (pairs_from lines count 1) c.args.self.now c.loop-number.self c.pass_pairs_at.new.self within c.loop-number.invariant c.in_ok-pass_pairs_at.ensures

@@ -1,0 +1,186 @@
+//! The segments of a chain, as its points are gone through.
+
+ghost use Rattle.std.specs.Prelude.{◌≡◌, IfOk};
+ghost use Rattle.tigertopo_records.specs.Ends.{segments_held};
+
+use crate::line::{Part, RecordLine};
+use std::alloc::{AllocError, Global};
+use tl_geom::Point;
+use tl_record::{PAIRS, Record};
+
+/// A point of a chain, and where it is held.
+#[derive(Clone, Copy, Debug)]
+pub struct HeldPoint {
+    /// The place of its record among those of the chain, counted from 0.
+    pub place: usize,
+    pub part: Part,
+    pub point: Point,
+}
+
+/// A segment of a chain, by its ends.
+#[derive(Clone, Copy, Debug)]
+pub struct HeldSegment {
+    pub from: HeldPoint,
+    pub to: HeldPoint,
+}
+
+// The last number that a type 2 record may have: its RTSQ has three digits.
+const LAST_NUMBER: usize = 999;
+
+/// The segments of the chain that these records of types 1 and 2 draw, from its start to its end.
+pub(crate) fn held_segments(
+    alloc: Global,
+    lines: &[RecordLine],
+) -> Result<Vec<HeldSegment>, AllocError>
+    ensures { IfOk result (λ segments. segments.items ≡ segments_held lines.now) }
+{
+    let mut walk = Walk {
+        before: None,
+        segments: Vec::new(alloc),
+    };
+    walk.pass_starts(lines)?;
+    walk.pass_pairs(lines)?;
+    walk.pass_ends(lines)?;
+    Ok(walk.segments)
+}
+
+// A walk along a chain, from its start.
+#[derive(Drop)]
+struct Walk {
+    // The point where it is.
+    before: Option<HeldPoint>,
+    // The segments behind it.
+    segments: Vec<HeldSegment>,
+}
+
+impl Walk {
+    ghost use Rattle.std.specs.Prelude.{◌≡◌, ◌++◌, ◌∷◌, List, OnOk, length, min};
+    ghost use Rattle.tigertopo_records.specs.declared.walk.HeldPoint.{HeldPoint as HeldPointOf};
+    ghost use Rattle.tigertopo_records.specs.Ends.{held_from, start_in, pair_held, pairs_held, pairs_in, pairs_from, end_in};
+    ghost use Rattle.tigertopo_records.specs.Walking.{going};
+
+    // Goes on to a point.
+    fn pass(&mut self, point: HeldPoint) -> Result<(), AllocError>
+        ensures { OnOk result ((rest : List HeldPointOf) → going self.new rest ≡ going self.old (point ∷ rest)) }
+    {
+        if let Some(before) = self.before {
+            if before.point != point.point {
+                self.segments.push(HeldSegment {
+                    from: before,
+                    to: point,
+                })?;
+            }
+        }
+        self.before = Some(point);
+        Ok(())
+    }
+
+    // Goes on to where the chain starts.
+    fn pass_starts(&mut self, lines: &[RecordLine]) -> Result<(), AllocError>
+        ensures { OnOk result ((rest : List HeldPointOf) → going self.new rest ≡ going self.old (held_from start_in 0 lines.now ++ rest)) }
+    {
+        for place in 0..lines.len() {
+            self.pass_start(place, &lines[place])?;
+        }
+        Ok(())
+    }
+
+    // Goes on to where a record has its chain start, if it is of type 1.
+    fn pass_start(&mut self, place: usize, line: &RecordLine) -> Result<(), AllocError>
+        ensures { OnOk result ((rest : List HeldPointOf) → going self.new rest ≡ going self.old (start_in place line.now.holds ++ rest)) }
+    {
+        if let Record::Chain { from, .. } = line.holds {
+            self.pass(HeldPoint {
+                place,
+                part: Part::Start,
+                point: from,
+            })?;
+        }
+        Ok(())
+    }
+
+    // Goes on along all pairs, by rising RTSQ.
+    fn pass_pairs(&mut self, lines: &[RecordLine]) -> Result<(), AllocError>
+        ensures { OnOk result ((rest : List HeldPointOf) → going self.new rest ≡ going self.old (pairs_from lines.now (min (length lines.now) 999) 1 ++ rest)) }
+    {
+        for number in 0..lines.len().min(LAST_NUMBER) {
+            self.pass_pairs_at(lines, number + 1)?;
+        }
+        Ok(())
+    }
+
+    // Goes on along the pairs with this RTSQ.
+    fn pass_pairs_at(&mut self, lines: &[RecordLine], number: usize) -> Result<(), AllocError>
+        ensures { OnOk result ((rest : List HeldPointOf) → going self.new rest ≡ going self.old (held_from (pairs_in number) 0 lines.now ++ rest)) }
+    {
+        for place in 0..lines.len() {
+            self.pass_pairs_in(place, &lines[place], number)?;
+        }
+        Ok(())
+    }
+
+    // Goes on along the pairs of a record, if it is of type 2 and has this RTSQ.
+    fn pass_pairs_in(
+        &mut self,
+        place: usize,
+        line: &RecordLine,
+        number: usize,
+    ) -> Result<(), AllocError>
+        ensures { OnOk result ((rest : List HeldPointOf) → going self.new rest ≡ going self.old (pairs_in number place line.now.holds ++ rest)) }
+    {
+        if let Record::Shape { rtsq, pairs, .. } = &line.holds {
+            if usize::from(*rtsq) == number {
+                self.pass_each(place, pairs)?;
+            }
+        }
+        Ok(())
+    }
+
+    // Goes on along the pairs of a record.
+    fn pass_each(&mut self, place: usize, pairs: &[Option<Point>; PAIRS]) -> Result<(), AllocError>
+        ensures { OnOk result ((rest : List HeldPointOf) → going self.new rest ≡ going self.old (pairs_held place 1 pairs.now ++ rest)) }
+    {
+        for pair in 0..PAIRS {
+            self.pass_pair(place, pair as u8 + 1, pairs[pair])?;
+        }
+        Ok(())
+    }
+
+    // Goes on to a pair, if it is used.
+    fn pass_pair(&mut self, place: usize, number: u8, pair: Option<Point>) -> Result<(), AllocError>
+        ensures { OnOk result ((rest : List HeldPointOf) → going self.new rest ≡ going self.old (pair_held place number pair ++ rest)) }
+    {
+        if let Some(point) = pair {
+            self.pass(HeldPoint {
+                place,
+                part: Part::Pair(number),
+                point,
+            })?;
+        }
+        Ok(())
+    }
+
+    // Goes on to where the chain ends.
+    fn pass_ends(&mut self, lines: &[RecordLine]) -> Result<(), AllocError>
+        ensures { OnOk result ((rest : List HeldPointOf) → going self.new rest ≡ going self.old (held_from end_in 0 lines.now ++ rest)) }
+    {
+        for place in 0..lines.len() {
+            self.pass_end(place, &lines[place])?;
+        }
+        Ok(())
+    }
+
+    // Goes on to where a record has its chain end, if it is of type 1.
+    fn pass_end(&mut self, place: usize, line: &RecordLine) -> Result<(), AllocError>
+        ensures { OnOk result ((rest : List HeldPointOf) → going self.new rest ≡ going self.old (end_in place line.now.holds ++ rest)) }
+    {
+        if let Record::Chain { to, .. } = line.holds {
+            self.pass(HeldPoint {
+                place,
+                part: Part::End,
+                point: to,
+            })?;
+        }
+        Ok(())
+    }
+}
