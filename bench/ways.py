@@ -1,6 +1,6 @@
 #!/usr/bin/env python3
 """Counts, in the built program itself, how often a command sweeps over a map, how often a search of all its segments decides behind it,
-and how often slabs are listed one by one: by the calls that valgrind's callgrind sees, of maps of each family that the bench makes. One sweep
+and how often vertices are passed by exact places: by the calls that valgrind's callgrind sees, of maps of each family that the bench makes. One sweep
 is wanted of each, and none of the others; but where neighbouring sides disagree `--all` sweeps once more, over the map without the polygons
 that they touch. The gate asks for it.
 
@@ -33,13 +33,13 @@ def bench_run():
 run = bench_run()
 
 # What is counted, each by functions that are called where it happens and nowhere else.
-SWEEPS, SEARCHES, SLOW = "sweeps", "searches of all segments", "slabs listed one by one"
+SWEEPS, SEARCHES, EXACT = "sweeps", "searches of all segments", "vertices passed by exact places"
 COUNTED = {
     SWEEPS: ["tl_check_sweep::answer::sweep"],
-    SEARCHES: ["tl_check_sweep::pairs::find_in_pairs", "tl_tree::search::search_within", "tl_list::of_map::list_by_search"],
-    SLOW: ["tl_check_sweep::slabs::gaps::push_above"],
+    SEARCHES: ["tl_tree::search::search_within", "tl_list::of_map::list_by_search"],
+    EXACT: ["tl_check_sweep::exact::pass_exactly"],
 }
-WANTED = {SWEEPS: 1, SEARCHES: 0, SLOW: 0}
+WANTED = {SWEEPS: 1, SEARCHES: 0, EXACT: 0}
 # A map of which neighbouring sides disagree. A ring of one chain has the same sides about its node when they are exchanged.
 DISAGREE = "star-exchanged"
 CHAINS = 300

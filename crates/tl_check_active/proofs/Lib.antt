@@ -2,7 +2,6 @@ pub mod Bits
 pub mod Answered
 pub mod Wide
 pub mod Tests
-pub mod West
 pub mod Beside
 pub mod Lining
 pub mod Numbers

@@ -22,7 +22,7 @@ pub use events::{Event, Events};
 pub use finding::{go_to, go_to_first};
 pub use heights::{ends, height, is_lower};
 pub use line::Line;
-pub use neighbours::{are_tested, is_west_of};
+pub use neighbours::are_tested;
 pub use places::Places;
 pub use shifting::{bend, closes, shift};
 pub use vertices::{are_one, gather, order};

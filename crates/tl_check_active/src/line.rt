@@ -61,7 +61,7 @@ fn take_behind(alloc: Global, items: &mut Vec<u32>, half: usize) -> Result<Vec<u
 }
 
 impl Line {
-    ghost use Rattle.std.specs.Prelude.{◌≡◌, ◌++◌, ◌∷◌, [], drop, slice_get, IfOk};
+    ghost use Rattle.std.specs.Prelude.{◌≡◌, ◌++◌, ◌∷◌, ◌≤◌, [], drop, take, length, slice_get, IfOk};
     ghost use Rattle.tl_check_active.specs.Lined.{list_of, last_of};
 
     /// An empty list.
@@ -74,6 +74,21 @@ impl Line {
             opened: 0,
             items: Vec::new(alloc),
             place: 0,
+        }
+    }
+
+    /// These numbers, parted at a place, in one block.
+    pub fn parted(alloc: Global, numbers: Vec<u32>, place: usize) -> Line
+        requires within { place ≤ length numbers.items }
+        ensures front { result.front ≡ take place numbers.items }
+        ensures back { result.back ≡ drop place numbers.items }
+    {
+        Line {
+            alloc,
+            blocks: Vec::new(alloc),
+            opened: 0,
+            items: numbers,
+            place,
         }
     }
 

@@ -1,5 +1,5 @@
 //! What is tested of segments that stand side by side.
-ghost use Rattle.std.specs.Prelude.{◌↔◌, ◌≤ℤ◌, ◌⊎◌, pos, IsTrue};
+ghost use Rattle.std.specs.Prelude.{◌≤ℤ◌, ◌⊎◌, pos, IsTrue};
 ghost use Rattle.tl_geom.specs.Plane.{turn_of};
 ghost use Rattle.tl_check_planar.specs.ByHeight.Heights.{widest};
 ghost use Rattle.tl_check_planar.specs.ByHeight.Neighbours.{IsWestOf, AreApartOrAtEnds, AreTested};
@@ -7,24 +7,6 @@ ghost use Rattle.tl_check_planar.specs.ByHeight.Neighbours.{IsWestOf, AreApartOr
 use crate::heights::{ends, is_lower};
 use tl_geom::{Contact, Point, Rect, Segment, contact, turn};
 use tl_map_county::Map;
-
-/// Whether `p` isn't east of the line from `c` to `e`, or `q` isn't west of that from `a` to `b`.
-#[inline]
-fn is_in_order(a: Point, b: Point, p: Point, c: Point, e: Point, q: Point) -> bool
-    ensures { IsTrue result ↔ ((pos 0 ≤ℤ turn_of c e p) ⊎ (turn_of a b q ≤ℤ pos 0)) }
-{
-    turn(c, e, p).is_ge() || turn(a, b, q).is_le()
-}
-
-/// Whether `u` is west of `w`, by their low ends and by their high ends.
-#[inline]
-pub fn is_west_of(u: Segment, w: Segment) -> bool
-    ensures { IsTrue result ↔ IsWestOf widest u w }
-{
-    let (a, b) = ends(u);
-    let (c, e) = ends(w);
-    is_in_order(a, b, a, c, e, c) && is_in_order(a, b, b, c, e, e)
-}
 
 /// Whether the lines aren't out of order at `p` of the first, if `first`; else at `q` of the second.
 #[inline]

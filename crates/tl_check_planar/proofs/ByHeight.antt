@@ -2,6 +2,7 @@ pub mod Order
 pub mod Rising
 pub mod Lying
 pub mod Transport
+pub mod Standing
 pub mod Numbered
 pub mod Walking
 pub mod Floors

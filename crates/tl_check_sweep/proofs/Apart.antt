@@ -1,6 +1,6 @@
 -- Where two segments have ends at one point of their chains, and both chains don't end there, they conflict, or one of them does with an end
 -- of its own chain.
-use Rattle.std.proofs.Common.{◌≡◌, ◌≢◌, ◌⊎◌, inl, inr, ⊎_elim, ℕ, ◌+◌, ◌-◌, ◌<◌, Some, List, length, get_or, refl, sym, ap, subst, ◌∙◌, arith}
+use Rattle.std.proofs.Common.{◌≡◌, ◌≢◌, ◌⊎◌, inl, inr, ⊎_elim, ℕ, ◌+◌, ◌-◌, ◌<◌, ◌≤◌, Some, List, length, get_or, refl, sym, ap, subst, ◌∙◌, arith}
 use Rattle.std.specs.Prelude.{slice_get}
 use Rattle.std.proofs.lemmas.Bool.{cases_eq, cases_order}
 use Rattle.std.proofs.lemmas.Option.{slice_get-get_or, slice_get_within}
@@ -36,7 +36,7 @@ module _ (points : List Point) (proper : IsProper points) (at : Point) where
       proper.distinct k at within (sym here ∙ there)
 
   -- the point lies on a segment that ends there
-  on_segment : (i p : ℕ) → i + 1 < length points → IsAtSegment i p → slice_get points p ≡ Some at → IsOnSegment points i (whole at)
+  pub on_segment : (i p : ℕ) → i + 1 < length points → IsAtSegment i p → slice_get points p ≡ Some at → IsOnSegment points i (whole at)
   on_segment i p within place is =
       let u : Segment = record { a = get_or points i at; b = get_or points (i + 1) at; different = proper.distinct i at within } in
       let from : slice_get points i ≡ Some (get_or points i at) = slice_get-get_or points i at (omega (arith, within)) in
@@ -149,6 +149,27 @@ shares_within chains c i j chain is lt within free r on on' =
       on_second = on';
     }))
 
+-- what a segment that doesn't conflict with the ends of its chain shares with the first segment of the chain, and with the last one
+module _ (chains : List MapChain) (proper : AreProper chains) (s c k : ℕ) (number : IsSegmentOf chains s c k) (free : IsFreeOfEnds chains s) (r : Rational) where
+  several : 2 ≤ length number.chain.points
+  several = (proper c number.chain number.is).several
+
+  here : s ≡ number_of chains c k
+  here = number.number
+
+  pub shares_first : 0 < k → IsOnSegment number.chain.points 0 r → IsOnSegment number.chain.points k r → MayShareWithin number.chain.points 0 k r
+  shares_first lt =
+      shares_within chains c 0 k number.chain number.is lt number.place
+      (subst (λ n. AreFree chains (number_of chains c 0) n) here
+      ((free c k (number_of chains c 0) 0 number (is_number chains c 0 number.chain number.is (omega (arith, several))) (inl refl)).downward (omega (arith, here, lt)))) r
+
+  pub shares_last : (l : ℕ) → l + 2 ≡ length number.chain.points → k < l → IsOnSegment number.chain.points k r → IsOnSegment number.chain.points l r →
+      MayShareWithin number.chain.points k l r
+  shares_last l last lt =
+      shares_within chains c k l number.chain number.is lt (omega (arith, last))
+      (subst (λ n. AreFree chains n (number_of chains c l)) here
+      ((free c k (number_of chains c l) l number (is_number chains c l number.chain number.is (omega (arith, last))) (inr last)).upward (omega (arith, here, lt)))) r
+
 -- an end of segment s, at a point that stands at place p of chain c
 pub record IsEndAt (chains : List MapChain) (at : Point) (s c p : ℕ) : Type 0 where
   pub k : ℕ
@@ -162,19 +183,12 @@ module _ (chains : List MapChain) (proper : AreProper chains) (at : Point) where
   no_end_there s c p e free never =
       let chain : MapChain = e.number.chain in
       let good = proper c chain e.number.is in
-      let several = good.several in
       let within = e.number.place in
       let some : 0 < p = ⊎_elim (λ z. absurd (never (inl z))) (λ ne. omega (arith, ne)) (cases_eq p 0) in
       let there = slice_get_within chain.points p at e.is in
       let below : p + 1 < length chain.points = ⊎_elim (λ z. absurd (never (inr z))) (λ ne. omega (arith, ne, there)) (cases_eq (p + 1) (length chain.points)) in
-      let here : s ≡ number_of chains c e.k = e.number.number in
       no_end chain.points good at e.k p within e.place e.is some below
-      (λ lt. shares_within chains c 0 e.k chain e.number.is lt within
-      (subst (λ n. AreFree chains (number_of chains c 0) n) here
-      ((free c e.k (number_of chains c 0) 0 e.number (is_number chains c 0 chain e.number.is (omega (arith, several))) (inl refl)).downward (omega (arith, here, lt)))) (whole at))
-      (λ l last lt. shares_within chains c e.k l chain e.number.is lt (omega (arith, last, several))
-      (subst (λ n. AreFree chains n (number_of chains c l)) here
-      ((free c e.k (number_of chains c l) l e.number (is_number chains c l chain e.number.is (omega (arith, last, several))) (inr last)).upward (omega (arith, here, lt)))) (whole at))
+      (shares_first chains proper s c e.k e.number free (whole at)) (shares_last chains proper s c e.k e.number free (whole at))
 
   -- the two ends of segments are at ends of their chains, or at one place of one chain
   abbrev pub MayBeThere : (c p d q : ℕ) (one other : List Point) → Type 0

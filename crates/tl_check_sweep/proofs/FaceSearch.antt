@@ -1,12 +1,6 @@
 pub mod Ranges
 pub mod Places
 pub mod Told
-pub mod Beside
-pub mod Tops
-pub mod Stepping
-pub mod Growing
-pub mod Begun
-pub mod BySlabs
 pub mod Zipped
 pub mod Agreeing
 pub mod Apart

@@ -21,7 +21,7 @@ use Rattle.tl_check_sweep.specs.Keeping.Pairs.{AreFreeBothWays, IsFreeOfEnds}
 use Rattle.tl_check_sweep.proofs.Apart.{IsAtSegment, IsEndAt, may_be_there}
 
 -- points of one height are one
-one_at_height : (p q : Point) → IsInRange p → IsInRange q → height widest p ≡ height widest q → p ≡ q
+pub one_at_height : (p q : Point) → IsInRange p → IsInRange q → height widest p ≡ height widest q → p ≡ q
 one_at_height p q r t same =
     let a = r.west in
     let b = r.east in

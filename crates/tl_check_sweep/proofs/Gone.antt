@@ -12,7 +12,7 @@ use Rattle.tl_check_planar.specs.ByHeight.Neighbours.{AreTested, EachTwo}
 use Rattle.tl_check_planar.specs.ByHeight.Slabs.{IsListOf}
 use Rattle.tl_check_active.specs.Gathered.{AreGathered}
 use Rattle.tl_check_active.specs.Events.{AreAt, begins_at, ends_at, AreEvents, AreRising, joined, between, before}
-use Rattle.tl_check_sweep.specs.Keeping.Swept.{AreAbove, IsSwept}
+use Rattle.tl_check_sweep.specs.Keeping.Swept.{AreAbove, AreBelow, IsSwept}
 use Rattle.tl_check_sweep.specs.Keeping.Watched.{AreReached, IsBelowNext}
 use Rattle.tl_check_active.proofs.Joining.{before_past, before_within, part_is, level_there, first_behind}
 use Rattle.tl_check_sweep.proofs.Slab.{goes_on, lower, earlier, next_list}
@@ -116,6 +116,13 @@ module _ (chains : List MapChain) (events : List (List Event)) (from to : ℕ) (
       where
         fewer : before to events < length (joined events) → to < length events
         fewer lt = ⊎_elim (λ less. less) (λ all. let none = all_before events to all in absurd (omega (arith, none, lt))) (cases_lt to (length events))
+
+    -- so all events up to them are lower than the next one
+    pub risen : AreBelow (before to events) (joined events)
+    risen k d lt inside =
+        let low = reached_all (height widest p) (omega (arith, ints)) k d lt (omega (arith, lt, inside)) in
+        let over = below_next d inside in
+        omega (arith, ints, low, over)
 
     -- the list is that of the slab above the point
     pub listed_here : IsListOf widest (height widest p) chains next

@@ -4,6 +4,7 @@ pub mod Between
 pub mod Found
 pub mod Apart
 pub mod Freeing
+pub mod Touching
 pub mod Pushing
 pub mod Slab
 pub mod Gone
@@ -25,5 +26,8 @@ pub mod Unmarked
 pub mod Parted
 pub mod Turning
 pub mod FaceSearch
-pub mod Paired
 pub mod Deciding
+pub mod Putting
+pub mod Exactly
+pub mod Arriving
+pub mod Passages

@@ -36,7 +36,7 @@ stands f (e ∷ events) (suc m) d lt is =
     let rest = stands f events m d (omega (arith, lt)) is in
     omega (arith, sum, rest)
 
-all_of : (f : Event → Bool) (events : List Event) (n : ℕ) → count_by f (take n events) + count_by f (drop n events) ≡ count_by f events
+pub all_of : (f : Event → Bool) (events : List Event) (n : ℕ) → count_by f (take n events) + count_by f (drop n events) ≡ count_by f events
 all_of f events zero = omega arith
 all_of f [] (suc n) = omega arith
 all_of f (e ∷ events) (suc n) =
@@ -46,7 +46,7 @@ all_of f (e ∷ events) (suc n) =
     omega (arith, rest, sum, sum')
 
 -- where one of the first n is counted, and where one of them stands
-found_before : (f : Event → Bool) (events : List Event) (n : ℕ) (d : Event) → 0 < count_by f (take n events) → (m : ℕ) × (m < n) × (m < length events) × (f (get_or events m d) ≡ true)
+pub found_before : (f : Event → Bool) (events : List Event) (n : ℕ) (d : Event) → 0 < count_by f (take n events) → (m : ℕ) × (m < n) × (m < length events) × (f (get_or events m d) ≡ true)
 found_before f events zero d h = absurd (let none : 0 < 0 = h in omega (arith, none))
 found_before f [] (suc n) d h = absurd (let none : 0 < 0 = h in omega (arith, none))
 found_before f (e ∷ events) (suc n) d h = go (λ more. found_before f events n d more) (f e) refl
@@ -59,7 +59,7 @@ found_before f (e ∷ events) (suc n) d h = go (λ more. found_before f events n
         let rest : (m : ℕ) × (m < n) × (m < length events) × (f (get_or events m d) ≡ true) = later (omega (arith, h, sum, none)) in
         (suc rest.0, let lt = rest.1 in omega (arith, lt), let lt = rest.2 in omega (arith, lt), rest.3)
 
-stands_before : (f : Event → Bool) (events : List Event) (n m : ℕ) (d : Event) → m < n → m < length events → f (get_or events m d) ≡ true → 0 < count_by f (take n events)
+pub stands_before : (f : Event → Bool) (events : List Event) (n m : ℕ) (d : Event) → m < n → m < length events → f (get_or events m d) ≡ true → 0 < count_by f (take n events)
 stands_before f events zero m d lt within is = absurd (omega (arith, lt))
 stands_before f [] (suc n) m d lt within is = absurd (omega (arith, within))
 stands_before f (e ∷ events) (suc n) zero d lt within is =
@@ -76,7 +76,7 @@ stands_before f (e ∷ events) (suc n) (suc m) d lt within is =
 in_longer : (x y : ℕ) (list : List ℕ) → 0 < times y list → 0 < times y (x ∷ list)
 in_longer x y list h = same_or y x (λ e. let one = times-same y x list e in omega (arith, one)) (λ ne. let same = times-other y x list ne in omega (arith, same, h))
 
-in_list : (list : List ℕ) (k d : ℕ) → k < length list → 0 < times (get_or list k d) list
+pub in_list : (list : List ℕ) (k d : ℕ) → k < length list → 0 < times (get_or list k d) list
 in_list [] k d lt = absurd (omega (arith, lt))
 in_list (x ∷ list) zero d lt = let one = times-same x x list refl in omega (arith, one)
 in_list (x ∷ list) (suc k) d lt = in_longer x (get_or list k d) list (in_list list k d (omega (arith, lt)))

@@ -1,5 +1,5 @@
 -- The point of a polygon, between two events and two neighbours of the list there.
-use Rattle.std.proofs.Common.{◌≡◌, inl, inr, ⊎_elim, ℕ, ◌+◌, ◌-◌, ◌<◌, ◌≤◌, ◌<ℤ◌, ◌+ℤ◌, ℤ, pos, true, Some, List, [], ◌∷◌, ◌++◌, length, get_or, take, count_by, refl, sym, ap, ap₂, subst, ◌∙◌, arith}
+use Rattle.std.proofs.Common.{◌≡◌, inl, inr, ⊎_elim, ℕ, ◌+◌, ◌-◌, ◌<◌, ◌≤◌, ◌<ℤ◌, ◌≤ℤ◌, ◌+ℤ◌, ℤ, pos, true, Some, List, [], ◌∷◌, ◌++◌, length, get_or, take, count_by, refl, sym, ap, ap₂, subst, ◌∙◌, arith}
 use Rattle.std.specs.Prelude.{slice_get}
 use Rattle.std.proofs.lemmas.Bool.{cases_lt}
 use Rattle.std.proofs.lemmas.Int.{ints}
@@ -99,6 +99,9 @@ module _ (K : ℤ) (chains : List MapChain) (q : Point) where
 
     pub west_by : pos 0 <ℤ turn_of a b q → IsWestOfIt K chains q t
     west_by lt w is' = subst (λ z. pos 0 <ℤ z) (turn_by w is') lt
+
+    pub not_east_by : pos 0 ≤ℤ turn_of a b q → (w : Segment) → IsNumbered chains t w → pos 0 ≤ℤ turn_to K w q
+    not_east_by le w is' = subst (λ z. pos 0 ≤ℤ z) (turn_by w is') le
 
   pub east_of_last : (front : List ℕ) → ((t : ℕ) → last_of front ≡ Some t → IsEastOf K chains q t) → IsEastOfLast K chains q front
   east_of_last [] east = tt

@@ -4,9 +4,9 @@ pub mod Swept
 pub mod Facing
 pub mod Watched
 pub mod Passing
+pub mod Exact
 pub mod Kept
 pub mod Spotted
 pub mod Told
 pub mod Pairs
 pub mod Ranges
-pub mod Slabs

@@ -1,5 +1,5 @@
 //! What a sweep says of a map.
-ghost use Rattle.std.specs.Prelude.{◌≡◌, ◌↔◌, ◌⊎◌, ◌<◌, ℕ, [], Some, length, slice_get, All, Contains, IfOk, IfSome};
+ghost use Rattle.std.specs.Prelude.{◌≡◌, ◌↔◌, ◌⊎◌, ◌<◌, ℕ, [], None, Some, length, slice_get, All, Contains, IfOk, IfSome};
 ghost use Rattle.tl_map_county.specs.declared.polygons.Polygon.{Polygon};
 ghost use Rattle.tl_map_county.specs.TheMap.{TheMap};
 ghost use Rattle.tl_check_planar.specs.Planar.{IsPlanar};
@@ -20,11 +20,8 @@ ghost use Rattle.tl_check_sweep.specs.Keeping.Spotted.{AreMarks, AreTrueMarks};
 ghost use Rattle.tl_check_sweep.specs.Keeping.Told.{IsTrueAnswer, IsTrueSweep};
 
 use crate::meets::meet_at_vertex;
-use crate::pairs::find_in_pairs;
-use crate::slabs::gaps_by_slabs;
 use crate::spots::{InnerPoints, list_unmarked};
-use crate::suspects::find_meet;
-use crate::sweeping::sweep_list;
+use crate::sweeping::{Care, Passage, sweep_list};
 use crate::watch::{Gaps, Watch};
 use std::alloc::{AllocError, Global};
 use tl_check_active::Events;
@@ -144,7 +141,8 @@ fn sweep_events(alloc: Global, map: &Map, events: &Events, gaps: Gaps) -> Result
     }
 }
 
-/// The same where vertices are tested.
+/// The same where vertices are tested. Where a test of neighbours fails and no meet is found there, which no map is known to bring about, it is
+/// swept once more by exact places: then a meet is found, or no test fails.
 fn sweep_tested(alloc: Global, map: &Map, events: &Events, gaps: Gaps) -> Result<Told, AllocError>
     requires events { AreEvents map.now.chains (joined events.now) }
     requires rising { AreRising (joined events.now) }
@@ -154,34 +152,46 @@ fn sweep_tested(alloc: Global, map: &Map, events: &Events, gaps: Gaps) -> Result
     requires proper { AreProper map.now.chains }
     ensures { IfOk result (IsTrueSweep map.now gaps) }
 {
+    if let Some(told) = sweep_with(alloc, map, events, gaps, Care::Quick)? {
+        return Ok(told);
+    }
+    match sweep_with(alloc, map, events, gaps, Care::Exact)? {
+        Some(told) => Ok(told),
+        None => unreachable!(),
+    }
+}
+
+/// What one sweep tells, unless a test failed and no meet was found there.
+fn sweep_with(
+    alloc: Global,
+    map: &Map,
+    events: &Events,
+    gaps: Gaps,
+    care: Care,
+) -> Result<Option<Told>, AllocError>
+    requires events { AreEvents map.now.chains (joined events.now) }
+    requires rising { AreRising (joined events.now) }
+    requires wide { IsWide widest map.now.chains }
+    requires ranges { AreInRange map.now.chains }
+    requires vertices { AreVerticesTested map.now.chains }
+    requires proper { AreProper map.now.chains }
+    ensures told { IfOk result (λ told. IfSome told (IsTrueSweep map.now gaps)) }
+    ensures exact { care ≡ Care.Exact → IfOk result (λ told. ¬ (told ≡ None)) }
+{
     let mut spots = InnerPoints::new(alloc, map)?;
-    let mut suspects = Vec::new(alloc);
     let mut watch = Watch::new(alloc, gaps);
-    if !sweep_list(alloc, map, events, &mut spots, &mut suspects, &mut watch)? {
-        return answer_by_pairs(alloc, map, find_meet(map, &suspects));
+    match sweep_list(alloc, map, events, care, &mut spots, &mut watch)? {
+        Passage::Passed => {}
+        Passage::Meet(meet) => return Ok(Some(answer_by_meet(alloc, meet))),
+        Passage::Failed => return Ok(None),
     }
     let swept = planar(map, &spots);
     let gaps = watch.into_gaps(alloc, map)?;
-    Ok(Told {
+    Ok(Some(Told {
         swept,
         marks: spots.into_marks(),
         gaps,
-    })
-}
-
-/// What is told where a test of neighbours failed: the meet that was found there, if there is one, and else what a search of all pairs of
-/// segments says. No map is known of which the tests fail and no meet is found there.
-fn answer_by_pairs(alloc: Global, map: &Map, found: Option<Meet>) -> Result<Told, AllocError>
-    requires { IfSome found (IsTrueMeet map.now.chains) }
-    ensures { IfOk result (λ told. (gaps : _) → IsTrueSweep map.now gaps told) }
-{
-    if let Some(meet) = found {
-        return Ok(answer_by_meet(alloc, meet));
-    }
-    match find_in_pairs(alloc, map)? {
-        Some(meet) => Ok(answer_by_meet(alloc, meet)),
-        None => answer_by_slabs(alloc, map),
-    }
+    }))
 }
 
 /// What is told where two segments meet where they may not.
@@ -193,19 +203,6 @@ fn answer_by_meet(alloc: Global, meet: Meet) -> Told
         marks: Vec::new(alloc),
         gaps: Vec::new(alloc),
     }
-}
-
-/// What is told where the chains are planar, though a test failed: nothing of points, and of gaps those of all slabs.
-fn answer_by_slabs(alloc: Global, map: &Map) -> Result<Told, AllocError>
-    requires planar { IsPlanar map.now.chains }
-    ensures { IfOk result (λ told. (gaps : _) → IsTrueSweep map.now gaps told) }
-{
-    let gaps = gaps_by_slabs(alloc, map)?;
-    Ok(Told {
-        swept: Swept::Planar,
-        marks: Vec::new(alloc),
-        gaps,
-    })
 }
 
 /// What is answered where the chains are planar.

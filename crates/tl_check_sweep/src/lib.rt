@@ -4,29 +4,29 @@
 //! each two that are neighbours for the first time (`tl_check_active`). Neither the order of the list nor the way in which a place in it
 //! was found is trusted: `tl_check_planar::by_height` says what follows from the tests alone. So [`sweep`] answers [`Swept::Planar`] only where the
 //! chains are planar. Where points of chains are at one vertex and may not be, it names two segments there that meet where they may not. Where
-//! a test of neighbours fails it looks for two such segments there; and where none do, which no map is known to bring about, a search of all
-//! pairs of segments with a latitude in common names a meet or shows that there is none. A point between two neighbours lies in the polygon
-//! that the side of its eastern neighbour names, as [`laws`] say.
+//! a test of neighbours fails it looks for two such segments there; and where none do, which no map is known to bring about, it sweeps once
+//! more with places that turns tell, of which it is proved that a test fails only where a meet is found. A point between two
+//! neighbours lies in the polygon that the side of its eastern neighbour names, as [`laws`] say.
 //!
 //! Of the gaps between two neighbours whose facing sides differ ([`tl_check_faces::OddGap`]) it tells the first or all, as it is asked
 //! ([`Gaps`]): `specs/Gaps` says which list is of all. It counts the places along the list where sides differ. Only where there are such
 //! does it look, at each vertex, at the gaps before, between and behind the segments that begin there: each other gap of the new list
-//! stood in the list before. Where a test fails on planar chains, slabs are listed one by one.
+//! stood in the list before.
 //!
 //! Of a map whose chains aren't planar, [`planar_part`] takes chains out until those that remain are.
 #![tactic(auto)]
 
 mod answer;
+mod exact;
 pub mod face_search;
 mod facing;
 mod kept;
 pub mod laws;
 mod meets;
-mod pairs;
+mod near;
 mod passing;
 mod placing;
 mod remaining;
-mod slabs;
 mod spots;
 mod suspects;
 mod sweeping;
@@ -36,8 +36,6 @@ mod watch;
 
 pub use answer::{SweepReport, Swept, sweep};
 pub use facing::flanks_of;
-pub use kept::lowest_of_each;
 pub use placing::{is_between, is_east_of, is_west_of};
 pub use remaining::{PlanarPart, planar_part};
-pub use telling::push_about;
 pub use watch::Gaps;

@@ -1,8 +1,8 @@
 //! A step of the sweep at a vertex: the segments that end there leave the list, those that begin there enter it, and the gaps about the
 //! latter are told where sides differ.
-ghost use Rattle.std.specs.Prelude.{IfOk, IsTrue};
-ghost use Rattle.tl_check_active.specs.Lined.{list_of};
-ghost use Rattle.tl_check_sweep.specs.Keeping.Passing.{HasPassed};
+ghost use Rattle.std.specs.Prelude.{◌≡◌, ℕ, List, IfOk, IsTrue, slice_get};
+ghost use Rattle.tl_check_active.specs.Lined.{list_of, last_of};
+ghost use Rattle.tl_check_sweep.specs.Keeping.Passing.{HasPassed, IsRecounted};
 
 use crate::facing::{are_alike, far_of, near_of, recount};
 use crate::watch::Watch;
@@ -10,6 +10,29 @@ use std::alloc::AllocError;
 use tl_check_active::{Line, Places, bend, closes, go_to_first, order, shift};
 use tl_geom::Point;
 use tl_map_county::Map;
+
+/// Counts again how often facing sides differ, where between what stands before and behind a place those segments came in the stead of
+/// these, and tells of the gaps about them, if any are to be told.
+#[inline]
+pub fn recount_about(
+    map: &Map,
+    p: Point,
+    front: Option<u32>,
+    outs: &[u32],
+    ins: &[u32],
+    back: Option<u32>,
+    gaps: &mut Option<u64>,
+    watch: &mut Watch,
+) -> Result<(), AllocError>
+    ensures { IfOk result (λ done. (west east : List ℕ) → front ≡ last_of west → back ≡ slice_get east 0 →
+        IsRecounted map.now.chains p west outs.now ins.now east gaps.old gaps.new watch.old watch.new) }
+{
+    let west = far_of(map, front);
+    let east = near_of(map, back);
+    let was = *gaps;
+    *gaps = recount(map, west, outs, ins, east, was);
+    watch.look_about(map, p, front, ins, back, *gaps)
+}
 
 /// Takes these segments off the list at the place and puts those in, if the former stand there and all that are neighbours for the
 /// first time may be. The places where facing sides differ are counted again, and told if they are to be.
@@ -26,15 +49,11 @@ fn exchange(
         outs.now ins.now gaps.old gaps.new watch.old watch.new) }
 {
     let front = line.previous();
-    let west = far_of(map, front);
     if !shift(map, line, outs, ins)? {
         return Ok(false);
     }
     let back = line.next();
-    let east = near_of(map, back);
-    let was = *gaps;
-    *gaps = recount(map, west, outs, ins, east, was);
-    watch.look_about(map, p, front, ins, back, *gaps)?;
+    recount_about(map, p, front, outs, ins, back, gaps, watch)?;
     Ok(closes(map, line))
 }
 

@@ -1,6 +1,9 @@
 //! Segments that may meet where they may not, of which it is asked where a test failed.
-ghost use Rattle.std.specs.Prelude.{◌≡◌, ◌+◌, ◌<◌, ◌≤◌, ℕ, None, IfSome, length};
+ghost use Rattle.std.specs.Prelude.{◌≡◌, ◌≢◌, ◌+◌, ◌<◌, ◌≤◌, ℕ, None, IfSome, length};
+ghost use Rattle.tl_geom.specs.declared.segment.Segment.{Segment};
 ghost use Rattle.tl_map_county.specs.Segments.{IsSegmentOf, segments_before};
+ghost use Rattle.tl_check_faces.specs.Crossings.Headings.{AreProper};
+ghost use Rattle.tl_check_planar.specs.ByHeight.Neighbours.{IsNumbered, AreApartOrAtEnds};
 ghost use Rattle.tl_check_planar.specs.Meets.{AreFree};
 ghost use Rattle.tl_check_planar.specs.Searching.{IsTrueMeet};
 ghost use Rattle.tl_check_sweep.specs.Keeping.Pairs.{AreFreeBothWays, IsFreeOfEnds};
@@ -8,6 +11,7 @@ ghost use Rattle.tl_check_sweep.specs.Keeping.Pairs.{AreFreeBothWays, IsFreeOfEn
 use std::alloc::AllocError;
 use tl_check_active::Line;
 use tl_check_planar::{Meet, Segments};
+use tl_geom::{Contact, contact};
 use tl_map_county::Map;
 use tl_tree_index::Items;
 
@@ -108,6 +112,24 @@ pub fn meet_about(map: &Map, s: u32, t: u32) -> Option<Meet>
     match meet_in_chain(map, s) {
         Some(meet) => Some(meet),
         None => meet_in_chain(map, t),
+    }
+}
+
+/// A meet of two segments, or of one of them and an end of its own chain, where they are neither apart nor share an end of both alone.
+pub fn meet_beside(map: &Map, s: u32, t: u32) -> Option<Meet>
+    requires proper { AreProper map.now.chains }
+    requires two { s ≢ t }
+    ensures meet { IfSome result (IsTrueMeet map.now.chains) }
+    ensures none { result ≡ None
+        → (u w : Segment) → IsNumbered map.now.chains s u → IsNumbered map.now.chains t w → AreApartOrAtEnds u w }
+{
+    let count = map.segments();
+    if s >= count || t >= count {
+        return None;
+    }
+    match contact(map.segment(s), map.segment(t)) {
+        Contact::Apart | Contact::AtEnds(_) => None,
+        Contact::Crossing(_) => meet_about(map, s, t),
     }
 }
 

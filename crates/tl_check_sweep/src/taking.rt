@@ -4,11 +4,10 @@
 //! and those that become neighbours so are tested in their turn. Nothing rests on what is found: whether the others are planar a sweep over
 //! these alone has to say.
 
+use crate::exact::ends_at;
 use crate::meets::may_meet;
 use std::alloc::{AllocError, Global};
-use tl_check_active::{
-    Event, Events, Line, Places, are_tested, bend, ends, gather, go_to_first, order,
-};
+use tl_check_active::{Event, Events, Line, Places, are_tested, bend, gather, go_to_first, order};
 use tl_geom::Point;
 use tl_map_county::Map;
 
@@ -41,11 +40,6 @@ fn lengths(alloc: Global, map: &Map) -> Result<Vec<u32>, AllocError> {
         lengths.push(u32::try_from(points).unwrap_or(u32::MAX).saturating_sub(1))?;
     }
     Ok(lengths)
-}
-
-/// Whether the segment of a number, if there is one, ends at a point.
-fn ends_at(map: &Map, s: u32, p: Point) -> bool {
-    s < map.segments() && ends(map.segment(s)).1 == p
 }
 
 impl<'a> Taking<'a> {

@@ -1,5 +1,5 @@
 -- A step of the sweep.
-use Rattle.std.specs.Prelude.{◌≡◌, ℕ, ◌+◌, Option, Some, List}
+use Rattle.std.specs.Prelude.{◌≡◌, ℕ, ◌+◌, Option, Some, List, ◌++◌}
 use Rattle.tl_geom.specs.declared.point.Point.{Point}
 use Rattle.tl_map_county.specs.TheMap.{MapChain}
 use Rattle.tl_tree_index.specs.Hits.{times}
@@ -20,6 +20,12 @@ pub record HasLooked (chains : List MapChain) (p : Point) (list next : List ℕ)
   pub here : StaysAt p old.told.items new.told.items
   pub quiet : gaps ≡ Some 0 → new.told.items ≡ old.told.items
   pub closed : ¬ IsOpen old → new.told.items ≡ old.told.items
+
+-- between two parts of a list some segments stand in the stead of others: the places where sides differ are counted, if they were, and the gaps
+-- there are told, if they were
+pub record IsRecounted (chains : List MapChain) (p : Point) (west outs ins east : List ℕ) (was gaps : Option ℕ) (old new : Watch) : Type 0 where
+  pub counted : IsCounted chains was (west ++ (outs ++ east)) → IsCounted chains gaps ((west ++ ins) ++ east)
+  pub looked : IsCounted chains gaps ((west ++ ins) ++ east) → HasLooked chains p (west ++ (outs ++ east)) ((west ++ ins) ++ east) gaps old new
 
 -- some segments left the list and others entered it, the neighbours are tested, the places where sides differ are counted, and the gaps
 -- there are told, if they were

@@ -12,6 +12,10 @@ use Rattle.tl_check_active.specs.Events.{begins_at, ends_at}
 abbrev pub AreAbove : ℤ → ℕ → List Event → Type 0
 AreAbove n from events = (k : ℕ) (d : Event) → from ≤ k → k < length events → (n +ℤ pos 2147483647) <ℤ (slice_index_or events k d).height
 
+-- the events before a place are lower than the one there, if there is one
+abbrev pub AreBelow : ℕ → List Event → Type 0
+AreBelow from events = (k : ℕ) (d : Event) → k < from → from < length events → (slice_index_or events k d).height <ℤ (slice_index_or events from d).height
+
 -- the list after the first events, and that all slabs below the others are tested
 pub record IsSwept (chains : List MapChain) (events : List Event) (from : ℕ) (list : List ℕ) : Type 0 where
   pub within : from ≤ length events

@@ -10,7 +10,7 @@ ghost use Rattle.tl_check_sweep.specs.FaceSearch.AllFaults.{AreOfAllGaps};
 ghost use Rattle.tl_check_sweep.specs.FaceSearch.Keeping.Told.{AreFaultsOf};
 
 use crate::face_search::find::face_fault;
-use crate::slabs::near::look_at_points;
+use crate::near::look_at_points;
 use crate::{Gaps, SweepReport, sweep};
 use std::alloc::{AllocError, Global};
 use tl_check_faces::{FaceFault, OddGap};

@@ -9,7 +9,7 @@ ghost use Rattle.tl_check_sweep.specs.FaceSearch.Keeping.Told.{IsFaceOf};
 
 use crate::face_search::midway::midway;
 use crate::flanks_of;
-use crate::slabs::near::look_at_points;
+use crate::near::look_at_points;
 use tl_check_faces::{FaceFault, NamedFace, OddGap, Way};
 use tl_geom::Point;
 use tl_map_county::{Map, Side};

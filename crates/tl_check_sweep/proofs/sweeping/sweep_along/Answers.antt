@@ -1,19 +1,22 @@
 use Rattle.std.proofs.Common.{refl, ap, sym, subst, ◌∙◌, arith}
 use Rattle.tl_check_planar.specs.Keeping.Apart.{one_found}
+use Rattle.std.proofs.lemmas.Int.{ints}
 use Rattle.tl_check_active.specs.Lined.{list_of}
+use Rattle.tl_check_active.specs.Ranges.{IsInRange}
 use Rattle.tl_check_active.specs.Events.{before, joined}
-use Rattle.tl_check_active.proofs.Tests.{never}
 use Rattle.tl_check_sweep.specs.Keeping.Facing.{IsCounted, gaps_of, raised}
 use Rattle.tl_check_sweep.specs.Keeping.Swept.{IsSwept}
 use Rattle.tl_check_sweep.specs.Keeping.Watched.{IsWatched}
 use Rattle.tl_check_sweep.proofs.Slab.{begins, ends}
-use Rattle.tl_check_sweep.proofs.Gone.{gone_on, all_before}
+use Rattle.tl_check_sweep.proofs.Arriving.{arrived}
+use Rattle.tl_check_sweep.proofs.Gone.{gone_on, all_before, risen}
 use Rattle.tl_check_sweep.proofs.Under.{begun, goes_on, ended}
 use Rattle.tl_check_sweep.proofs.sweeping.sweep_along.Goals as goal
 
 pub loop-from-init : goal.loop-from-init
 loop-from-init c = record {
   swept = begins c.args.map.now.chains (joined c.args.events.now) (list_of c.args.line.now) c.requires.events c.requires.empty;
+  below = λ k d lt. absurd (omega (arith, lt));
   counted = λ n e. sym (one_found 0 n _ refl e) ∙ sym (ap (gaps_of (raised c.args.map.now.chains)) c.requires.empty);
   marks = c.requires.marks;
   same = refl;
@@ -32,19 +35,37 @@ loop-from-preserved c =
     let watched : IsWatched chains (joined c.args.events.now) (before c.loop-from.from c.args.events.now) (list_of c.look.new.line) c.loop-from.watch =
     subst (λ l. IsWatched chains (joined events) (before c.loop-from.from events) l c.loop-from.watch) stays c.loop-from.invariant.watched in
     let to = c.in_ok-to.ensures in
-    let passed = c.in_ok-pass.ensures c.if-not-branch.false in
+    let passed = c.in_ok-step.ensures.passed c.in-Passed.is in
     let looked = passed.watched counted in
+    let next = c.step.new.line in
     record {
       swept = gone_on chains events c.loop-from.from c.in_ok-to.to (list_of c.look.new.line)
-          (list_of c.pass.new.line) _ _ c.requires.events c.requires.rising swept to passed.moved (passed.tested swept.tested);
+          (list_of next) _ _ c.requires.events c.requires.rising swept to passed.moved (passed.tested swept.tested);
+      below = risen chains events c.loop-from.from c.in_ok-to.to (list_of c.look.new.line)
+          (list_of next) _ _ c.requires.events c.requires.rising swept to passed.moved (passed.tested swept.tested) c.point-p.result c.point-p.ensures;
       counted = passed.counted counted;
       marks = c.in_ok-look.ensures.marks;
       same = looked.asked ∙ c.loop-from.invariant.same;
       watched =
           goes_on chains events c.loop-from.from c.in_ok-to.to (list_of c.look.new.line)
-          (list_of c.pass.new.line) _ _ c.requires.events c.requires.rising swept to passed.moved (passed.tested swept.tested)
-          c.point-p.result c.point-p.ensures c.pass.new.gaps c.loop-from.watch c.pass.new.watch watched looked;
+          (list_of next) _ _ c.requires.events c.requires.rising swept to passed.moved (passed.tested swept.tested)
+          c.point-p.result c.point-p.ensures c.step.new.gaps c.loop-from.watch c.step.new.watch watched looked;
     }
+
+pub step-requires : goal.step-requires
+step-requires c =
+    let chains = c.args.map.now.chains in
+    let events = c.args.events.now in
+    let range : IsInRange c.point-p.result = record { west = omega (arith, ints); east = omega (arith, ints) } in
+    record {
+      before =
+          arrived chains events c.loop-from.from c.in_ok-to.to (list_of c.look.new.line) _ _ c.requires.events c.requires.rising c.requires.ranges
+          c.requires.proper (subst (IsSwept chains (joined events) (before c.loop-from.from events)) (sym c.in_ok-look.ensures.list) c.loop-from.invariant.swept)
+          c.in_ok-to.ensures c.point-p.result c.point-p.ensures c.loop-from.invariant.below range;
+    }
+
+pub returns-in-Meet-clause-meet : goal.returns-in-Meet-clause-meet
+returns-in-Meet-clause-meet c = λ meet e. c.in_ok-step.ensures.meet meet (c.in-Meet.is ∙ e)
 
 pub look-requires-clause-events : goal.look-requires-clause-events
 look-requires-clause-events c = c.requires.events
@@ -63,19 +84,3 @@ look-requires-clause-counted c = c.loop-from.invariant.counted
 
 pub look-requires-clause-marks : goal.look-requires-clause-marks
 look-requires-clause-marks c = c.loop-from.invariant.marks
-
-pub returns-then-not-branch : goal.returns-then-not-branch
-returns-then-not-branch c = λ h. never h
-
-pub returns : goal.returns
-returns c = λ h.
-    let all = all_before c.args.events.now c.loop-from.from
-    (let all = c.loop-from-test.false in let len = c.len.ensures in omega (arith, all, len)) in
-    record {
-      slabs = ends c.args.map.now.chains (joined c.args.events.now) (before c.loop-from.from c.args.events.now) (list_of c.loop-from.line)
-          c.loop-from.invariant.swept all;
-      marks = c.loop-from.invariant.marks;
-      asked = c.loop-from.invariant.same;
-      watched = ended c.args.map.now.chains (joined c.args.events.now) (before c.loop-from.from c.args.events.now) (list_of c.loop-from.line)
-          c.loop-from.watch all c.loop-from.invariant.watched;
-    }

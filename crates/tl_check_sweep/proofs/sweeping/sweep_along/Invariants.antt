@@ -7,14 +7,15 @@ use Rattle.tl_check_sweep.specs.declared.watch.Gaps.{Gaps}
 use Rattle.tl_check_sweep.specs.declared.watch.Watch.{Watch}
 use Rattle.tl_check_sweep.specs.Keeping.Facing.{IsCounted}
 use Rattle.tl_check_sweep.specs.Keeping.Spotted.{AreMarks}
-use Rattle.tl_check_sweep.specs.Keeping.Swept.{IsSwept}
+use Rattle.tl_check_sweep.specs.Keeping.Swept.{AreBelow, IsSwept}
 use Rattle.tl_check_sweep.specs.Keeping.Watched.{IsWatched}
 use Rattle.tl_check_sweep.proofs.sweeping.sweep_along.Given as goal
 
--- how far the sweep has come, how often facing sides differ there, which points were found, and what is told of gaps
+-- how far the sweep has come, that what comes next is higher, how often facing sides differ there, which points were found, and what is told of gaps
 pub record IsUnderWay (map : TheMap) (events : List (List Event)) (from : ℕ) (list : List ℕ) (gaps : Option ℕ) (found : List Bool)
     (asked : Gaps) (watch : Watch) : Type 0 where
   pub swept : IsSwept map.chains (joined events) (before from events) list
+  pub below : AreBelow (before from events) (joined events)
   pub counted : IsCounted map.chains gaps list
   pub marks : AreMarks map found
   pub same : watch.asked ≡ asked

@@ -1,0 +1,1 @@
+use Rattle.tl_check_sweep.proofs.exact.stands_at.Goals as goal
