@@ -8,6 +8,7 @@ docs/commands.md alone, or were by hand. Where Chromium is there, pictures are s
 blank, and is as wide as the window.
 """
 
+import json
 import math
 import re
 import shutil
@@ -139,10 +140,12 @@ def faulty(program, folder):
     want("what its marks mean", picture.key[:4], ["chain", "node", "polygon's point", "fault"])
     meets = [tuple(map(int, line.split()[-3:])) for line in told if line.startswith("G1 ")]
     want("meets", len(meets) > 2 and any(d > 1 for _, _, d in meets), True)
-    frame = Shown(*bounds(program, TOWN))
-    want("where they are", picture.circles[: len(meets)], [frame.spot(Fraction(x, d), Fraction(y, d)) for x, y, d in meets])
-    closer = [[f"--at @{x // d},{y // d} --width {frame.closer}"] for x, y, d in meets]
-    want("what to type", picture.closer[: len(meets)], closer)
+    places = places_of(program, TOWN)
+    want("where segments meet", places[: len(meets)], [(Fraction(x, d), Fraction(y, d)) for x, y, d in meets])
+    frame = frame_of(program, TOWN, places)
+    want("where they are", picture.circles, [frame.spot(*it) for it in places])
+    closer = [[f"--at @{math.floor(x)},{math.floor(y)} --width {frame.closer}"] for x, y in places]
+    want("what to type", picture.closer, closer)
     for (words,) in picture.closer:
         _, at, _, width = words.split()
         status, out, _ = run(program, "draw", "--faults", "--out", folder / "map.svg", "--at", at, "--width", width, TOWN)
@@ -156,17 +159,26 @@ def chains_of(program, records):
     return [[tuple(map(int, it.split(","))) for it in line.split()[2:]] for line in out.decode().splitlines() if line.startswith("tlid")]
 
 
-def bounds(program, records):
-    """The least and the greatest longitude and latitude of the points of all chains."""
-    xs, ys = zip(*(point for points in chains_of(program, records) for point in points))
-    return min(xs), min(ys), max(xs), max(ys)
+def places_of(program, records):
+    """Where each fault lies, by `audit --json`, as fractions."""
+    _, out, _ = run(program, "audit", "--all", "--json", records)
+    told = map(json.loads, out.decode().splitlines())
+    return [tuple(map(Fraction, it["place"]["exact"])) for it in told if it["is"] == "fault"]
+
+
+def frame_of(program, records, places):
+    """What a picture of a whole map shows: the rectangle about the points of all chains and about the whole millionths to the south-west
+    of the places of faults that are shown."""
+    points = [point for points in chains_of(program, records) for point in points]
+    xs, ys = zip(*points, *((math.floor(x), math.floor(y)) for x, y in places))
+    return Shown(min(xs), min(ys), max(xs), max(ys))
 
 
 class Shown:
     """Which part of the plane a picture shows, with places in tenths of a pixel as docs/commands.md says."""
 
     def __init__(self, west, south, east, north):
-        self.west, self.north = west, north
+        self.west, self.south, self.east, self.north = west, south, east, north
         degrees = Fraction(south + north, 2 * 10**6)
         self.cosine = math.floor(10**4 * (180**2 - 4 * degrees**2) / (180**2 + degrees**2) + Fraction(1, 2)) * Fraction(1, 10**4)
         self.side = max((east - west) * self.cosine, north - south, 1)
@@ -175,6 +187,12 @@ class Shown:
     def spot(self, x, y):
         scale = 9800 / Fraction(self.side)
         return math.floor((x - self.west) * self.cosine * scale), math.floor((self.north - y) * scale)
+
+    @property
+    def box(self):
+        """The `viewBox`: ten pixels about what is shown, which is 580 pixels wide at least, and fifty more above."""
+        east, south = self.spot(self.east, self.south)
+        return -100, -600, max(east, 5800) + 200, south + 700
 
 
 def made(folder, *lines):
@@ -247,7 +265,7 @@ def shortened(program, folder):
         want(f"its width at {latitude}", abs(steps[0] / 9800 - math.cos(math.radians(latitude))) < 0.0018, True)
         frame = Shown(0, south, 1000, south + 1000)
         want(f"its width at {latitude}", steps[0], frame.spot(1000, south)[0])
-        want("what it shows", picture.box, (-100, -600, max(steps[0], 5800) + 200, 9800 + 700))
+        want("what it shows", (picture.box, frame.box), ((-100, -600, max(steps[0], 5800) + 200, 9800 + 700), picture.box))
 
 
 def scales(program, folder):
@@ -277,9 +295,41 @@ def many(program, folder):
     records = folder / "squares"
     records.write_bytes(b"".join(map(line_of, lines)))
     picture = draw(program, folder, b"drawn chains=20 faults=20\n", "--faults", records)
-    # The squares reach from 10 to 400, and 390 are 9800 tenths of a pixel.
-    want("circles", picture.circles, [((20 * k - 1) * 9800 // 390, 5 * 9800 // 390) for k in range(20)])
+    # The squares and the points reach from 9 to 400, and 391 are 9800 tenths of a pixel.
+    want("circles", picture.circles, [(20 * k * 9800 // 391, 5 * 9800 // 391) for k in range(20)])
     want("titles", picture.titles, [f"G4 PointOutside polygon A0001/{k + 1}" for k in range(20)])
+
+
+def outside(program, folder):
+    """Where faults are shown, the whole picture reaches to those that lie outside of all chains. About a place it shows that place, and
+    without faults the chains."""
+    square = ["shape 1 1 100,0 100,100 0,100", "sides 1 A0001/1 -"]
+    records = made(folder, "chain 1 0,0 0,0", *square, "point A0001/1 300,50")
+    # 300 millionths are 980 pixels, and at the eastern border a code stands to the west of its circle.
+    picture = draw(program, folder, b"drawn chains=1 faults=1\n", "--faults", records)
+    want("what it shows", picture.box, (-100, -600, 9800 + 200, 3266 + 700))
+    want("nodes", set(picture.dots("nodes")), {(0, 3266)})
+    want("circles", picture.circles, [(9800, 1633)])
+    want("codes", picture.codes, [(9800 - 80, 1633 + 45, "G4")])
+    want("what to type", picture.closer, [["--at @300,50 --width 30"]])
+    for words, answer in (([], b"drawn chains=1\n"), (["--faults", "--at", "@50,50", "--width", "100"], b"drawn chains=1 faults=0\n")):
+        picture = draw(program, folder, answer, *words, records)
+        want("what it shows", picture.box, (-100, -600, 9800 + 200, 9800 + 700))
+        want("polygons' points and circles", (picture.dots("points"), picture.circles), ([], []))
+    # In each direction, as near as one millionth and as far as the middle latitude changes.
+    for point in ((101, 50), (-1, 50), (50, 101), (50, -1), (-200, 50), (50, 300), (50, -200), (-150, 250), (70, 60_000_000), (-120_000_000, -45_000_000)):
+        records = made(folder, "chain 1 0,0 0,0", *square, f"point A0001/1 {point[0]},{point[1]}")
+        picture = draw(program, folder, b"drawn chains=%d faults=1\n" % (max(map(abs, point)) < 10**6), "--faults", records)
+        frame = frame_of(program, records, [point])
+        want(f"what it shows up to {point}", picture.box, frame.box)
+        want(f"the circle of {point}", picture.circles, [frame.spot(*point)])
+    # Two on both sides of all, and one that lies among the chains beside one that is no fault.
+    other = ["chain 2 200,0 200,0", "shape 2 1 300,0 300,100 200,100", "sides 2 A0001/2 -"]
+    for points, shown in ((["-30,20", "400,70"], [(-30, 20), (400, 70)]), (["50,50", "150,60"], [(150, 60)])):
+        records = made(folder, "chain 1 0,0 0,0", *square, *other, *(f"point A0001/{k + 1} {it}" for k, it in enumerate(points)))
+        picture = draw(program, folder, b"drawn chains=2 faults=%d\n" % len(shown), "--faults", records)
+        frame = frame_of(program, records, shown)
+        want(f"circles of {points}", (picture.box, picture.circles), (frame.box, [frame.spot(*it) for it in shown]))
 
 
 def touched(program, folder):
@@ -453,7 +503,7 @@ def browser():
 
 def play_all(program=PROGRAM):
     """How many pictures are as they have to be, and how many aren't."""
-    parts = [whole, part, crossing, at_the_border, centred, seen, thirds, shortened, scales, crowded, faulty, many, touched, filled, coloured, thin, escaped, refused]
+    parts = [whole, part, crossing, at_the_border, centred, seen, thirds, shortened, scales, crowded, faulty, many, outside, touched, filled, coloured, thin, escaped, refused]
     shows = browser()
     if shows:
         parts.append(lambda program, folder: shown(shows, program, folder))

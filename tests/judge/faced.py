@@ -295,20 +295,20 @@ def shown_complaint(table, words, county, told):
     (table.folder / "picture.svg").unlink(missing_ok=True)
     answer = table.ask("draw", "--faults", "--faces", "--out", "picture.svg", *words)
     drawn = re.fullmatch(rb"drawn chains=(\d+) faults=(\d+)\n", answer[1])
-    least, most = chains_seen(county.map)
+    least, most = chains_seen(county.map, faults.corners(told[:-1]))
     is_well = drawn and least <= int(drawn[1]) <= most and int(drawn[2]) == len(told) - 1
     return None if is_well and (answer[0], answer[2]) == (0, b"") else f"draw --faults --faces: {answer}, and not {least} to {most} chains"
 
 
-def chains_seen(the_map):
-    """How many chains of the map are seen in its picture at least, and at most: a chain that is much smaller than a third of a pixel along
-    both axes isn't, and one that is much larger is. Near a pole a degree of longitude takes no room."""
-    points = [it for chain in the_map.chains for it in chain.points] + [it.point for it in the_map.polygons]
-    south, north = min(it.y for it in points), max(it.y for it in points)
+def chains_seen(the_map, corners):
+    """How many chains of the map are seen at least, and at most, in the picture that reaches to these corners of its faults: a chain that
+    is much smaller than a third of a pixel along both axes isn't, and one that is much larger is. Near a pole a degree of longitude takes
+    no room."""
+    xs, ys = zip(*(it for chain in the_map.chains for it in chain.points), *corners)
+    south, north = min(ys), max(ys)
     middle = ((south + north) / 2_000_000) ** 2
     cosine = max((32_400 - 4 * middle) / (32_400 + middle), 0.0001)
-    width = cosine * (max(it.x for it in points) - min(it.x for it in points))
-    pixel = max(width, north - south) / 980
+    pixel = max(cosine * (max(xs) - min(xs)), north - south) / 980
 
     def size(chain):
         xs, ys = [it.x for it in chain.points], [it.y for it in chain.points]

@@ -286,6 +286,11 @@ class Faults:
             elif line.startswith("refused line "):
                 yield self.place_of_refusal(*line.split(" ")[2:])
 
+    def corners(self, told):
+        """The whole millionths of a degree to the south-west of each fault that these lines tell."""
+        places = [Fault(it, self.lines, self.the_map).at for it in told]
+        return [(x // scale, y // scale) for x, y, scale in places]
+
     def place_of_refusal(self, number, code, cause, field=None):
         """Where a refused line stands, as its own line tells it."""
         name, _, number, line = found_line(self.names, self.texts, int(number))

@@ -1,13 +1,14 @@
 -- Rectangles and frames, part by part.
 use Rattle.std.proofs.Common.{◌≡◌, ℕ, ◌+◌, ◌≤◌, ℤ, List, length, drop, refl, sym, ap, ap₂, ◌∙◌}
 use Rattle.tigertopo_svg.specs.declared.frame.Frame.{Frame}
-use Rattle.std.specs.Prelude.{slice_get}
+use Rattle.std.specs.Prelude.{slice_get, Option, Some}
 use Rattle.std.proofs.lemmas.List.{at_drop_all}
 use Rattle.tl_geom.specs.declared.point.Point.{Point}
+use Rattle.tl_geom.specs.declared.rational.Rational.{Rational}
 use Rattle.tl_map_county.specs.declared.sides.Side.{Side}
 use Rattle.tl_map_county.specs.TheMap.{MapChain, IsChain}
 use Rattle.std.specs.Prelude.{Bool, true, false, ◌&&◌}
-use Rattle.tigertopo_svg.specs.Frames.{around_points, around_chains, is_across, are_one_sided}
+use Rattle.tigertopo_svg.specs.Frames.{around_points, around_chains, around_place, around_places, is_across, are_one_sided}
 use Rattle.tigertopo_svg.proofs.DrawingLemmas.{from_place}
 use Rattle.tl_geom.specs.declared.rect.Rect.{Rect}
 
@@ -27,6 +28,16 @@ around_next chains n tlid points left right rect next whole it same before =
 -- all are
 pub around_end : (chains : List MapChain) (n : ℕ) (rect whole : Rect) → length chains ≤ n → around_chains rect (drop n chains) ≡ whole → rect ≡ whole
 around_end chains n rect whole past before = sym (at_drop_all (around_chains rect) chains n past) ∙ before
+
+-- one place more is held
+pub places_next : (places : List (Option Rational)) (n : ℕ) (place : Option Rational) (rect next whole : Rect) → slice_get places n ≡ Some place
+    → next ≡ around_place rect place → around_places rect (drop n places) ≡ whole → around_places next (drop (n + 1) places) ≡ whole
+places_next places n place rect next whole is same before =
+    ap (λ r. around_places r (drop (n + 1) places)) same ∙ sym (ap (around_places rect) (from_place places n place is)) ∙ before
+
+-- all are
+pub places_end : (places : List (Option Rational)) (n : ℕ) (rect whole : Rect) → length places ≤ n → around_places rect (drop n places) ≡ whole → rect ≡ whole
+places_end places n rect whole past before = sym (at_drop_all (around_places rect) places n past) ∙ before
 
 -- two frames about rectangles with the same parts
 pub same_frame : (a b : ℤ) (c d e : ℕ) (f g : ℤ) (h i j : ℕ) → a ≡ f → b ≡ g → c ≡ h → d ≡ i → e ≡ j

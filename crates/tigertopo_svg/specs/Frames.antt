@@ -2,9 +2,11 @@
 --
 -- What is shown is measured in ten-thousandths of a millionth of a degree of latitude. Its longer side is 980 pixels long,
 -- and about it there is a margin of ten pixels.
-use Rattle.std.specs.Prelude.{ℕ, ◌+◌, ◌-◌, ◌*◌, ◌/◌, ◌^◌, max, ℤ, pos, negsuc, ◌+ℤ◌, ◌-ℤ◌, ◌*ℤ◌, unsigned_abs, int_le, int_lt, nat_lt, Bool, not, ◌&&◌, ◌||◌, List, [], ◌∷◌}
+use Rattle.std.specs.Prelude.{ℕ, ◌+◌, ◌-◌, ◌*◌, ◌/◌, ◌^◌, max, ℤ, pos, negsuc, ◌+ℤ◌, ◌-ℤ◌, ◌*ℤ◌, unsigned_abs, int_le, int_lt, nat_lt, Bool, not, ◌&&◌, ◌||◌, if◌then◌else◌, List, [], ◌∷◌, Option, Some, None}
 use Rattle.std.specs.Int.{int_div_euclid, int_min, int_max}
+use Rattle.std.specs.Option.{option_map_or}
 use Rattle.tl_geom.specs.declared.point.Point.{Point}
+use Rattle.tl_geom.specs.declared.rational.Rational.{Rational}
 use Rattle.tl_geom.specs.declared.rect.Rect.{Rect}
 use Rattle.tl_map_county.specs.TheMap.{MapChain}
 use Rattle.tigertopo_svg.specs.declared.frame.Frame.{Frame}
@@ -150,6 +152,39 @@ abbrev pub around_chains : Rect → List MapChain → Rect
 around_chains r [] = r
 around_chains r (chain ∷ rest) = around_chains (around_points r chain.points) rest
 
+-- a whole number as a coordinate, where it is one
+abbrev pub coordinate : ℤ → Option ℤ
+coordinate z = if int_le (negsuc 2147483647) z && int_le z (pos 2147483647) then Some z else None
+
+-- both coordinates of a point, where both are there
+abbrev pub point_at : Option ℤ → Option ℤ → Option Point
+point_at None y = None
+point_at (Some x) None = None
+point_at (Some x) (Some y) = Some (record { x = x; y = y })
+
+-- the point of a rational point, each coordinate rounded down
+abbrev pub floor_of : Rational → Option Point
+floor_of r = point_at (coordinate (int_div_euclid r.x r.d)) (coordinate (int_div_euclid r.y r.d))
+
+-- the whole millionths of a degree to the south-west of a place that can be marked: one whose denominator is below 2^96, as that of each
+-- crossing of two segments is
+abbrev pub corner_of : Rational → Option Point
+corner_of r = if nat_lt (unsigned_abs r.d) (2 ^ 96) then floor_of r else None
+
+-- the same of a place, if there is one
+abbrev pub corner_if : Option Rational → Option Point
+corner_if None = None
+corner_if (Some r) = corner_of r
+
+-- the rectangle, so widened that it holds the corner of a place, if there is one
+abbrev pub around_place : Rect → Option Rational → Rect
+around_place r place = option_map_or (widened r) (corner_if place) r
+
+-- the same of several places, one after the other
+abbrev pub around_places : Rect → List (Option Rational) → Rect
+around_places r [] = r
+around_places r (place ∷ rest) = around_places (around_place r place) rest
+
 -- the frame about a rectangle, which shows it at its middle latitude
 abbrev pub frame_about : Rect → Frame
 frame_about r =
@@ -165,9 +200,9 @@ frame_about r =
 abbrev pub no_points : Rect
 no_points = record { xmin = pos 2147483647; ymin = pos 2147483647; xmax = negsuc 2147483647; ymax = negsuc 2147483647 }
 
--- the frame that is fitted to all points of the chains
-abbrev pub fitted : List MapChain → Frame
-fitted chains = frame_about (around_chains no_points chains)
+-- the frame of a whole map: it is fitted to all points of the chains and to the places of the faults that are shown
+abbrev pub fitted : List MapChain → List (Option Rational) → Frame
+fitted chains places = frame_about (around_places (around_chains no_points chains) places)
 
 -- the frame about a point, so many millionths of a degree wide and high
 abbrev pub frame_at : Point → ℕ → Frame

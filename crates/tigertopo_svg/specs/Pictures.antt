@@ -1,6 +1,6 @@
 -- How a map is drawn, and what is marked.
-use Rattle.std.specs.Prelude.{ℕ, ◌+◌, ◌-◌, ◌*◌, ◌/◌, ◌^◌, nat_le, nat_lt, Bool, false, ◌&&◌, if◌then◌else◌, List, length, sum_by, count_by, ℤ, pos, negsuc, ◌+ℤ◌, ◌-ℤ◌, int_le, unsigned_abs, Option, Some, None}
-use Rattle.std.specs.Int.{int_div_euclid, int_rem_euclid}
+use Rattle.std.specs.Prelude.{ℕ, ◌+◌, ◌-◌, ◌*◌, ◌/◌, nat_le, Bool, false, ◌&&◌, List, length, sum_by, count_by, ℤ, pos, ◌+ℤ◌, ◌-ℤ◌, unsigned_abs, Option, Some, None}
+use Rattle.std.specs.Int.{int_rem_euclid}
 use Rattle.std.specs.Option.{option_map_or}
 use Rattle.tl_geom.specs.declared.point.Point.{Point}
 use Rattle.tl_geom.specs.declared.rational.Rational.{Rational}
@@ -9,7 +9,7 @@ use Rattle.tl_map_county.specs.TheMap.{TheMap, MapChain}
 use Rattle.tigertopo_svg.specs.declared.frame.Frame.{Frame}
 use Rattle.tigertopo_svg.specs.declared.picture.Picture.{Picture}
 use Rattle.tigertopo_svg.specs.declared.places.Mark.{Mark}
-use Rattle.tigertopo_svg.specs.Frames.{east, south, is_held, is_inside}
+use Rattle.tigertopo_svg.specs.Frames.{east, south, is_held, is_inside, corner_of}
 use Rattle.tigertopo_svg.specs.Strokes.{drawings, Drawing, is_shown}
 
 -- how many strokes are drawn of chains
@@ -40,20 +40,6 @@ drawn picture m = drawings picture.frame m.chains
 abbrev pub chain_count : Picture → TheMap → ℕ
 chain_count picture m = count_by is_shown (drawn picture m)
 
--- a whole number as a coordinate, where it is one
-abbrev pub coordinate : ℤ → Option ℤ
-coordinate z = if int_le (negsuc 2147483647) z && int_le z (pos 2147483647) then Some z else None
-
--- both coordinates of a point, where both are there
-abbrev pub point_at : Option ℤ → Option ℤ → Option Point
-point_at None y = None
-point_at (Some x) None = None
-point_at (Some x) (Some y) = Some (record { x = x; y = y })
-
--- the point of a rational point, each coordinate rounded down
-abbrev pub floor_of : Rational → Option Point
-floor_of r = point_at (coordinate (int_div_euclid r.x r.d)) (coordinate (int_div_euclid r.y r.d))
-
 -- how far a number is above the last multiple of a divisor: what is left of a place's numerator beyond whole millionths of a degree
 abbrev pub part_of : ℤ → ℤ → ℕ
 part_of z d = unsigned_abs (int_rem_euclid z d)
@@ -81,9 +67,9 @@ abbrev pub mark_beyond : Frame → Rational → Option Point → Option Mark
 mark_beyond f r None = None
 mark_beyond f r (Some corner) = Some (mark_at f r corner)
 
--- a place in a picture: one whose denominator is below 2^96, as that of each crossing of two segments is
+-- a place in a picture
 abbrev pub mark_of : Frame → Rational → Option Mark
-mark_of f r = if nat_lt (unsigned_abs r.d) (2 ^ 96) then mark_beyond f r (floor_of r) else None
+mark_of f r = mark_beyond f r (corner_of r)
 
 -- the same of a place, if there is one
 abbrev pub mark_if : Frame → Option Rational → Option Mark

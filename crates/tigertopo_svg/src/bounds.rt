@@ -2,9 +2,10 @@
 
 ghost use Rattle.std.specs.Prelude.{◌≡◌};
 ghost use Rattle.std.specs.Int.{int_min, int_max};
-ghost use Rattle.tigertopo_svg.specs.Frames.{widened, around_points, around_chains, no_points};
+ghost use Rattle.tigertopo_svg.specs.Frames.{widened, around_points, around_chains, around_place, around_places, no_points};
 
-use tl_geom::{Point, Rect};
+use crate::places::corner_if;
+use tl_geom::{Point, Rational, Rect};
 use tl_map_county::Map;
 
 /// The rectangle about the points of the map's chains.
@@ -16,6 +17,27 @@ pub fn bounds_of(map: &Map) -> Rect
         rect = around(rect, map.chain(chain).points);
     }
     rect
+}
+
+/// The rectangle, so widened that it holds the corners of these places.
+pub fn around_places(rect: Rect, places: &[Option<Rational>]) -> Rect
+    ensures { result ≡ around_places rect places.now }
+{
+    let mut rect = rect;
+    for place in places {
+        rect = around_place(rect, *place);
+    }
+    rect
+}
+
+// The same of a place, if there is one.
+fn around_place(rect: Rect, place: Option<Rational>) -> Rect
+    ensures { result ≡ around_place rect place }
+{
+    match corner_if(place) {
+        Some(corner) => widen(rect, corner),
+        None => rect,
+    }
 }
 
 /// The rectangle, so widened that it holds these points.

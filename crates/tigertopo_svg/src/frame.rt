@@ -6,9 +6,9 @@ ghost use Rattle.tigertopo_svg.specs.Frames.{spot_of, east, south, reach_east, r
 ghost use Rattle.tigertopo_svg.specs.Frames.{is_across, are_across, is_held, is_inside, is_beside, is_seen};
 ghost use Rattle.tigertopo_svg.specs.Frames.{meets, is_tiny, is_near, is_small, is_short, is_speck, frame_about, fitted, frame_at};
 
-use crate::bounds::bounds_of;
+use crate::bounds::{around_places, bounds_of};
 use crate::lean::is_beside;
-use tl_geom::{Point, Rect};
+use tl_geom::{Point, Rational, Rect};
 use tl_map_county::Map;
 
 /// How long a degree of latitude is, in ten-thousandths of one.
@@ -42,11 +42,11 @@ pub struct Spot {
 }
 
 impl Frame {
-    /// The frame that is fitted to the points of the map's chains.
-    pub fn fitted(map: &Map) -> Frame
-        ensures { result ≡ fitted map.now.chains }
+    /// The frame of the whole map: it is fitted to the points of its chains and to the places of the faults that are shown.
+    pub fn fitted(map: &Map, places: &[Option<Rational>]) -> Frame
+        ensures { result ≡ fitted map.now.chains places.now }
     {
-        Frame::about(bounds_of(map))
+        Frame::about(around_places(bounds_of(map), places))
     }
 
     // The frame about a rectangle.

@@ -1,13 +1,13 @@
 //! Where faults lie in a picture.
 
-ghost use Rattle.std.specs.Prelude.{◌≡◌, ◌<◌, ◌≤◌, ◌^◌, ◌*◌, pos, ◌+ℤ◌, ◌-ℤ◌, ◌<ℤ◌, unsigned_abs};
-ghost use Rattle.tigertopo_svg.specs.Pictures.{coordinate, floor_of, part_of, beyond, beyond_up, mark_at, mark_of, mark_if};
-ghost use Rattle.tigertopo_svg.specs.Pictures.{is_place_inside};
+ghost use Rattle.std.specs.Prelude.{◌≡◌, ◌<◌, ◌≤◌, ◌^◌, ◌*◌, pos, ◌+ℤ◌, ◌-ℤ◌, ◌<ℤ◌, unsigned_abs, IfSome};
+ghost use Rattle.tigertopo_svg.specs.Frames.{coordinate, floor_of, corner_of, corner_if};
+ghost use Rattle.tigertopo_svg.specs.Pictures.{part_of, beyond, beyond_up, mark_at, mark_of, mark_if, is_place_inside};
 
 use crate::frame::{Frame, Position};
 use tl_geom::{Point, Rational};
 
-// The denominators of places that are drawn are below this, as those of all crossings of two segments are.
+// The denominators of places that can be marked are below this, as those of all crossings of two segments are.
 const REACH: u128 = 1 << 96;
 
 /// A place in a picture: the whole millionths of a degree to its south-west, and where it lies.
@@ -37,17 +37,13 @@ pub fn mark_if(frame: Frame, place: Option<Rational>) -> Option<Mark>
     }
 }
 
-// A place in a picture, where its corner is a point and its denominator isn't too great.
+// A place in a picture, where it can be marked.
 fn mark_of(frame: Frame, r: Rational) -> Option<Mark>
     ensures { result ≡ mark_of frame r }
 {
-    if r.d.unsigned_abs() < REACH {
-        match floor_of(r) {
-            Some(corner) => Some(mark_at(frame, r, corner)),
-            None => None,
-        }
-    } else {
-        None
+    match corner_of(r) {
+        Some(corner) => Some(mark_at(frame, r, corner)),
+        None => None,
     }
 }
 
@@ -124,6 +120,28 @@ fn scaled(part: u128, weight: u32) -> u128
     ensures bound { result < 2 ^ 126 }
 {
     part * (2 * u128::from(weight))
+}
+
+/// The whole millionths of a degree to the south-west of a place that can be marked, if there is one.
+pub fn corner_if(place: Option<Rational>) -> Option<Point>
+    ensures { result ≡ corner_if place }
+{
+    match place {
+        Some(place) => corner_of(place),
+        None => None,
+    }
+}
+
+// The same of a place, where its denominator isn't too great.
+fn corner_of(r: Rational) -> Option<Point>
+    ensures corner { result ≡ corner_of r }
+    ensures few { IfSome result (λ corner. unsigned_abs r.d < 2 ^ 96) }
+{
+    if r.d.unsigned_abs() < REACH {
+        floor_of(r)
+    } else {
+        None
+    }
 }
 
 // The point of a rational point, each coordinate rounded down.

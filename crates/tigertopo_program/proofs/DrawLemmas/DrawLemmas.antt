@@ -21,8 +21,9 @@ module _ (w : World) (options : Options) (known : Option (List ℕ)) (wanted : W
   pub says_drawn : (subject : Subject)
       → IfSome known (λ held. IsReadFrom (records_of (layout_with options) held) subject.map × AreToShow options.faces wanted.shows subject.map subject.faults.items subject.touched)
       → (answer : Answer Said) (filling : Option Filling) → IsFilled subject.map filling
-      → StandsUnder w.after wanted.name (picture_with subject.map (picture_by wanted.view subject.map) filling subject.faults.items)
-      → answer ≡ answer_of (Drawing (drawn_of (picture_by wanted.view subject.map) wanted.shows subject)) → IsSaid (DrawAnswers w options known wanted) answer
+      → StandsUnder w.after wanted.name (picture_with subject.map (picture_by wanted.view subject.map subject.faults.items) filling subject.faults.items)
+      → answer ≡ answer_of (Drawing (drawn_of (picture_by wanted.view subject.map subject.faults.items) wanted.shows subject))
+      → IsSaid (DrawAnswers w options known wanted) answer
   says_drawn subject drawn answer filling filled kept is =
       subst (IsSaid (DrawAnswers w options known wanted)) (sym is) (
         inl (record {

@@ -30,18 +30,18 @@ use Rattle.tigertopo_outcome.specs.Outcomes.{drawn_text}
 use Rattle.tigertopo_program.specs.declared.draw.subject.Subject.{Subject}
 use Rattle.tigertopo_program.specs.Draw.Subjects.{AreToShow}
 
--- the frame of a picture: about a place, or fitted to the map
-abbrev pub frame_of : Option View → TheMap → Frame
-frame_of None m = fitted m.chains
-frame_of (Some view) m = frame_at view.center view.width
-
--- the picture of a map
-abbrev pub picture_by : Option View → TheMap → Picture
-picture_by view m = picture_of (frame_of view m) m
-
 -- where the faults of a map lie
 abbrev pub places_of : TheMap → List MapFault → List (Option Rational)
 places_of m faults = map (fault_place (Some m)) faults
+
+-- the frame of a picture that shows these faults of a map: about a place, or fitted to the map and to where they lie
+abbrev pub frame_of : Option View → TheMap → List MapFault → Frame
+frame_of None m faults = fitted m.chains (places_of m faults)
+frame_of (Some view) m faults = frame_at view.center view.width
+
+-- how the map is drawn then
+abbrev pub picture_by : Option View → TheMap → List MapFault → Picture
+picture_by view m faults = picture_of (frame_of view m faults) m
 
 -- by this the polygons of a sound map are filled, and nothing is of one that isn't sound
 abbrev pub IsFilled : TheMap → Option Filling → Type 0
@@ -76,8 +76,8 @@ pub record Wanted : Type 0 where
 pub record IsDrawnOf (w : World) (wanted : Wanted) (subject : Subject) (answer : Answer Said) : Type 0 where
   pub filling : Option Filling
   pub filled : IsFilled subject.map filling
-  pub kept : StandsUnder w.after wanted.name (picture_with subject.map (picture_by wanted.view subject.map) filling subject.faults.items)
-  pub is : answer ≡ answer_of (Drawing (drawn_of (picture_by wanted.view subject.map) wanted.shows subject))
+  pub kept : StandsUnder w.after wanted.name (picture_with subject.map (picture_by wanted.view subject.map subject.faults.items) filling subject.faults.items)
+  pub is : answer ≡ answer_of (Drawing (drawn_of (picture_by wanted.view subject.map subject.faults.items) wanted.shows subject))
 
 -- with the status 0 the line of what the picture shows: that of the map that the records draw, with the faults to show, which stands
 pub record TellsDrawn (w : World) (options : Options) (known : Option (List ℕ)) (wanted : Wanted) (status : ℕ) (text : List ℕ) : Type 0 where
@@ -87,9 +87,10 @@ pub record TellsDrawn (w : World) (options : Options) (known : Option (List ℕ)
   pub drawn : IfSome known (λ held. IsReadFrom (records_of (layout_with options) held) map × AreToShow options.faces wanted.shows map faults touched)
   pub filling : Option Filling
   pub filled : IsFilled map filling
-  pub kept : StandsUnder w.after wanted.name (picture_with map (picture_by wanted.view map) filling faults)
+  pub kept : StandsUnder w.after wanted.name (picture_with map (picture_by wanted.view map faults) filling faults)
   pub is : status ≡ 0
-  pub line : text ≡ line_of (drawn_text (chain_count (picture_by wanted.view map) map) (shown_count wanted.shows (picture_by wanted.view map).frame map faults) touched)
+  pub line : text ≡ line_of (drawn_text (chain_count (picture_by wanted.view map faults) map)
+      (shown_count wanted.shows (picture_by wanted.view map faults).frame map faults) touched)
 
 -- what `draw` answers: that, or the fault of the records, and then no file was made
 abbrev pub DrawAnswers : World → Options → (known : Option (List ℕ)) → Wanted → ℕ → List ℕ → Type 0

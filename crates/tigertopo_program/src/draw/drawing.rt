@@ -57,9 +57,9 @@ impl Text for PictureText<'_> {
     }
 }
 
-/// Draws the map of the records of these files, fitted to it or the place that is given, its polygons filled where it is sound, and its
-/// faults where they are to be shown, into a new file of the name `made`, which it may take, and answers how much the picture shows. The
-/// file takes its name when it is whole.
+/// Draws the map of the records of these files, about the place that is given or else fitted to the map and to the faults that are shown,
+/// its polygons filled where it is sound, and its faults where they are to be shown, into a new file of the name `made`, which it may take,
+/// and answers how much the picture shows. The file takes its name when it is whole.
 pub fn draw<F: FileSystem>(
     files: &mut F,
     alloc: Global,
@@ -114,7 +114,7 @@ fn draw_subject<F: FileSystem>(
 {
     let fills = fills_of(alloc, &subject.map)?;
     let places = fault_places(alloc, hasher, Some(&subject.map), subject.faults.as_slice())?;
-    let picture = picture_by(view, &subject.map);
+    let picture = picture_by(view, subject, places.as_slice());
     let text = PictureText {
         map: &subject.map,
         picture,
@@ -141,15 +141,16 @@ fn fills_of(alloc: Global, map: &Map) -> Result<Option<Fills>, Stop>
     }
 }
 
-// How a map is drawn: about a place, or fitted to it.
-fn picture_by(view: Option<View>, map: &Map) -> Picture
-    ensures { result ≡ picture_by view map.now }
+// How a map is drawn: about a place, or fitted to it and to where its faults lie.
+fn picture_by(view: Option<View>, subject: &Subject, places: &[Option<Rational>]) -> Picture
+    requires { places.now ≡ places_of subject.now.map subject.now.faults.items }
+    ensures { result ≡ picture_by view subject.now.map subject.now.faults.items }
 {
     let frame = match view {
         Some(view) => Frame::at(view.center, view.width),
-        None => Frame::fitted(map),
+        None => Frame::fitted(&subject.map, places),
     };
-    picture_of(frame, map)
+    picture_of(frame, &subject.map)
 }
 
 // How much a picture shows of a map whose faults lie at these places.

@@ -13,7 +13,7 @@ pub returns-in_err-make_file : goal.returns-in_err-make_file
 returns-in_err-make_file g c =
     let w = world g.F.FileSystem.under g.F.FileSystem.log g.F.FileSystem.knows c.args.files.now c.make_file.new.files in
     let name = string_bytes c.args.made.now in
-    let text = picture_text c.args.subject.now.map c.picture_by-picture.result (option_map (λ f. f.now.filling) c.as_ref.result) c.as_slice-2.result.now c.as_slice-3.result.now in
+    let text = picture_text c.args.subject.now.map c.picture_by-picture.result (option_map (λ f. f.now.filling) c.as_ref.result) c.as_slice-3.result.now c.as_slice-4.result.now in
     does_fail w [] (Some name) (λ done. StandsUnder w.after name text) StopsNever c.in_err-make_file.field-0.0
     (does_make {T = Unit {0}} w.before w.after w.log w.logged w.knows name text StopsNever _ (rw c.as_str.ensures.value at c.in_err-make_file.ensures.made) c.in_err-make_file.ensures.logged)
     _ c.from_residual-in_err-make_file.result c.from_residual-in_err-make_file.ensures.1
