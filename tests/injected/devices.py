@@ -232,7 +232,8 @@ def play_pipes(count, program, folder):
         text = file.read_bytes()
         listed = answer_to(program, folder, ["audit", "--all", file])[0]
         ask = {"cwd": folder, "input": text, "capture_output": True}
-        for words in (["--all", "--where"], ["--where"], ["--json"], ["--all", "--json"], ["--all", "--where", "skipped"]):
+        for words in (["--all", "--where"], ["--where"], ["--json"], ["--all", "--json"], ["--all", "--where", "skipped"],
+                      ["--all", "--skip-refused"], ["--all", "--where", "--skip-refused"]):
             done = subprocess.run([program, "audit", *words, file], **ask)
             wanted = (done.returncode, *(it.replace(bytes(file), b"/dev/stdin") for it in (done.stdout, done.stderr)))
             done = subprocess.run([program, "audit", *words, "/dev/stdin"], **ask)
