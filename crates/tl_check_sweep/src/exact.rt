@@ -1,12 +1,11 @@
 //! A step of the sweep at a vertex where nothing is left to chance: its place in the list is known by turns, all segments that end there
 //! are taken off, those that begin there are put in by their directions, and each two that become neighbours are asked for a meet.
 //! So the step is done, or a meet is told.
-ghost use Rattle.std.specs.Prelude.{◌≡◌, ◌++◌, ◌<◌, ◌≤◌, ◌+◌, ◌∷◌, ℕ, [], false, None, Some, All, IfOk, IfSome, IsTrue, length, slice_get, take, drop};
+ghost use Rattle.std.specs.Prelude.{◌≡◌, ◌++◌, ◌≤◌, ℕ, false, None, Some, All, IfOk, IfSome, IsTrue, length, slice_get, take, drop};
 ghost use Rattle.std.specs.List.{insert};
-ghost use Rattle.tl_geom.specs.declared.segment.Segment.{Segment};
 ghost use Rattle.tl_tree_index.specs.Hits.{times};
-ghost use Rattle.tl_check_planar.specs.ByHeight.Heights.{widest, low_end};
-ghost use Rattle.tl_check_planar.specs.ByHeight.Neighbours.{IsNumbered, AreTested, EachTwo};
+ghost use Rattle.tl_check_planar.specs.ByHeight.Heights.{widest};
+ghost use Rattle.tl_check_planar.specs.ByHeight.Neighbours.{AreTested, EachTwo};
 ghost use Rattle.tl_check_planar.specs.Searching.{IsTrueMeet};
 ghost use Rattle.tl_check_faces.specs.Crossings.Headings.{AreProper};
 ghost use Rattle.tl_check_active.specs.Lined.{list_of, last_of};
