@@ -47,7 +47,7 @@ use Rattle.tl_check_verdict.specs.declared.fault.MapFault.{MapFault}
 use Rattle.tl_check_verdict.specs.declared.verdict.Report.{Report}
 use Rattle.tl_check_verdict.proofs.OneMap.{weaker}
 use Rattle.tl_list_text.specs.declared.listing.Listing.TheVariants.{Sound, Refused, Faults}
-use Rattle.tl_list_text.specs.Listings.{IsListingOf}
+use Rattle.tl_list.specs.Listings.{IsListingOf}
 use Rattle.tl_list.specs.Findings.{AreFindingsOf, IsLeft}
 use Rattle.tl_record.specs.Left.{numbers_of}
 use Rattle.tl_list.specs.declared.left.LeftFaults.{LeftFaults}

@@ -31,7 +31,7 @@ use Rattle.tl_check_verdict.specs.Messages.{map_fault_text}
 use Rattle.tl_check_verdict.specs.Records.{HaveMap}
 use Rattle.tl_check_verdict.specs.Sound.{IsSoundFor}
 use Rattle.tl_list_text.specs.declared.listing.Listing.TheVariants as listing
-use Rattle.tl_list_text.specs.Listings.{IsListingOf}
+use Rattle.tl_list.specs.Listings.{IsListingOf}
 use Rattle.tl_list_text.specs.Texts.{lines, listing_text, printed, count_line}
 use Rattle.tl_list.specs.Findings.{AreFaultsOf, AreFindingsOf, HasBeyond}
 use Rattle.tigertopo_records.specs.SpokenOf.{chains_of}

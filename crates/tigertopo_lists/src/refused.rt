@@ -4,7 +4,7 @@ ghost use Rattle.std.specs.Prelude.{◌≡◌, ◌++◌, [], ℕ, List, Option, 
 ghost use Rattle.std.specs.Prelude.{length, map as map_list, option_map, is_some, string_bytes};
 ghost use Rattle.tl_record.specs.Layout.{layout_with};
 ghost use Rattle.tl_cert_output.specs.Stops.{StopsFor};
-ghost use Rattle.tl_list_text.specs.Listings.{IsListingOf};
+ghost use Rattle.tl_list.specs.Listings.{IsListingOf};
 ghost use Rattle.tl_list_text.specs.Texts.{printed};
 ghost use Rattle.tl_list_text.specs.declared.listing.Listing.TheVariants.{Refused as RefusedLines};
 ghost use Rattle.tigertopo_files.specs.Log.{LogsAgain};

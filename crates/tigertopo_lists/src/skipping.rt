@@ -5,7 +5,7 @@ ghost use Rattle.std.specs.Prelude.{map as map_list, option_copied, option_map, 
 ghost use Rattle.tl_record.specs.Layout.{layout_with};
 ghost use Rattle.tl_cert_output.specs.Stops.{StopsFor};
 ghost use Rattle.tl_cert_output.specs.declared.stop.Stop.TheVariants.{Memory};
-ghost use Rattle.tl_list_text.specs.Listings.{IsListingOf};
+ghost use Rattle.tl_list.specs.Listings.{IsListingOf};
 ghost use Rattle.tl_list_text.specs.declared.listing.Listing.TheVariants.{Refused as RefusedLines};
 ghost use Rattle.tigertopo_files.specs.Log.{LogsAgain};
 ghost use Rattle.tigertopo_files.specs.World.{Does, MayMake, world};

@@ -9,8 +9,8 @@ ghost use Rattle.tl_check_verdict.specs.declared.fault.MapFault.TheVariants.{Fac
 ghost use Rattle.tl_check_verdict.specs.Sound.{IsSound, IsSoundFor};
 ghost use Rattle.tl_check_verdict.specs.Truth.{IsTrueOfMap};
 
+use tl_check_face_faults::face_fault_of;
 use tl_check_faces::{FaceFault, OddGap};
-use tl_check_sweep::face_search::face_fault_of;
 use tl_check_verdict::MapFault;
 use tl_map_county::Map;
 

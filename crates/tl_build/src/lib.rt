@@ -5,7 +5,7 @@
 //! rings where the points of polygons lie. Each certificate that is made has the tree that `tl_tree_pack` makes over the segments,
 //! and those darts and walks. Who wants the walks of a sound map alone takes [`find_walks`], and [`audit_map`]
 //! decides a map in memory. Where faces
-//! are asked for ([`audit_with`], [`build_with`]), the same sweep tells whether those of a sound map agree (`tl_check_sweep::face_search`).
+//! are asked for ([`audit_with`], [`build_with`]), the same sweep tells whether those of a sound map agree (`tl_check_face_faults`).
 #![tactic(auto)]
 
 mod answer;
@@ -14,6 +14,7 @@ mod of_map;
 mod of_records;
 mod of_swept;
 mod planar;
+mod points;
 mod walks;
 
 pub use answer::{Audit, Built};

@@ -25,7 +25,8 @@ use std::alloc::Global;
 use tl_cert::Certificate;
 use tl_cert_output::Stop;
 use tl_check_faces::OddGap;
-use tl_check_sweep::{Gaps, SweepReport, Swept, sweep};
+use tl_check_gaps::Gaps;
+use tl_check_sweep::{SweepReport, Swept, sweep};
 use tl_check_verdict::MapFault;
 use tl_map_county::Map;
 

@@ -17,10 +17,9 @@ ghost use Rattle.tl_build_propose.specs.Keeping.Lists.{lists_in};
 ghost use Rattle.tl_build_propose.specs.Keeping.Proposed.{IsProposal};
 
 use crate::answer::{Audit, Built};
+use crate::points::{find_misplaced_beside, find_misplaced_by};
 use std::alloc::Global;
-use tl_build_propose::{
-    find_misplaced_beside, find_misplaced_by, find_sides_at_odds, propose, propose_walks,
-};
+use tl_build_propose::{find_sides_at_odds, propose, propose_walks};
 use tl_cert::Certificate;
 use tl_cert_output::Stop;
 use tl_check_sides::cells::find_cells_at_odds;

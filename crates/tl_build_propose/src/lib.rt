@@ -2,12 +2,10 @@
 //! over its segments, which make a certificate, and by the walks whether sides agree. Of planar chains all of it is right.
 #![tactic(auto)]
 
-mod points;
 mod proposal;
 mod rounds;
 mod sides;
 mod walks;
 
-pub use points::{find_misplaced_beside, find_misplaced_by};
 pub use proposal::{propose, propose_tree, propose_walks};
 pub use sides::find_sides_at_odds;

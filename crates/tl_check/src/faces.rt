@@ -12,8 +12,10 @@ ghost use Rattle.tl_check.specs.Keeping.Known.{AreToldGaps};
 
 use std::alloc::{AllocError, Global};
 use tl_cert_output::Stop;
+use tl_check_face_faults::face_fault_of;
 use tl_check_faces::{FaceFault, OddGap};
-use tl_check_sweep::face_search::{face_fault_of, find_face_fault};
+use tl_check_gaps::Gaps;
+use tl_check_sweep::{SweepReport, sweep};
 use tl_check_verdict::{MapFault, Report, Verdict};
 use tl_map_county::Map;
 
@@ -71,8 +73,22 @@ fn find_by(
 {
     match gaps {
         Some(told) => Ok(face_fault_of(map, &told)),
-        None => find_face_fault(alloc, map),
+        None => find_by_sweep(alloc, map),
     }
+}
+
+/// Faces that disagree, if some do, by a sweep.
+fn find_by_sweep(alloc: Global, map: &Map) -> Result<Option<FaceFault>, AllocError>
+    requires planar { IsPlanar map.now.chains }
+    ensures agree { IfOk result (λ found. found ≡ None → FacesAgree map.now.chains) }
+    ensures fault { IfOk result (λ found. (fault : FaceFault) → found ≡ Some fault → IsTrueFaceFault map.now fault) }
+{
+    let SweepReport {
+        swept: _swept,
+        suspects: _suspects,
+        gaps,
+    } = sweep(alloc, map, Gaps::First)?;
+    Ok(face_fault_of(map, &gaps))
 }
 
 /// What is decided of a sound map by the faces that were found to disagree, if any were.

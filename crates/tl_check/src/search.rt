@@ -9,8 +9,9 @@ ghost use Rattle.tl_check.specs.Keeping.Known.{MayFind, pairs_of};
 
 use std::alloc::Global;
 use tl_check_faces::OddGap;
+use tl_check_gaps::Gaps;
 use tl_check_planar::{Meet, Meeting, first_meet};
-use tl_check_sweep::{Gaps, SweepReport, Swept, sweep};
+use tl_check_sweep::{SweepReport, Swept, sweep};
 use tl_map_county::Map;
 use tl_tree::FlatTree;
 use tl_tree_index::Memory;

@@ -1,10 +1,8 @@
 pub mod Bits
-pub mod Answered
 pub mod Wide
 pub mod Tests
 pub mod Beside
 pub mod Lining
-pub mod Numbers
 pub mod Listing
 pub mod Joining
 pub mod Meeting

@@ -1,5 +1,4 @@
 -- What the calls of a sweep's list and its events cite.
-pub mod Lined
 pub mod Vertices
 pub mod Events
 pub mod Ranges

@@ -3,11 +3,11 @@ ghost use Rattle.std.specs.Prelude.{◌≡◌, ◌++◌, ◌∷◌, ℕ, Some, [
 ghost use Rattle.tl_check_planar.specs.ByHeight.Heights.{widest};
 ghost use Rattle.tl_check_planar.specs.ByHeight.Neighbours.{AreTested, EachTwo};
 ghost use Rattle.tl_check_active.specs.Bent.{IsBent};
-ghost use Rattle.tl_check_active.specs.Lined.{list_of};
+ghost use Rattle.tl_check_blocks.specs.Lined.{list_of};
 
-use crate::line::Line;
 use crate::neighbours::are_tested;
 use std::alloc::AllocError;
+use tl_check_blocks::Line;
 use tl_map_county::Map;
 
 /// Takes these segments off the list behind the place, if they stand there in this order.

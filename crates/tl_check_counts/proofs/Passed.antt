@@ -6,7 +6,7 @@ use Rattle.tl_tree_index.proofs.Times.{times-append}
 use Rattle.tl_check_planar.specs.ByHeight.Heights.{widest}
 use Rattle.tl_check_planar.specs.ByHeight.Neighbours.{AreTested, EachTwo}
 use Rattle.tl_check_planar.proofs.ByHeight.Walking.{two_front, two_back}
-use Rattle.tl_check_active.specs.Lined.{TheLine, list_of}
+use Rattle.tl_check_blocks.specs.Lined.{TheLine, list_of}
 use Rattle.tl_check_counts.specs.Keeping.Passing.{HasPassed}
 
 pub exchanged : (chains : List MapChain) (line after : TheLine) (outs ins : List ℕ) → after.front ≡ line.front ++ ins → line.back ≡ outs ++ after.back →

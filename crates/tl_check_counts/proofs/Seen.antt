@@ -16,13 +16,13 @@ use Rattle.tl_check_inside.specs.Keeping.Tallies.{flanks_in, TellCounts}
 use Rattle.tl_check_active.specs.declared.events.Event.{Event}
 use Rattle.tl_check_active.specs.Events.{AreEvents, AreRising}
 use Rattle.tl_check_active.specs.Ranges.{IsInRange, AreInRange}
-use Rattle.tl_check_sweep.specs.Beside.{IsNoVertex, IsEastOfLast, IsWestOfFirst, IsBetween}
-use Rattle.tl_check_sweep.specs.Keeping.Facing.{raised}
-use Rattle.tl_check_sweep.specs.Keeping.Swept.{IsSwept}
-use Rattle.tl_check_sweep.proofs.Between.{active_behind, not_west, off_chains, crossed}
-use Rattle.tl_check_sweep.proofs.Raised.{same_flanks}
-use Rattle.tl_check_sweep.proofs.Slab.{list_of_slab}
-use Rattle.tl_check_sweep.proofs.Spotting as spotting
+use Rattle.tl_check_gaps.specs.Beside.{IsNoVertex, IsEastOfLast, IsWestOfFirst, IsBetween}
+use Rattle.tl_check_gaps.specs.Keeping.Facing.{raised}
+use Rattle.tl_check_gaps.specs.Keeping.Swept.{IsSwept}
+use Rattle.tl_check_gaps.proofs.Between.{active_behind, not_west, off_chains, crossed}
+use Rattle.tl_check_gaps.proofs.Raised.{same_flanks}
+use Rattle.tl_check_gaps.proofs.Slab.{list_of_slab}
+use Rattle.tl_check_gaps.proofs.Spotting as spotting
 use Rattle.tl_check_counts.specs.declared.labels.Gap.{Gap}
 use Rattle.tl_check_counts.specs.declared.looking.Visit.{Visit}
 use Rattle.tl_check_counts.specs.Keeping.Ways.{TellGap}

@@ -9,7 +9,7 @@ use Rattle.tl_check_active.proofs.Bits.{bit}
 use Rattle.tl_check_active.specs.declared.events.Event.{Event}
 use Rattle.tl_check_active.specs.Events.{AreEvents, begins_at}
 use Rattle.tl_check_inside.specs.declared.strips.Site.{Site}
-use Rattle.tl_check_sweep.specs.Keeping.Swept.{IsSwept}
+use Rattle.tl_check_gaps.specs.Keeping.Swept.{IsSwept}
 use Rattle.tl_check_counts.specs.declared.labels.Gap.{Gap}
 use Rattle.tl_check_counts.specs.declared.looking.Visit.{Visit}
 use Rattle.tl_check_counts.specs.Keeping.Ways.{AreKept}

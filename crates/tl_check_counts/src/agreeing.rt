@@ -2,11 +2,11 @@
 ghost use Rattle.std.specs.Prelude.{◌≡◌, ◌↔◌, IfSome, IsTrue, length};
 ghost use Rattle.tl_check_inside.specs.Inside.{flanks_at};
 ghost use Rattle.tl_check_inside.specs.Keeping.Tallies.{flanks_in};
-ghost use Rattle.tl_check_sweep.specs.Keeping.Facing.{raised};
+ghost use Rattle.tl_check_gaps.specs.Keeping.Facing.{raised};
 ghost use Rattle.tl_check_counts.specs.Keeping.Balances.{AreAmong, HaveOneBalance, LeadsTo};
 
+use tl_check_gaps::flanks_of;
 use tl_check_inside::Flanks;
-use tl_check_sweep::flanks_of;
 use tl_map_county::{Map, Side};
 
 /// The sides of the segment with this number, if there is one: near to the west of it, and far to the east.

@@ -4,13 +4,13 @@ ghost use Rattle.tl_map_county.specs.TheMap.{MapChain};
 ghost use Rattle.tl_check_inside.specs.declared.flanks.Flanks.{Flanks as TheFlanks};
 ghost use Rattle.tl_check_inside.specs.Inside.{flanks_at};
 ghost use Rattle.tl_check_inside.specs.Keeping.Tallies.{flanks_in};
-ghost use Rattle.tl_check_sweep.specs.Keeping.Facing.{raised};
+ghost use Rattle.tl_check_gaps.specs.Keeping.Facing.{raised};
 ghost use Rattle.tl_check_counts.specs.Keeping.Ways.{TellGap, AreKept};
 ghost use Rattle.tl_check_counts.specs.Keeping.Labels.{AreLabelled, HasEntered};
 
 use crate::agreeing::find_flanks;
 use std::alloc::{AllocError, Global};
-use tl_check_active::Line;
+use tl_check_blocks::Line;
 use tl_check_inside::Flanks;
 use tl_map_county::{Map, Side};
 

@@ -1,20 +1,21 @@
 //! The points that are asked for, on the way of a sweep.
 ghost use Rattle.std.specs.Prelude.{◌≡◌, ◌<◌, [], All, IfOk, IsTrue, length};
 ghost use Rattle.tl_check_planar.specs.ByHeight.Heights.{widest};
-ghost use Rattle.tl_check_active.specs.Lined.{list_of};
+ghost use Rattle.tl_check_blocks.specs.Lined.{list_of};
 ghost use Rattle.tl_check_active.specs.Events.{before, joined, AreEvents, AreRising};
 ghost use Rattle.tl_check_active.specs.Ranges.{AreInRange};
-ghost use Rattle.tl_check_sweep.specs.Beside.{IsNoVertex, IsBetween};
-ghost use Rattle.tl_check_sweep.specs.Keeping.Facing.{raised};
-ghost use Rattle.tl_check_sweep.specs.Keeping.Swept.{IsSwept};
+ghost use Rattle.tl_check_gaps.specs.Beside.{IsNoVertex, IsBetween};
+ghost use Rattle.tl_check_gaps.specs.Keeping.Facing.{raised};
+ghost use Rattle.tl_check_gaps.specs.Keeping.Swept.{IsSwept};
 ghost use Rattle.tl_check_counts.specs.Keeping.Labels.{AreLabelled};
 ghost use Rattle.tl_check_counts.specs.Keeping.Visits.{IsVisit};
 
 use crate::labels::Labels;
 use std::alloc::{AllocError, Global};
-use tl_check_active::{Events, Line, go_to, height};
+use tl_check_active::{Events, go_to, height};
+use tl_check_blocks::Line;
+use tl_check_gaps::{is_between, is_east_of, is_west_of};
 use tl_check_inside::Site;
-use tl_check_sweep::{is_between, is_east_of, is_west_of};
 use tl_geom::Point;
 use tl_map_county::{Map, Ranked, presort_by_rank};
 

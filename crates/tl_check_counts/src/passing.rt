@@ -1,10 +1,11 @@
 //! A step of the sweep at a vertex: the segments that end there leave the list, and those that begin there enter it.
 ghost use Rattle.std.specs.Prelude.{IfOk, IsTrue};
-ghost use Rattle.tl_check_active.specs.Lined.{list_of};
+ghost use Rattle.tl_check_blocks.specs.Lined.{list_of};
 ghost use Rattle.tl_check_counts.specs.Keeping.Passing.{HasPassed};
 
 use std::alloc::AllocError;
-use tl_check_active::{Line, Places, closes, go_to_first, order, shift};
+use tl_check_active::{closes, go_to_first, order, shift};
+use tl_check_blocks::{Line, Places};
 use tl_geom::Point;
 use tl_map_county::Map;
 

@@ -3,7 +3,7 @@ ghost use Rattle.std.specs.Prelude.{◌≡◌, [], All, IfOk, IsTrue, length};
 ghost use Rattle.tl_check_planar.specs.ByHeight.Heights.{widest};
 ghost use Rattle.tl_check_planar.specs.ByHeight.Neighbours.{IsWide};
 ghost use Rattle.tl_check_active.specs.Events.{joined, AreEvents, AreRising};
-ghost use Rattle.tl_check_active.specs.Lined.{list_of};
+ghost use Rattle.tl_check_blocks.specs.Lined.{list_of};
 ghost use Rattle.tl_check_active.specs.Ranges.{AreInRange};
 ghost use Rattle.tl_check_counts.specs.Keeping.Visits.{IsVisit};
 
@@ -12,7 +12,8 @@ use crate::looking::{Spots, Visit};
 use crate::passing::pass;
 use crate::vertex::label_vertex;
 use std::alloc::{AllocError, Global};
-use tl_check_active::{Events, Line, Places, gather};
+use tl_check_active::{Events, gather};
+use tl_check_blocks::{Line, Places};
 use tl_check_inside::Site;
 use tl_map_county::Map;
 

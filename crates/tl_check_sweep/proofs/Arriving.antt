@@ -26,12 +26,12 @@ use Rattle.tl_check_active.proofs.Bits.{bit}
 use Rattle.tl_check_active.proofs.Joining.{all_joined, all_apart, before_past, before_within, part_is, level_there, first_behind}
 use Rattle.tl_check_active.proofs.Tests.{same_low, high_height}
 use Rattle.tl_check_sweep.specs.Keeping.Exact.{EndsAt, BeginsAt, IsBefore}
-use Rattle.tl_check_sweep.specs.Keeping.Swept.{AreAbove, AreBelow, IsSwept}
+use Rattle.tl_check_gaps.specs.Keeping.Swept.{AreAbove, AreBelow, IsSwept}
 use Rattle.tl_check_sweep.proofs.Exactly.{near}
-use Rattle.tl_check_sweep.proofs.Found.{no_event, found, both_true, is_number, not_true}
+use Rattle.tl_check_gaps.proofs.Found.{no_event, found, both_true, is_number, not_true}
 use Rattle.tl_check_sweep.proofs.Freeing.{one_at_height}
-use Rattle.tl_check_sweep.proofs.Gone.{all_before}
-use Rattle.tl_check_sweep.proofs.Slab.{all_of, ended_by, found_before, in_list, known, list_of_slab, stands_before}
+use Rattle.tl_check_gaps.proofs.Gone.{all_before}
+use Rattle.tl_check_gaps.proofs.Slab.{all_of, ended_by, found_before, in_list, known, list_of_slab, stands_before}
 
 module _ (chains : List MapChain) (events : List (List Event)) (from to : ℕ) (list outs ins : List ℕ) (are : AreEvents chains (joined events))
     (rising : AreRising (joined events)) (ranges : AreInRange chains) (proper : AreProper chains) (swept : IsSwept chains (joined events) (before from events) list)

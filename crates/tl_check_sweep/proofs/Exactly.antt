@@ -26,13 +26,13 @@ use Rattle.tl_check_planar.proofs.ByHeight.Transport.{not_east, on_both, strictl
 use Rattle.tl_check_planar.proofs.ByHeight.Numbered.{one_segment, IsOnIt, on_it, both_ended}
 use Rattle.tl_check_planar.proofs.ByHeight.Walking.{IsIn, in_by_times, all_head, all_tail, two_front, two_back}
 use Rattle.tl_check_planar.proofs.ByHeight.Standing.{west_at}
-use Rattle.tl_check_active.specs.Lined.{TheLine, list_of, last_of}
+use Rattle.tl_check_blocks.specs.Lined.{TheLine, list_of, last_of}
 use Rattle.tl_check_active.specs.Ranges.{AreInRange}
 use Rattle.tl_check_active.proofs.Lining.{last_more}
 use Rattle.tl_check_active.proofs.Tests.{low_height, high_height}
 use Rattle.tl_check_active.proofs.Wide.{wide_by_range}
 use Rattle.tl_check_faces.proofs.Neighbours.{all_front, all_back}
-use Rattle.tl_check_sweep.specs.Beside.{IsEastOf}
+use Rattle.tl_check_gaps.specs.Beside.{IsEastOf}
 use Rattle.tl_check_sweep.specs.Keeping.Exact.{IsNotEastOf, EndsAt, EndsElsewhere, BeginsAt, StandsAt, IsWestOfOther, MayFollow, IsBefore}
 
 -- ---- lists

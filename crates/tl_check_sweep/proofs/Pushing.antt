@@ -9,7 +9,7 @@ use Rattle.tl_geom.specs.declared.point.Point.{Point}
 use Rattle.tl_check_planar.specs.ByHeight.Heights.{height, widest}
 use Rattle.tl_check_active.specs.Events.{AreAt, AreMet, AreRising, before, joined, one_or_two}
 use Rattle.tl_check_active.proofs.Joining.{before_further, before_within, first_there, whole}
-use Rattle.tl_check_sweep.specs.Keeping.Vertices.{IsLast, AreInOrder, AreInOrderUpTo}
+use Rattle.tl_check_gaps.specs.Keeping.Vertices.{IsLast, AreInOrder, AreInOrderUpTo}
 use Rattle.tl_check_active.specs.Vertices.{MayMeet}
 
 module _ (chains : List MapChain) where

@@ -13,16 +13,16 @@ use Rattle.tl_check_planar.specs.ByHeight.Heights.{height, widest}
 use Rattle.tl_check_planar.specs.ByHeight.Neighbours.{AreTested, EachTwo}
 use Rattle.tl_check_faces.specs.declared.odd.OddGap.{OddGap}
 use Rattle.tl_check_faces.specs.Odd.{IsOddGap}
-use Rattle.tl_check_sweep.specs.declared.watch.Gaps.TheVariants.{First, All as every}
-use Rattle.tl_check_sweep.specs.declared.watch.Watch.{Watch}
-use Rattle.tl_check_sweep.specs.Telling.{IsToldAlong, IsKept, IsAt}
-use Rattle.tl_check_sweep.specs.Keeping.Passing.{HasLooked}
-use Rattle.tl_check_sweep.specs.Keeping.Swept.{IsSwept}
-use Rattle.tl_check_sweep.specs.Keeping.Watched.{IsOpen, IsFirst, IsSlabTold, IsWatched, IsWatchedToEnd}
+use Rattle.tl_check_gaps.specs.declared.watch.Gaps.TheVariants.{First, All as every}
+use Rattle.tl_check_gaps.specs.declared.watch.Watch.{Watch}
+use Rattle.tl_check_gaps.specs.Telling.{IsToldAlong, IsKept, IsAt}
+use Rattle.tl_check_gaps.specs.Keeping.Passing.{HasLooked}
+use Rattle.tl_check_gaps.specs.Keeping.Swept.{IsSwept}
+use Rattle.tl_check_gaps.specs.Keeping.Watched.{IsOpen, IsFirst, IsSlabTold, IsWatched, IsWatchedToEnd}
 use Rattle.tl_check_active.proofs.Joining.{before_past}
-use Rattle.tl_check_sweep.proofs.Slab.{list_of_slab}
-use Rattle.tl_check_sweep.proofs.Gone.{reached_all, reached_by, before_or, under_here, listed_here}
-use Rattle.tl_check_sweep.proofs.Whole.{nothing_along, told_up}
+use Rattle.tl_check_gaps.proofs.Slab.{list_of_slab}
+use Rattle.tl_check_gaps.proofs.Gone.{reached_all, reached_by, before_or, under_here, listed_here}
+use Rattle.tl_check_gaps.proofs.Whole.{nothing_along, told_up}
 
 -- what is told of a slab stays told
 pub slab_kept : (chains : List MapChain) (n : ℤ) (old new : List OddGap) → IsKept old new → IsSlabTold chains n old → IsSlabTold chains n new

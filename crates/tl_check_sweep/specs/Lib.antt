@@ -1,8 +1,4 @@
--- What the contracts and the laws of sweeps cite.
-pub mod Beside
-pub mod Gaps
+-- What the contracts of sweeps cite.
 pub mod Deciding
-pub mod Telling
 pub mod Keeping
-pub mod FaceSearch
 pub mod Parts

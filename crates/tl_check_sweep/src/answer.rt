@@ -15,17 +15,16 @@ ghost use Rattle.tl_check_active.specs.Ranges.{AreInRange};
 ghost use Rattle.tl_check_faces.specs.Facing.{FacesAgree};
 ghost use Rattle.tl_check_faces.specs.Odd.{IsLowestOddGap};
 ghost use Rattle.tl_check_sweep.specs.Deciding.{SaysPlanar};
-ghost use Rattle.tl_check_sweep.specs.Gaps.{AreAllOddGaps};
-ghost use Rattle.tl_check_sweep.specs.Keeping.Spotted.{AreMarks, AreTrueMarks};
+ghost use Rattle.tl_check_gaps.specs.Gaps.{AreAllOddGaps};
+ghost use Rattle.tl_check_gaps.specs.Keeping.Spotted.{AreMarks, AreTrueMarks};
 ghost use Rattle.tl_check_sweep.specs.Keeping.Told.{IsTrueAnswer, IsTrueSweep};
 
 use crate::meets::meet_at_vertex;
-use crate::spots::{InnerPoints, list_unmarked};
 use crate::sweeping::{Care, Passage, sweep_list};
-use crate::watch::{Gaps, Watch};
 use std::alloc::{AllocError, Global};
 use tl_check_active::Events;
 use tl_check_faces::OddGap;
+use tl_check_gaps::{Gaps, InnerPoints, Watch, list_unmarked};
 use tl_check_planar::Meet;
 use tl_map_county::Map;
 

@@ -9,7 +9,7 @@ ghost use Rattle.tl_check_planar.specs.Searching.{IsTrueMeet};
 ghost use Rattle.tl_check_active.specs.Events.{joined, AreEvents, AreRising, IsEvent, one_or_two, AreMet};
 ghost use Rattle.tl_check_active.specs.Ranges.{AreInRange};
 ghost use Rattle.tl_check_active.specs.Vertices.{IsAtPlace, IsEndOfChain, MayMeet};
-ghost use Rattle.tl_check_sweep.specs.Keeping.Vertices.{IsLast, AreInOrder, IsInOrderAt};
+ghost use Rattle.tl_check_gaps.specs.Keeping.Vertices.{IsLast, AreInOrder, IsInOrderAt};
 
 use crate::suspects::meet_about;
 use tl_check_active::{Event, Events, are_one};

@@ -1,13 +1,13 @@
 //! A step of the sweep at a vertex: the segments that end there leave the list, those that begin there enter it, and the gaps about the
 //! latter are told where sides differ.
 ghost use Rattle.std.specs.Prelude.{◌≡◌, ℕ, List, IfOk, IsTrue, slice_get};
-ghost use Rattle.tl_check_active.specs.Lined.{list_of, last_of};
-ghost use Rattle.tl_check_sweep.specs.Keeping.Passing.{HasPassed, IsRecounted};
+ghost use Rattle.tl_check_blocks.specs.Lined.{list_of, last_of};
+ghost use Rattle.tl_check_gaps.specs.Keeping.Passing.{HasPassed, IsRecounted};
 
-use crate::facing::{are_alike, far_of, near_of, recount};
-use crate::watch::Watch;
 use std::alloc::AllocError;
-use tl_check_active::{Line, Places, bend, closes, go_to_first, order, shift};
+use tl_check_active::{bend, closes, go_to_first, order, shift};
+use tl_check_blocks::{Line, Places};
+use tl_check_gaps::{Watch, are_alike, far_of, near_of, recount};
 use tl_geom::Point;
 use tl_map_county::Map;
 

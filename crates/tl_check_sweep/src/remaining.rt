@@ -3,10 +3,9 @@ ghost use Rattle.std.specs.Prelude.{◌≡◌, ◌<◌, IfOk, length};
 ghost use Rattle.tl_check_sweep.specs.Parts.{IsPlanarPart};
 
 use crate::answer::{SweepReport, Swept, sweep};
-use crate::spots::list_unmarked;
 use crate::taking::take_out;
-use crate::watch::Gaps;
 use std::alloc::{AllocError, Global};
+use tl_check_gaps::{Gaps, list_unmarked};
 use tl_check_planar::Meet;
 use tl_map_county::Map;
 

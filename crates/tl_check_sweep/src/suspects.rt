@@ -9,7 +9,7 @@ ghost use Rattle.tl_check_planar.specs.Searching.{IsTrueMeet};
 ghost use Rattle.tl_check_sweep.specs.Keeping.Pairs.{AreFreeBothWays, IsFreeOfEnds};
 
 use std::alloc::AllocError;
-use tl_check_active::Line;
+use tl_check_blocks::Line;
 use tl_check_planar::{Meet, Segments};
 use tl_geom::{Contact, contact};
 use tl_map_county::Map;

@@ -1,25 +1,25 @@
 //! The sweep: from event to event, with the list of active segments.
-ghost use Rattle.std.specs.Prelude.{◌≡◌, [], true, IfOk};
+ghost use Rattle.std.specs.Prelude.{◌≡◌, [], None, false, IfOk, IfSome, IsTrue};
 ghost use Rattle.tl_check_planar.specs.ByHeight.Heights.{widest};
 ghost use Rattle.tl_check_planar.specs.ByHeight.Neighbours.{IsWide};
 ghost use Rattle.tl_check_planar.specs.Searching.{IsTrueMeet};
 ghost use Rattle.tl_check_planar.specs.declared.meet.Meet.{Meet};
 ghost use Rattle.tl_check_faces.specs.Crossings.Headings.{AreProper};
 ghost use Rattle.tl_check_active.specs.Events.{joined, AreEvents, AreRising};
-ghost use Rattle.tl_check_active.specs.Lined.{list_of};
+ghost use Rattle.tl_check_blocks.specs.Lined.{list_of};
 ghost use Rattle.tl_check_active.specs.Ranges.{AreInRange};
-ghost use Rattle.tl_check_sweep.specs.Keeping.Exact.{IsBefore, or_failed, or_passed};
-ghost use Rattle.tl_check_sweep.specs.Keeping.Passing.{HasPassed};
-ghost use Rattle.tl_check_sweep.specs.Keeping.Spotted.{AreMarks};
-ghost use Rattle.tl_check_sweep.specs.Keeping.Watched.{IsSweptToEnd};
+ghost use Rattle.tl_check_sweep.specs.Keeping.Exact.{IsBefore, or_failed};
+ghost use Rattle.tl_check_gaps.specs.Keeping.Passing.{HasPassed};
+ghost use Rattle.tl_check_gaps.specs.Keeping.Spotted.{AreMarks};
+ghost use Rattle.tl_check_gaps.specs.Keeping.Watched.{IsSweptToEnd};
 
 use crate::exact::pass_exactly;
 use crate::passing::pass;
-use crate::spots::InnerPoints;
 use crate::suspects::{find_meet, list_suspects};
-use crate::watch::Watch;
 use std::alloc::{AllocError, Global};
-use tl_check_active::{Events, Line, Places, gather};
+use tl_check_active::{Events, gather};
+use tl_check_blocks::{Line, Places};
+use tl_check_gaps::{InnerPoints, Watch};
 use tl_check_planar::Meet;
 use tl_geom::Point;
 use tl_map_county::Map;
@@ -33,7 +33,7 @@ pub enum Care {
     Exact,
 }
 
-/// How a step of a sweep ends, or a sweep.
+/// How a sweep ends.
 #[derive(Clone, Copy)]
 pub enum Passage {
     /// All is passed.
@@ -109,24 +109,26 @@ fn sweep_along(
     ensures exact { care ≡ Care.Exact → IfOk result (λ ending. ¬ (ending ≡ Passage.Failed)) }
 {
     let mut gaps = Some(0u64);
+    let mut found = None;
     let mut from = 0;
     while from < events.len() {
         spots.look(map, line, events, from, gaps)?;
         let to = gather(events, from, outs, ins)?;
         let p = events.point(from);
-        match step(
-            alloc, map, p, care, line, outs, ins, places, &mut gaps, watch,
-        )? {
-            Passage::Passed => from = to,
-            Passage::Meet(meet) => return Ok(Passage::Meet(meet)),
-            Passage::Failed => return Ok(Passage::Failed),
+        let is_passed = step(
+            alloc, map, p, care, line, outs, ins, places, &mut gaps, watch, &mut found,
+        )?;
+        if !is_passed {
+            return Ok(or_failed(found));
         }
+        from = to;
     }
     Ok(Passage::Passed)
 }
 
-/// Passes the vertex at a point, with the segments that end there and those that begin there in any order.
-#[inline]
+/// Passes the vertex at a point, with the segments that end there and those that begin there in any order. Where it isn't passed, a meet is
+/// found, or a test failed and no meet was found there.
+#[inline(always)]
 fn step(
     alloc: Global,
     map: &Map,
@@ -138,42 +140,37 @@ fn step(
     places: &mut Places,
     gaps: &mut Option<u64>,
     watch: &mut Watch,
-) -> Result<Passage, AllocError>
+    found: &mut Option<Meet>,
+) -> Result<bool, AllocError>
     requires before { IsBefore map.now.chains p (list_of line.old) outs.old.items ins.old.items }
-    ensures passed { IfOk result (λ ending. ending ≡ Passage.Passed → HasPassed map.now.chains p (list_of line.old) (list_of line.new)
+    ensures passed { IfOk result (λ done. IsTrue done → HasPassed map.now.chains p (list_of line.old) (list_of line.new)
         outs.old.items ins.old.items gaps.old gaps.new watch.old watch.new) }
-    ensures meet { IfOk result (λ ending. (meet : Meet) → ending ≡ Passage.Meet meet → IsTrueMeet map.now.chains meet) }
-    ensures exact { care ≡ Care.Exact → IfOk result (λ ending. ¬ (ending ≡ Passage.Failed)) }
+    ensures meet { IfOk result (λ done. done ≡ false → IfSome found.new (IsTrueMeet map.now.chains)) }
+    ensures exact { care ≡ Care.Exact → IfOk result (λ done. done ≡ false → ¬ (found.new ≡ None)) }
 {
     match care {
         Care::Quick => {
             if pass(map, p, line, outs, ins, places, gaps, watch)? {
-                return Ok(Passage::Passed);
+                return Ok(true);
             }
             let mut suspects = Vec::new(alloc);
             list_suspects(line, outs, ins, &mut suspects)?;
-            Ok(or_failed(find_meet(map, &suspects)))
+            *found = find_meet(map, &suspects);
+            Ok(false)
         }
-        Care::Exact => Ok(or_passed(pass_exactly(alloc, map, p, line, outs, ins, gaps, watch)?)),
+        Care::Exact => {
+            *found = pass_exactly(alloc, map, p, line, outs, ins, gaps, watch)?;
+            Ok(found.is_none())
+        }
     }
 }
 
-/// A meet that was found where a test failed, if there is one.
+/// A meet that was found where a vertex wasn't passed, if there is one.
 fn or_failed(found: Option<Meet>) -> Passage
     ensures { result ≡ or_failed found }
 {
     match found {
         Some(meet) => Passage::Meet(meet),
         None => Passage::Failed,
-    }
-}
-
-/// A meet that was found, or that all is passed.
-fn or_passed(found: Option<Meet>) -> Passage
-    ensures { result ≡ or_passed found }
-{
-    match found {
-        Some(meet) => Passage::Meet(meet),
-        None => Passage::Passed,
     }
 }

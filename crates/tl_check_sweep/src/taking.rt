@@ -7,7 +7,8 @@
 use crate::exact::ends_at;
 use crate::meets::may_meet;
 use std::alloc::{AllocError, Global};
-use tl_check_active::{Event, Events, Line, Places, are_tested, bend, gather, go_to_first, order};
+use tl_check_active::{Event, Events, are_tested, bend, gather, go_to_first, order};
+use tl_check_blocks::{Line, Places};
 use tl_geom::Point;
 use tl_map_county::Map;
 

@@ -31,7 +31,7 @@ use Rattle.tl_list_text.specs.declared.listing.Listing.{Listing}
 use Rattle.tl_list_text.specs.declared.listing.Listing.TheVariants.{Sound, Refused, Faults}
 use Rattle.tl_cert_output.specs.declared.stop.Stop.{Stop}
 use Rattle.tl_list.specs.declared.reading.BothKept.{BothKept}
-use Rattle.tl_list_text.specs.Listings.{IsListingOf}
+use Rattle.tl_list.specs.Listings.{IsListingOf}
 use Rattle.tl_list.specs.Keeping.Reading.{Keeps, AreWhole, KeepsAll, IsStopped}
 use Rattle.tl_list.specs.Keeping.OfMap.{IsListingFor}
 use Rattle.tl_list.specs.declared.of_records.Findings.{Findings}

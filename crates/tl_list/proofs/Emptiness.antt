@@ -6,17 +6,17 @@ use Rattle.tl_map_county.specs.TheMap.{TheMap, MapChain}
 use Rattle.tl_check_sides.specs.declared.fault.Disagreement.{Disagreement}
 use Rattle.tl_check_sides.specs.Cells.Cells.{CellsAgree, AreCellsAtOdds}
 use Rattle.tl_check_meets.specs.Meets.{AreAllMeets}
-use Rattle.tl_list_map.specs.Nodes.Disagreements.{AreAllDisagreements}
-use Rattle.tl_list_map.specs.Nodes.Touched.{IsTouched}
-use Rattle.tl_list_map.specs.Nodes.CellOdds.{AreAllCellsAtOdds}
-use Rattle.tl_list_map.proofs.NodesLemmas.Emptiness.{cells_agree}
-use Rattle.tl_list_map.specs.Points.AllMisplaced.{AreAllMisplaced, NoneHidden}
-use Rattle.tl_list_map.proofs.PointsLemmas.Wholes.{place_of}
-use Rattle.tl_list_map.proofs.PointsLemmas.Alike.{hidden_as}
+use Rattle.tl_list_nodes.specs.Disagreements.{AreAllDisagreements}
+use Rattle.tl_list_nodes.specs.Touched.{IsTouched}
+use Rattle.tl_list_nodes.specs.CellOdds.{AreAllCellsAtOdds}
+use Rattle.tl_list_nodes.proofs.Emptiness.{cells_agree}
+use Rattle.tl_list_points.specs.AllMisplaced.{AreAllMisplaced, NoneHidden}
+use Rattle.tl_list_points.proofs.Wholes.{place_of}
+use Rattle.tl_list_points.proofs.Alike.{hidden_as}
 use Rattle.tl_check_verdict.specs.declared.fault.MapFault.{MapFault}
 use Rattle.tl_check_verdict.specs.declared.fault.MapFault.TheVariants as fault
 use Rattle.tl_check_verdict.specs.Truth.{IsTrueOfMap}
-use Rattle.tl_list_text.specs.MapFaults.{side_fault, AreMapFaults}
+use Rattle.tl_list.specs.MapFaults.{side_fault, AreMapFaults}
 
 -- an empty list has no element
 none_named : {X : Type 0} (P : X → Type 0) → ¬ Any P []

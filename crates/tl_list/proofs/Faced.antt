@@ -17,10 +17,10 @@ use Rattle.tl_check_faces.specs.Faults.{IsTrueFaceFault}
 use Rattle.tl_check_faces.specs.Truth.{AreFacesTrue}
 use Rattle.tl_check_faces.proofs.FromTruth.{fault_denies}
 use Rattle.tl_check_meets.specs.Meets.{AreAllMeets}
-use Rattle.tl_list_map.specs.Nodes.CellOdds.{AreAllCellsAtOdds}
-use Rattle.tl_list_map.specs.Nodes.Disagreements.{AreAllDisagreements}
-use Rattle.tl_list_map.proofs.NodesLemmas.Agreeing.{at_odds}
-use Rattle.tl_list_map.proofs.NodesLemmas.Emptiness.{sides_agree}
+use Rattle.tl_list_nodes.specs.CellOdds.{AreAllCellsAtOdds}
+use Rattle.tl_list_nodes.specs.Disagreements.{AreAllDisagreements}
+use Rattle.tl_list_nodes.proofs.Agreeing.{at_odds}
+use Rattle.tl_list_nodes.proofs.Emptiness.{sides_agree}
 use Rattle.tl_check_verdict.specs.declared.fault.MapFault.{MapFault}
 use Rattle.tl_check_verdict.specs.declared.fault.MapFault.TheVariants as fault
 use Rattle.tl_check_verdict.specs.declared.verdict.Report.{Report}
@@ -28,7 +28,7 @@ use Rattle.tl_check_verdict.specs.Sound.{IsSound}
 use Rattle.tl_check_verdict.specs.Verdicts.{IsReport}
 use Rattle.tl_check_verdict.proofs.Asked.{keeps}
 use Rattle.tl_list_text.specs.declared.listing.Listing.TheVariants.{Sound, Faults}
-use Rattle.tl_list_text.specs.MapFaults.{side_fault, AreMapFaults, AreLookedAt}
+use Rattle.tl_list.specs.MapFaults.{side_fault, AreMapFaults, AreLookedAt}
 use Rattle.tl_list.specs.Keeping.OfMap.{IsListingFor, AddsFaces, begins_with_chains}
 use Rattle.tl_list.proofs.Emptiness.{map_empty, odds_deny}
 use Rattle.tl_list.proofs.OfMap.{all_told, no_meets, no_points, agreeing as sides_agreeing}

@@ -23,8 +23,8 @@ use Rattle.tl_check_verdict.proofs.OneMap.{both, weaker}
 use Rattle.tl_check_verdict.proofs.Deciding.{not_sound_records}
 use Rattle.tl_list_text.specs.declared.listing.Listing.{Listing}
 use Rattle.tl_list_text.specs.declared.listing.Listing.TheVariants.{Sound, Refused, Faults}
-use Rattle.tl_list_text.specs.MapFaults.{AreFaultsFor}
-use Rattle.tl_list_text.specs.Listings.{AreRecordFaults, AreFaults, IsListingOf}
+use Rattle.tl_list.specs.MapFaults.{AreFaultsFor}
+use Rattle.tl_list.specs.Listings.{AreRecordFaults, AreFaults, IsListingOf}
 use Rattle.tl_list.specs.Telling.{IsTold, Tells, SaysSound, EachFault, IsTrueAmong, IsTrueAmongFaults}
 use Rattle.tl_list.proofs.Emptiness.{map_empty}
 use Rattle.tl_list.proofs.Lists.{held_map, some_first, none_first}

@@ -13,17 +13,17 @@ use Rattle.tl_check_inside.specs.declared.misplaced.Misplaced.{Misplaced}
 use Rattle.tl_check_inside.specs.declared.misplaced.Misplaced.TheVariants.{OnChain, Outside, InOther}
 use Rattle.tl_check_inside.specs.Placed.{ArePlaced, IsTrueMisplaced}
 use Rattle.tl_check_meets.specs.Meets.{AreAllMeets}
-use Rattle.tl_list_map.specs.Nodes.Disagreements.{AreAllDisagreements}
-use Rattle.tl_list_map.specs.Nodes.Touched.{IsTouched, AreAllTouched}
-use Rattle.tl_list_map.specs.Points.AllMisplaced.{AreAllMisplaced}
-use Rattle.tl_list_map.specs.Points.Hidden.{IsMarked, AreMapsAlikeBut}
-use Rattle.tl_list_map.proofs.PointsLemmas.Wholes.{true_at}
-use Rattle.tl_list_map.proofs.PointsLemmas.Alike.{alike_itself, hidden_as, misplaced_there}
+use Rattle.tl_list_nodes.specs.Disagreements.{AreAllDisagreements}
+use Rattle.tl_list_nodes.specs.Touched.{IsTouched, AreAllTouched}
+use Rattle.tl_list_points.specs.AllMisplaced.{AreAllMisplaced}
+use Rattle.tl_list_points.specs.Hidden.{IsMarked, AreMapsAlikeBut}
+use Rattle.tl_list_points.proofs.Wholes.{true_at}
+use Rattle.tl_list_points.proofs.Alike.{alike_itself, hidden_as, misplaced_there}
 use Rattle.tl_check_faces.specs.Crossings.Headings.{AreProper}
 use Rattle.tl_check_inside.specs.Suspects.{AreSuspects}
 use Rattle.tl_check_verdict.specs.declared.fault.MapFault.{MapFault}
 use Rattle.tl_check_verdict.specs.declared.fault.MapFault.TheVariants as fault
-use Rattle.tl_list_text.specs.MapFaults.{side_fault, AreMapFaults}
+use Rattle.tl_list.specs.MapFaults.{side_fault, AreMapFaults}
 use Rattle.tl_list.specs.Keeping.OfMap.{IsFaulty, AddsAgreement, AddsCells, AddsPoints}
 use Rattle.tl_list.proofs.Emptiness.{one_is_told, none_touched}
 

@@ -21,12 +21,12 @@ use Rattle.tl_check_sides.specs.declared.cells.at_odds.CellsAtOdds.{CellsAtOdds}
 use Rattle.tl_check_sides.proofs.CellsLemmas.Cells.{one_id}
 use Rattle.tl_check_inside.specs.declared.misplaced.Misplaced.{Misplaced}
 use Rattle.tl_check_meets.specs.Meets.{AreAllMeets}
-use Rattle.tl_list_map.specs.Nodes.Disagreements.{HaveSidesAtOdds, AreAllDisagreements}
-use Rattle.tl_list_map.specs.Nodes.CellOdds.{AreToldAtOdds, AreAllCellsAtOdds}
-use Rattle.tl_list_map.proofs.NodesLemmas.Agreeing.{at_odds}
-use Rattle.tl_list_map.specs.Points.AllMisplaced.{AreAllMisplaced}
-use Rattle.tl_list_map.specs.Nodes.Touched.{IsTouched, AreAllTouched}
-use Rattle.tl_list_map.proofs.PointsLemmas.Unique.{one_list}
+use Rattle.tl_list_nodes.specs.Disagreements.{HaveSidesAtOdds, AreAllDisagreements}
+use Rattle.tl_list_nodes.specs.CellOdds.{AreToldAtOdds, AreAllCellsAtOdds}
+use Rattle.tl_list_nodes.proofs.Agreeing.{at_odds}
+use Rattle.tl_list_points.specs.AllMisplaced.{AreAllMisplaced}
+use Rattle.tl_list_nodes.specs.Touched.{IsTouched, AreAllTouched}
+use Rattle.tl_list_points.proofs.Unique.{one_list}
 use Rattle.tl_check_verdict.specs.declared.fault.MapFault.{MapFault}
 use Rattle.tl_check_verdict.specs.declared.fault.MapFault.TheVariants as fault
 use Rattle.tl_check_verdict.specs.declared.verdict.Report.{Report}
@@ -36,8 +36,8 @@ use Rattle.tl_check_verdict.specs.Records.{HaveMap}
 use Rattle.tl_check_verdict.proofs.OneMap.{both}
 use Rattle.tl_list_text.specs.declared.listing.Listing.{Listing}
 use Rattle.tl_list_text.specs.declared.listing.Listing.TheVariants.{Sound, Refused, Faults}
-use Rattle.tl_list_text.specs.MapFaults.{side_fault, AreMapFaults, AreFacesTold, AreFaultsFor}
-use Rattle.tl_list_text.specs.Listings.{AreFaults, IsListingOf}
+use Rattle.tl_list.specs.MapFaults.{side_fault, AreMapFaults, AreFacesTold, AreFaultsFor}
+use Rattle.tl_list.specs.Listings.{AreFaults, IsListingOf}
 use Rattle.tl_list.specs.Alike.{IsSameFault, AreSameFaults, HaveSameNumbers, AreAlike}
 use Rattle.tl_list.proofs.OneOrder.{AreOne, AreInOne, one_order}
 use Rattle.tl_list.proofs.Listed.{none_is_refused, sound_alone, no_map}
@@ -47,10 +47,10 @@ use Rattle.tl_check_faces.specs.declared.odd.OddGap.{OddGap}
 use Rattle.tl_check_faces.specs.declared.fault.FaceFault.{FaceFault}
 use Rattle.tl_check_faces.specs.Odd.{IsOddGap, IsLowestOddGap}
 use Rattle.tl_check_faces.specs.Faults.{IsOfGap}
-use Rattle.tl_check_sweep.specs.Gaps.{order_of, AreAllOddGaps}
-use Rattle.tl_check_sweep.proofs.Keeping.{one_by_order}
-use Rattle.tl_check_sweep.proofs.Lowest.{at_odds as odd_sides, all_lowest}
-use Rattle.tl_check_sweep.proofs.FaceSearch.Exact.{one_fault}
+use Rattle.tl_check_gaps.specs.Gaps.{order_of, AreAllOddGaps}
+use Rattle.tl_check_gaps.proofs.Keeping.{one_by_order}
+use Rattle.tl_check_gaps.proofs.Lowest.{at_odds as odd_sides, all_lowest}
+use Rattle.tl_check_face_faults.proofs.Exact.{one_fault}
 use Rattle.std.specs.List.{AllZip}
 
 -- ---- lists of the same faults

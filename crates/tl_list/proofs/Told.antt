@@ -9,18 +9,18 @@ use Rattle.tl_check_sides.specs.declared.fault.Disagreement.{Disagreement}
 use Rattle.tl_check_inside.specs.declared.misplaced.Misplaced.{Misplaced}
 use Rattle.tl_check_inside.specs.declared.misplaced.Misplaced.TheVariants.{OnChain, Outside, InOther}
 use Rattle.tl_check_sides.specs.declared.cells.at_odds.CellsAtOdds.{CellsAtOdds}
-use Rattle.tl_list_map.specs.Nodes.Touched.{IsTouched}
-use Rattle.tl_list_map.specs.Points.AllMisplaced.{FaultPlace, IsTrueAt, IsSettled}
-use Rattle.tl_list_map.proofs.PointsLemmas.Wholes.{place_of}
-use Rattle.tl_list_map.specs.Nodes.CellOdds.{AreAllCellsAtOdds}
-use Rattle.tl_list_map.proofs.NodesLemmas.Emptiness.{cells_agree}
+use Rattle.tl_list_nodes.specs.Touched.{IsTouched}
+use Rattle.tl_list_points.specs.AllMisplaced.{FaultPlace, IsTrueAt, IsSettled}
+use Rattle.tl_list_points.proofs.Wholes.{place_of}
+use Rattle.tl_list_nodes.specs.CellOdds.{AreAllCellsAtOdds}
+use Rattle.tl_list_nodes.proofs.Emptiness.{cells_agree}
 use Rattle.tl_check_verdict.specs.declared.fault.MapFault.{MapFault}
 use Rattle.tl_check_verdict.specs.declared.fault.MapFault.TheVariants as fault
 use Rattle.tl_check_verdict.specs.Truth.{IsTrueOfMap}
 use Rattle.tl_check_faces.specs.declared.fault.FaceFault.{FaceFault}
 use Rattle.tl_check_faces.specs.Faults.{IsTrueFaceFault}
-use Rattle.tl_check_sweep.proofs.FaceSearch.Exact.{told as of_all_gaps}
-use Rattle.tl_list_text.specs.MapFaults.{side_fault, AreMapFaults, AreLookedAt, AreFacesTold, AreFaultsFor}
+use Rattle.tl_check_face_faults.proofs.Exact.{told as of_all_gaps}
+use Rattle.tl_list.specs.MapFaults.{side_fault, AreMapFaults, AreLookedAt, AreFacesTold, AreFaultsFor}
 use Rattle.tl_list.specs.Telling.{IsMeetOf, IsOfSides, IsOfCells, HangsOnSides, IsTold, IsTrueAmong}
 use Rattle.tl_list.proofs.Emptiness.{odds_deny}
 use Rattle.tl_list.proofs.Lists.{held_map, named_by, some_first, contains_or}

@@ -7,15 +7,15 @@ use Rattle.tl_geom.specs.declared.point.Point.{Point}
 use Rattle.tl_map_county.specs.TheMap.{TheMap, MapChain}
 use Rattle.tl_map_county.specs.Darts.{dart_start}
 use Rattle.tl_check_sides.specs.declared.fault.Disagreement.{Disagreement}
-use Rattle.tl_list_map.specs.Nodes.Disagreements.{HaveSidesAtOdds}
-use Rattle.tl_list_map.proofs.NodesLemmas.Agreeing.{at_odds}
+use Rattle.tl_list_nodes.specs.Disagreements.{HaveSidesAtOdds}
+use Rattle.tl_list_nodes.proofs.Agreeing.{at_odds}
 use Rattle.tl_check_verdict.specs.declared.fault.MapFault.{MapFault}
 use Rattle.tl_check_verdict.specs.declared.fault.MapFault.TheVariants as fault
 use Rattle.tl_check_verdict.specs.Truth.{IsTrueOfMap}
 use Rattle.tl_check_verdict.specs.Sound.{IsSoundFor}
 use Rattle.tl_check_verdict.proofs.Denials.{not_sound_alone}
 use Rattle.tl_check_faces.specs.declared.fault.FaceFault.{FaceFault}
-use Rattle.tl_list_text.specs.MapFaults.{nowhere, start_of, side_fault, AreMapFaults, AreFacesTold, AreFaultsFor}
+use Rattle.tl_list.specs.MapFaults.{nowhere, start_of, side_fault, AreMapFaults, AreFacesTold, AreFaultsFor}
 use Rattle.tl_list.specs.Telling.{IsTrueAmong}
 
 -- a dart that starts somewhere starts at the point that is told

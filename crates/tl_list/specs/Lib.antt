@@ -1,3 +1,5 @@
+pub mod MapFaults
+pub mod Listings
 pub mod Telling
 pub mod Alike
 pub mod Findings

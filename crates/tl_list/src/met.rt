@@ -3,9 +3,9 @@
 ghost use Rattle.std.specs.Prelude.{◌≢◌, ◌↔◌, ℕ, [], IfOk, OnOk, Contains};
 ghost use Rattle.tl_check_meets.specs.Meets.{AreAllMeets};
 ghost use Rattle.tl_check_sweep.specs.Parts.{IsPlanarPart};
-ghost use Rattle.tl_list_map.specs.Nodes.Disagreements.{AreAllDisagreements};
-ghost use Rattle.tl_list_map.specs.Nodes.Touched.{AreAllTouched};
-ghost use Rattle.tl_list_map.specs.Points.Hidden.{IsMarked, AreMapsAlikeBut};
+ghost use Rattle.tl_list_nodes.specs.Disagreements.{AreAllDisagreements};
+ghost use Rattle.tl_list_nodes.specs.Touched.{AreAllTouched};
+ghost use Rattle.tl_list_points.specs.Hidden.{IsMarked, AreMapsAlikeBut};
 ghost use Rattle.tl_list.specs.Keeping.OfMap.{IsListingOfMap, AddsRest};
 
 use crate::parts::{push_all_cells, push_suspects};
@@ -15,7 +15,7 @@ use tl_check_planar::Meet;
 use tl_check_sides::Disagreement;
 use tl_check_sweep::PlanarPart;
 use tl_check_verdict::MapFault;
-use tl_list_map::points::suspects_by_part;
+use tl_list_points::suspects_by_part;
 use tl_list_text::Listing;
 use tl_map_county::Map;
 use tl_tree_index::Memory;

@@ -4,7 +4,7 @@ ghost use Rattle.std.specs.Prelude.{◌≡◌, List, true, None, Some, IfOk, IfE
 ghost use Rattle.tl_record.specs.Records.{Records as AllRecords};
 ghost use Rattle.tl_record.specs.declared.record.Record.{Record};
 ghost use Rattle.tl_list_records.specs.Kept.{KeepsRecords};
-ghost use Rattle.tl_list_text.specs.Listings.{IsListingOf};
+ghost use Rattle.tl_list.specs.Listings.{IsListingOf};
 ghost use Rattle.tl_cert_output.specs.Stops.{StopsFor, TellsDevice};
 ghost use Rattle.tl_list.specs.Findings.{IsFoundIn};
 ghost use Rattle.tl_list.specs.Keeping.Reading.{Keeps, AreWhole};

@@ -9,8 +9,8 @@ use crate::parts::{push_all_cells, push_disagreements, push_suspects, push_untou
 use std::alloc::Global;
 use tl_build_propose::{find_sides_at_odds, propose_walks};
 use tl_check_verdict::{MapFault, report};
-use tl_list_map::nodes::laws::cells_agree_where_no_pair_is_listed;
-use tl_list_map::points::laws::placed_where_no_fault_is_listed;
+use tl_list_nodes::laws::cells_agree_where_no_pair_is_listed;
+use tl_list_points::laws::placed_where_no_fault_is_listed;
 use tl_list_text::Listing;
 use tl_map_county::Map;
 use tl_tree_index::Memory;

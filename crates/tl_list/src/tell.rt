@@ -1,8 +1,8 @@
 //! Faults of a map, told one kind behind the other.
 
 ghost use Rattle.std.specs.Prelude.{◌≡◌, ◌∷◌, [], ◌++◌, OnOk, map};
-ghost use Rattle.tl_list_map.specs.Nodes.Disagreements.{AreAllDisagreements};
-ghost use Rattle.tl_list_text.specs.MapFaults.{side_fault};
+ghost use Rattle.tl_list_nodes.specs.Disagreements.{AreAllDisagreements};
+ghost use Rattle.tl_list.specs.MapFaults.{side_fault};
 
 use tl_check_faces::FaceFault;
 use tl_check_inside::Misplaced;

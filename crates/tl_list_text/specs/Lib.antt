@@ -1,4 +1,2 @@
 -- What the contracts of listings cite.
 pub mod Texts
-pub mod MapFaults
-pub mod Listings

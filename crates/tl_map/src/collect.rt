@@ -43,6 +43,7 @@ impl Collected {
     }
 
     /// Keeps one more record.
+    #[inline(always)]
     pub fn add(&mut self, next: &Record) -> Result<(), AllocError>
         ensures { (rs : List Record) → Collects rs self.old → OnOk result (Collects (rs ++ next.now ∷ []) self.new) }
     {

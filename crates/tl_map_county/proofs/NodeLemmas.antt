@@ -1,4 +1,4 @@
-use Rattle.std.proofs.Common.{◌≡◌, ◌≢◌, ℕ, zero, suc, ◌+◌, ◌*◌, ◌/◌, ◌<◌, ◌⊎◌, pos, ◌↔◌, Bool, true, false, inl, inr, Option, Some, None, List, [], ◌∷◌, ◌++◌, length, map, get_or, Contains, refl, sym, ap, ◌∙◌, arith}
+use Rattle.std.proofs.Common.{◌≡◌, ◌≢◌, ℕ, zero, suc, ◌+◌, ◌*◌, ◌/◌, ◌%◌, ◌<◌, ◌⊎◌, pos, ◌↔◌, Bool, true, false, inl, inr, Option, Some, None, List, [], ◌∷◌, ◌++◌, length, map, get_or, Contains, refl, sym, ap, ◌∙◌, arith}
 use Rattle.std.specs.Prelude.{slice_get}
 use Rattle.std.specs.Cmp.{IsTotalOrder}
 use Rattle.std.specs.List.{AllPairs}
@@ -7,7 +7,7 @@ use Rattle.std.specs.Option.{option_and_then}
 use Rattle.std.specs.Ordering.{int_cmp, is_lt, ordering_reverse, ordering_then}
 use Rattle.std.specs.declared.cmp.Ordering.{Ordering}
 use Rattle.std.specs.declared.cmp.Ordering.TheVariants.{Less, Equal, Greater}
-use Rattle.std.proofs.lemmas.Bool.{cases_lt}
+use Rattle.std.proofs.lemmas.Bool.{cases_lt, eqb-true, eqb-false}
 use Rattle.std.proofs.lemmas.Option.{slice_get_within, slice_get-get_or, get_or_from_slice_get}
 use Rattle.std.proofs.lemmas.Cmp.{tied_itself, then_total, on_total, int_cmp_total}
 use Rattle.std.proofs.lemmas.List.{get_or-map, length-map, length_push}
@@ -133,6 +133,19 @@ pub start_told : (cs : List CompleteChain) (i : ℕ) (b : Bool) (ps : List Point
 start_told [] i b ps p points at = absurd (let e : None ≡ Some ps = points in cc)
 start_told (c ∷ cs) zero b ps p points at = let e : c.points ≡ ps = cc in rw e at
 start_told (c ∷ cs) (suc i) b ps p points at = start_told cs i b ps p points at
+
+-- where the darts of a chain start, by its points
+pub starts_told : (cs : List CompleteChain) (n : ℕ) (ps : List Point) (p q : Point) → slice_get (map (λ (c : CompleteChain). c.points) cs) n ≡ Some ps →
+    slice_get (directed true ps) 0 ≡ Some p → slice_get (directed false ps) 0 ≡ Some q → (start_in cs (2 * n) ≡ Some p) × (start_in cs (2 * n + 1) ≡ Some q)
+starts_told cs n ps p q points first last = (along (is_along (2 * n)) refl, against (is_along (2 * n + 1)) refl)
+  where
+    along : (b : Bool) → is_along (2 * n) ≡ b → start_in cs (2 * n) ≡ Some p
+    along true e = let half : (2 * n) / 2 ≡ n = omega arith in rw (half, e) (start_told cs n true ps p points first)
+    along false e = absurd (eqb-false ((2 * n) % 2) 0 e (omega arith))
+
+    against : (b : Bool) → is_along (2 * n + 1) ≡ b → start_in cs (2 * n + 1) ≡ Some q
+    against true e = let even : (2 * n + 1) % 2 ≡ 0 = eqb-true ((2 * n + 1) % 2) 0 e in absurd (omega (arith, even))
+    against false e = let half : (2 * n + 1) / 2 ≡ n = omega arith in rw (half, e) (start_told cs n false ps q points last)
 
 -- a dart that starts somewhere is one of the chains'
 pub start_within : (cs : List CompleteChain) (d : ℕ) (p : Point) → start_in cs d ≡ Some p → d < 2 * length cs

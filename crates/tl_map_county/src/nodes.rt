@@ -47,9 +47,16 @@ fn dart_starts(alloc: Global, chains: &Chains) -> Result<Vec<DartStart>, AllocEr
 {
     let darts = chains.darts();
     let mut starts = Vec::with_capacity(alloc, darts as usize)?;
-    for dart in 0..darts {
-        let point = point_along(chains.points(dart / 2), dart % 2 == 0, 0);
-        starts.push(DartStart { point, dart })?;
+    for c in 0..chains.len() {
+        let points = chains.points(c);
+        let dart = 2 * c;
+        let first = point_along(points, true, 0);
+        starts.push(DartStart { point: first, dart })?;
+        let last = point_along(points, false, 0);
+        starts.push(DartStart {
+            point: last,
+            dart: dart + 1,
+        })?;
     }
     Ok(starts)
 }

@@ -261,6 +261,7 @@ impl<R: Source> RecordReader<R> {
     ///
     /// It answers as [`RecordReader::next_record`] does, and moves no record. Where none is answered `place` stays as it
     /// is.
+    #[inline(always)]
     pub fn read_next(&mut self, place: &mut Record) -> Result<Option<u64>, ReadStop>
         ensures gives { Gives (outcome R.remaining self.old) (outcome R.remaining self.new) (skipped_of self.new)
             (answer_with result place.new) }

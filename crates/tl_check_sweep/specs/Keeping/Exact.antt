@@ -7,11 +7,11 @@ use Rattle.tl_tree_index.specs.Hits.{times}
 use Rattle.tl_check_planar.specs.ByHeight.Heights.{height, low_end, high_end, turn_to, widest}
 use Rattle.tl_check_planar.specs.ByHeight.Neighbours.{IsNumbered, IsWestOf, AreApartOrAtEnds}
 use Rattle.tl_check_planar.specs.ByHeight.Slabs.{IsListOf}
-use Rattle.tl_check_active.specs.Lined.{TheLine, last_of}
+use Rattle.tl_check_blocks.specs.Lined.{TheLine, last_of}
 use Rattle.tl_check_active.specs.Ranges.{IsInRange, AreInRange}
 use Rattle.tl_check_planar.specs.declared.meet.Meet.{Meet}
 use Rattle.tl_check_faces.specs.Crossings.Headings.{AreProper}
-use Rattle.tl_check_sweep.specs.Beside.{IsEastOf}
+use Rattle.tl_check_gaps.specs.Beside.{IsEastOf}
 use Rattle.tl_check_sweep.specs.declared.sweeping.Passage.{Passage}
 use Rattle.tl_check_sweep.specs.declared.sweeping.Passage.TheVariants as passage
 
@@ -55,11 +55,7 @@ pub record IsBefore (chains : List MapChain) (p : Point) (list outs ins : List �
   pub on : All (BeginsAt chains p) ins
   pub on_once : (s : ℕ) → 0 < times s ins → times s ins ≡ 1
 
--- a meet that was found, or that none was
+-- a meet that was found where a vertex wasn't passed, or that none was
 abbrev pub or_failed : Option Meet → Passage
 or_failed None = passage.Failed
 or_failed (Some meet) = passage.Meet meet
-
-abbrev pub or_passed : Option Meet → Passage
-or_passed None = passage.Passed
-or_passed (Some meet) = passage.Meet meet

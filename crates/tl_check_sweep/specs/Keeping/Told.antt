@@ -5,9 +5,9 @@ use Rattle.tl_check_planar.specs.Searching.{IsTrueMeet}
 use Rattle.tl_check_inside.specs.Placed.{ArePlaced}
 use Rattle.tl_check_sweep.specs.declared.answer.Swept.{Swept}
 use Rattle.tl_check_sweep.specs.declared.answer.Told.{Told}
-use Rattle.tl_check_sweep.specs.declared.watch.Gaps.{Gaps}
-use Rattle.tl_check_sweep.specs.Keeping.Spotted.{AreTrueMarks}
-use Rattle.tl_check_sweep.specs.Keeping.Watched.{AreTrueGaps}
+use Rattle.tl_check_gaps.specs.declared.watch.Gaps.{Gaps}
+use Rattle.tl_check_gaps.specs.Keeping.Spotted.{AreTrueMarks}
+use Rattle.tl_check_gaps.specs.Keeping.Watched.{AreTrueGaps}
 use Rattle.tl_check_sweep.specs.declared.answer.Swept.TheVariants.{Placed, Planar, Meet}
 
 -- what the answer says is so

@@ -8,10 +8,10 @@ use Rattle.tl_check_sides.specs.declared.cells.at_odds.CellsAtOdds.{CellsAtOdds}
 use Rattle.tl_check_inside.specs.declared.misplaced.Misplaced.{Misplaced}
 use Rattle.tl_check_faces.specs.declared.fault.FaceFault.{FaceFault}
 use Rattle.tl_check_faces.specs.Facing.{FacesAgree}
-use Rattle.tl_list_map.specs.Nodes.Disagreements.{AreAllDisagreements}
-use Rattle.tl_list_map.specs.Nodes.Touched.{AreAllTouched}
-use Rattle.tl_list_map.specs.Nodes.CellOdds.{AreAllCellsAtOdds}
-use Rattle.tl_list_map.specs.Points.AllMisplaced.{AreAllMisplaced}
+use Rattle.tl_list_nodes.specs.Disagreements.{AreAllDisagreements}
+use Rattle.tl_list_nodes.specs.Touched.{AreAllTouched}
+use Rattle.tl_list_nodes.specs.CellOdds.{AreAllCellsAtOdds}
+use Rattle.tl_list_points.specs.AllMisplaced.{AreAllMisplaced}
 use Rattle.tl_check_verdict.specs.declared.fault.MapFault.{MapFault}
 use Rattle.tl_check_verdict.specs.declared.fault.MapFault.TheVariants as fault
 use Rattle.tl_check_verdict.specs.Sound.{IsSound, IsSoundFor}
@@ -19,7 +19,7 @@ use Rattle.tl_check_verdict.specs.Truth.{IsTrueOfMap}
 use Rattle.tl_check_verdict.specs.Verdicts.{IsReport}
 use Rattle.tl_list_text.specs.declared.listing.Listing.{Listing}
 use Rattle.tl_list_text.specs.declared.listing.Listing.TheVariants.{Sound, Refused, Faults}
-use Rattle.tl_list_text.specs.MapFaults.{side_fault, AreMapFaults, AreFaceFaults, AreFaultsFor}
+use Rattle.tl_list.specs.MapFaults.{side_fault, AreMapFaults, AreFaceFaults, AreFaultsFor}
 
 -- the map is sound, and these are its numbers; or these are all its faults but those of faces, and there is one
 abbrev pub IsListingOfMap : TheMap → Listing → Type 0

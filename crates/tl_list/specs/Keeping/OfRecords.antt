@@ -14,7 +14,7 @@ use Rattle.tl_check_verdict.specs.Verdicts.{IsReport}
 use Rattle.tl_check_verdict.specs.Records.{HaveMap}
 use Rattle.tl_list_text.specs.declared.listing.Listing.{Listing}
 use Rattle.tl_list_text.specs.declared.listing.Listing.TheVariants.{Sound, Refused, Faults}
-use Rattle.tl_list_text.specs.Listings.{AreFaults}
+use Rattle.tl_list.specs.Listings.{AreFaults}
 use Rattle.tl_record.specs.declared.record.Record.{Record}
 use Rattle.tl_list_records.specs.AllFaults.{AreAllFaults}
 use Rattle.tl_check_verdict.specs.declared.verdict.Report.{Report}

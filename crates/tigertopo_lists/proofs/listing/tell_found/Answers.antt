@@ -1,6 +1,6 @@
 use Rattle.std.proofs.Common.{[], map, string_bytes, subst}
 use Rattle.std.proofs.lemmas.Option.{IfSome_then}
-use Rattle.tl_list_text.specs.Listings.{IsListingOf}
+use Rattle.tl_list.specs.Listings.{IsListingOf}
 use Rattle.tl_list_text.specs.declared.listing.Listing.{Listing}
 use Rattle.tl_list.specs.Findings.{IsLeft}
 use Rattle.tigertopo_files.specs.World.{world}

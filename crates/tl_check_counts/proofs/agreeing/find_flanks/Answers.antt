@@ -1,4 +1,4 @@
-use Rattle.tl_check_sweep.proofs.Odd.{both_named}
+use Rattle.tl_check_gaps.proofs.Odd.{both_named}
 use Rattle.tl_check_counts.proofs.Naming.{west_among, east_among}
 use Rattle.tl_check_counts.proofs.agreeing.find_flanks.Goals as goal
 

@@ -1,7 +1,7 @@
 use Rattle.std.proofs.Common.{refl, subst}
 use Rattle.std.proofs.lemmas.List.{take_all}
 use Rattle.tl_check_inside.specs.Keeping.Tallies.{flanks_in}
-use Rattle.tl_check_sweep.specs.Keeping.Facing.{raised}
+use Rattle.tl_check_gaps.specs.Keeping.Facing.{raised}
 use Rattle.tl_check_counts.specs.Keeping.Balances.{LeadsTo}
 use Rattle.tl_check_counts.proofs.Balances.{leads_more}
 use Rattle.tl_check_counts.proofs.agreeing.walk.Goals as goal

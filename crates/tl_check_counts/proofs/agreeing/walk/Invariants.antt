@@ -1,6 +1,6 @@
 use Rattle.std.proofs.Common.{take}
 use Rattle.tl_check_inside.specs.Keeping.Tallies.{flanks_in}
-use Rattle.tl_check_sweep.specs.Keeping.Facing.{raised}
+use Rattle.tl_check_gaps.specs.Keeping.Facing.{raised}
 use Rattle.tl_check_counts.specs.Keeping.Balances.{LeadsTo}
 use Rattle.tl_check_counts.proofs.agreeing.walk.Given as goal
 

@@ -1,6 +1,6 @@
 use Rattle.std.proofs.Common.{◌<◌, length, All, refl, sym, subst}
 use Rattle.tl_check_active.proofs.Wide.{wide_by_range}
-use Rattle.tl_check_sweep.specs.Keeping.Facing.{raised}
+use Rattle.tl_check_gaps.specs.Keeping.Facing.{raised}
 use Rattle.std.proofs.lemmas.List.Elements.{All-push}
 use Rattle.std.proofs.lemmas.Option.{slice_get-get_or}
 use Rattle.tl_check_counts.specs.Keeping.Labels.{AreLabelled}

@@ -1,10 +1,10 @@
 use Rattle.std.proofs.Common.{◌≡◌, to_z, of_z, w64, sym, ◌∙◌, arith}
 use Rattle.std.proofs.lemmas.Int.{ints}
-use Rattle.tl_check_active.specs.Lined.{list_of}
+use Rattle.tl_check_blocks.specs.Lined.{list_of}
 use Rattle.tl_check_active.specs.Events.{before, joined}
 use Rattle.tl_check_active.specs.Ranges.{IsInRange}
 use Rattle.tl_check_planar.specs.ByHeight.Heights.{widest}
-use Rattle.tl_check_sweep.proofs.Spotting.{east_of_last, west_of_first}
+use Rattle.tl_check_gaps.proofs.Spotting.{east_of_last, west_of_first}
 use Rattle.tl_check_counts.proofs.Seen.{no_vertex_at, between_at}
 use Rattle.tl_check_counts.proofs.looking.stands_between.Goals as goal
 

@@ -1,4 +1,4 @@
-use Rattle.tl_check_active.specs.Lined.{list_of}
+use Rattle.tl_check_blocks.specs.Lined.{list_of}
 use Rattle.tl_check_counts.proofs.Passed.{passed_from}
 use Rattle.tl_check_counts.proofs.passing.pass.Goals as goal
 

@@ -1,10 +1,10 @@
 use Rattle.std.proofs.Common.{◌++◌, length, sym, subst, ap, ◌∙◌}
-use Rattle.tl_check_active.specs.Lined.{list_of}
+use Rattle.tl_check_blocks.specs.Lined.{list_of}
 use Rattle.tl_check_active.specs.Events.{before, joined}
-use Rattle.tl_check_sweep.specs.Keeping.Facing.{raised}
-use Rattle.tl_check_sweep.specs.Keeping.Swept.{IsSwept}
-use Rattle.tl_check_sweep.proofs.Slab.{begins}
-use Rattle.tl_check_sweep.proofs.Gone.{gone_on}
+use Rattle.tl_check_gaps.specs.Keeping.Facing.{raised}
+use Rattle.tl_check_gaps.specs.Keeping.Swept.{IsSwept}
+use Rattle.tl_check_gaps.proofs.Slab.{begins}
+use Rattle.tl_check_gaps.proofs.Gone.{gone_on}
 use Rattle.tl_check_counts.specs.Keeping.Labels.{AreLabelled}
 use Rattle.tl_check_counts.proofs.Passed.{moved}
 use Rattle.tl_check_counts.proofs.Visiting.{once_swept, no_visits, visits_kept, none_labelled}

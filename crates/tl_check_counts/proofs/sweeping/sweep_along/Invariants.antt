@@ -1,8 +1,8 @@
 use Rattle.std.proofs.Common.{◌-◌, All, length}
-use Rattle.tl_check_active.specs.Lined.{list_of}
+use Rattle.tl_check_blocks.specs.Lined.{list_of}
 use Rattle.tl_check_active.specs.Events.{before, joined}
-use Rattle.tl_check_sweep.specs.Keeping.Facing.{raised}
-use Rattle.tl_check_sweep.specs.Keeping.Swept.{IsSwept}
+use Rattle.tl_check_gaps.specs.Keeping.Facing.{raised}
+use Rattle.tl_check_gaps.specs.Keeping.Swept.{IsSwept}
 use Rattle.tl_check_counts.specs.Keeping.Labels.{AreLabelled}
 use Rattle.tl_check_counts.specs.Keeping.Visits.{IsVisit}
 use Rattle.tl_check_counts.proofs.sweeping.sweep_along.Given as goal

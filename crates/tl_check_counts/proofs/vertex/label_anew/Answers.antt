@@ -1,6 +1,6 @@
 use Rattle.std.proofs.Common.{◌≡◌, ◌++◌, length, append_assoc, sym, ap, subst, ◌∙◌}
-use Rattle.tl_check_active.specs.Lined.{list_of}
-use Rattle.tl_check_sweep.specs.Keeping.Facing.{raised}
+use Rattle.tl_check_blocks.specs.Lined.{list_of}
+use Rattle.tl_check_gaps.specs.Keeping.Facing.{raised}
 use Rattle.tl_check_inside.specs.Keeping.Tallies.{flanks_in}
 use Rattle.tl_check_counts.specs.Keeping.Ways.{TellGap}
 use Rattle.tl_check_counts.specs.Keeping.Labels.{AreLabelled, IsOnce}

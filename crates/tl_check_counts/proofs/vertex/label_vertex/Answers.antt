@@ -1,7 +1,7 @@
 use Rattle.std.proofs.Common.{◌≡◌, ◌∷◌, [], ◌++◌, get_or, length, append_assoc, sym, ap, subst, ◌∙◌, arith}
-use Rattle.tl_check_active.specs.Lined.{list_of}
+use Rattle.tl_check_blocks.specs.Lined.{list_of}
 use Rattle.tl_check_active.proofs.Lining.{single}
-use Rattle.tl_check_sweep.specs.Keeping.Facing.{raised}
+use Rattle.tl_check_gaps.specs.Keeping.Facing.{raised}
 use Rattle.tl_check_counts.specs.Keeping.Labels.{AreLabelled, IsOnce}
 use Rattle.tl_check_counts.proofs.Entering.{handed_on}
 use Rattle.tl_check_counts.proofs.vertex.label_vertex.Goals as goal

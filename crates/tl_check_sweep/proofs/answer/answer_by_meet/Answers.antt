@@ -1,5 +1,5 @@
 use Rattle.tl_check_planar.proofs.Planes.{meet_not_planar}
-use Rattle.tl_check_sweep.proofs.Unmarked.{none_marked}
+use Rattle.tl_check_gaps.proofs.Unmarked.{none_marked}
 use Rattle.tl_check_sweep.proofs.answer.answer_by_meet.Goals as goal
 
 pub returns : goal.returns

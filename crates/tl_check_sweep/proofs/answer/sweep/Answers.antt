@@ -1,5 +1,5 @@
 use Rattle.std.proofs.Common.{sym, subst}
-use Rattle.tl_check_sweep.specs.Keeping.Spotted.{AreTrueMarks}
+use Rattle.tl_check_gaps.specs.Keeping.Spotted.{AreTrueMarks}
 use Rattle.tl_check_sweep.proofs.Deciding.{exactly}
 use Rattle.tl_check_sweep.proofs.answer.sweep.Goals as goal
 

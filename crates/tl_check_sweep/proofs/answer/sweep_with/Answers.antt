@@ -2,7 +2,7 @@ use Rattle.std.proofs.Common.{◌≡◌, false, true, subst, ◌∙◌}
 use Rattle.std.specs.Prelude.{slice_index_or}
 use Rattle.tl_check_planar.specs.ByHeight.Heights.{widest}
 use Rattle.tl_check_planar.proofs.ByHeight.Planarity.{planar}
-use Rattle.tl_check_sweep.specs.Keeping.Watched.{AreTrueGaps}
+use Rattle.tl_check_gaps.specs.Keeping.Watched.{AreTrueGaps}
 use Rattle.tl_check_sweep.proofs.Answered.{all_near}
 use Rattle.tl_check_sweep.proofs.answer.sweep_with.Goals as goal
 

@@ -4,8 +4,8 @@ use Rattle.tl_check_planar.proofs.Numbering.{below_total}
 use Rattle.tl_check_planar.specs.ByHeight.Heights.{widest}
 use Rattle.tl_check_active.proofs.Listing.{own}
 use Rattle.tl_check_active.proofs.Tests.{lt_test}
-use Rattle.tl_check_sweep.proofs.Spotting.{east_by, not_east_by}
-use Rattle.tl_check_sweep.proofs.Turning.{not_lt_test}
+use Rattle.tl_check_gaps.proofs.Spotting.{east_by, not_east_by}
+use Rattle.tl_check_gaps.proofs.Turning.{not_lt_test}
 use Rattle.tl_check_sweep.proofs.exact.lies_east.Goals as goal
 
 pub returns-clause-east : goal.returns-clause-east

@@ -3,14 +3,14 @@ use Rattle.std.specs.Prelude.{slice_get, All}
 use Rattle.tl_tree_index.specs.Hits.{times}
 use Rattle.tl_check_planar.specs.ByHeight.Heights.{widest}
 use Rattle.tl_check_planar.specs.ByHeight.Neighbours.{AreTested, EachTwo}
-use Rattle.tl_check_active.specs.Lined.{list_of, last_of}
+use Rattle.tl_check_blocks.specs.Lined.{list_of, last_of}
 use Rattle.tl_check_active.proofs.Lining.{joined}
 use Rattle.tl_check_sweep.specs.Keeping.Exact.{BeginsAt, MayFollow}
-use Rattle.tl_check_sweep.specs.Keeping.Facing.{IsCounted}
-use Rattle.tl_check_sweep.specs.Keeping.Passing.{IsRecounted}
+use Rattle.tl_check_gaps.specs.Keeping.Facing.{IsCounted}
+use Rattle.tl_check_gaps.specs.Keeping.Passing.{IsRecounted}
 use Rattle.tl_check_sweep.proofs.Exactly.{all_at, among, closes, few_of, first_follows, gone_are}
 use Rattle.tl_check_sweep.proofs.Putting.{none_by}
-use Rattle.tl_check_sweep.proofs.Whole.{passed, passed_from, list_is, after_is}
+use Rattle.tl_check_gaps.proofs.Whole.{passed, passed_from, list_is, after_is}
 use Rattle.tl_check_sweep.proofs.exact.pass_exactly.Goals as goal
 
 pub list_by_direction-requires : goal.list_by_direction-requires

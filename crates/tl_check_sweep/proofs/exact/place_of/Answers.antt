@@ -1,5 +1,5 @@
 use Rattle.std.proofs.Common.{◌≡◌, length, take, ap, ◌∙◌, arith}
-use Rattle.tl_check_active.specs.Lined.{last_of}
+use Rattle.tl_check_blocks.specs.Lined.{last_of}
 use Rattle.tl_check_sweep.proofs.Putting.{last_taken}
 use Rattle.tl_check_sweep.proofs.exact.place_of.Goals as goal
 

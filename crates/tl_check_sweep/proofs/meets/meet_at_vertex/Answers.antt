@@ -3,10 +3,10 @@ use Rattle.std.proofs.lemmas.List.{take_all}
 use Rattle.std.proofs.lemmas.List.Elements.{All-get_or}
 use Rattle.tl_check_active.specs.declared.events.Event.{Event}
 use Rattle.tl_check_active.specs.Events.{AreMet, joined, one_or_two}
-use Rattle.tl_check_sweep.specs.Keeping.Vertices.{AreInOrderUpTo, IsInOrderAt}
+use Rattle.tl_check_gaps.specs.Keeping.Vertices.{AreInOrderUpTo, IsInOrderAt}
 use Rattle.tl_check_active.proofs.Joining.{before_further, none_joined}
 use Rattle.tl_check_sweep.proofs.Pushing.{pushed_all, first_all, last_before_place}
-use Rattle.tl_check_sweep.proofs.Found.{vertices_tested, no_event}
+use Rattle.tl_check_gaps.proofs.Found.{vertices_tested, no_event}
 use Rattle.tl_check_sweep.proofs.meets.meet_at_vertex.Goals as goal
 
 pub returns-then-len-eq0-clause-none : goal.returns-then-len-eq0-clause-none

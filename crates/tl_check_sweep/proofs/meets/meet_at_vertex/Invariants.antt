@@ -1,6 +1,6 @@
 use Rattle.std.proofs.Common.{length, take}
 use Rattle.tl_check_active.specs.Events.{joined}
-use Rattle.tl_check_sweep.specs.Keeping.Vertices.{AreInOrderUpTo}
+use Rattle.tl_check_gaps.specs.Keeping.Vertices.{AreInOrderUpTo}
 use Rattle.tl_check_sweep.proofs.meets.meet_at_vertex.Given as goal
 
 abbrev pub invariant-loop-k : goal.invariant-loop-k

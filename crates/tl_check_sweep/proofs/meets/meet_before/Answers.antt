@@ -1,9 +1,9 @@
 use Rattle.std.proofs.Common.{◌-◌, [], get_or, sym, subst, arith}
 use Rattle.std.proofs.lemmas.Int.{ints}
 use Rattle.tl_check_active.specs.Events.{AreAt, IsEvent, before}
-use Rattle.tl_check_sweep.specs.Keeping.Vertices.{IsLast}
+use Rattle.tl_check_gaps.specs.Keeping.Vertices.{IsLast}
 use Rattle.tl_check_sweep.proofs.Pushing.{rises_before, in_order_apart, last_level, first_level, last_before_place, last_placed, next_placed}
-use Rattle.tl_check_sweep.proofs.Found.{no_event}
+use Rattle.tl_check_gaps.proofs.Found.{no_event}
 use Rattle.tl_check_sweep.proofs.meets.meet_before.Goals as goal
 
 pub meet_of_events-requires-clause-one : goal.meet_of_events-requires-clause-one

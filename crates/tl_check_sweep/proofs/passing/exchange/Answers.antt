@@ -1,6 +1,6 @@
 use Rattle.std.proofs.Common.{sym, subst}
-use Rattle.tl_check_sweep.specs.Keeping.Facing.{IsCounted}
-use Rattle.tl_check_sweep.proofs.Whole.{passed, list_is, after_is}
+use Rattle.tl_check_gaps.specs.Keeping.Facing.{IsCounted}
+use Rattle.tl_check_gaps.proofs.Whole.{passed, list_is, after_is}
 use Rattle.tl_check_sweep.proofs.passing.exchange.Goals as goal
 
 pub returns : goal.returns

@@ -1,15 +1,15 @@
 use Rattle.std.proofs.Common.{◌≡◌, IsTrue, length, ◌+◌, ◌++◌, sym, ap, ◌∙◌, arith}
 use Rattle.tl_map_county.specs.declared.sides.Side.{Side}
 use Rattle.tl_map_county.specs.declared.sides.Side.TheVariants.{Outside}
-use Rattle.tl_check_active.specs.Lined.{list_of}
-use Rattle.tl_check_active.proofs.Answered.{ok_more}
+use Rattle.tl_check_blocks.specs.Lined.{list_of}
+use Rattle.tl_check_blocks.proofs.Answered.{ok_more}
 use Rattle.tl_check_active.proofs.Lining.{single}
-use Rattle.tl_check_sweep.specs.Beside.{seen_side}
-use Rattle.tl_check_sweep.specs.Keeping.Facing.{gaps_between, last_far, raised}
-use Rattle.tl_check_sweep.specs.Keeping.Passing.{HasPassed}
-use Rattle.tl_check_sweep.proofs.Counts.{in_stead}
-use Rattle.tl_check_sweep.proofs.Odd.{nothing_more}
-use Rattle.tl_check_sweep.proofs.Whole.{passed, list_is, after_is}
+use Rattle.tl_check_gaps.specs.Beside.{seen_side}
+use Rattle.tl_check_gaps.specs.Keeping.Facing.{gaps_between, last_far, raised}
+use Rattle.tl_check_gaps.specs.Keeping.Passing.{HasPassed}
+use Rattle.tl_check_gaps.proofs.Counts.{in_stead}
+use Rattle.tl_check_gaps.proofs.Odd.{nothing_more}
+use Rattle.tl_check_gaps.proofs.Whole.{passed, list_is, after_is}
 use Rattle.tl_check_sweep.proofs.passing.exchange_or_bend.Goals as goal
 
 pub returns-then-are_alike : goal.returns-then-are_alike

@@ -1,7 +1,7 @@
 use Rattle.std.proofs.Common.{ap, ◌∙◌}
 use Rattle.tl_tree_index.specs.Hits.{times}
-use Rattle.tl_check_active.specs.Lined.{list_of}
-use Rattle.tl_check_sweep.proofs.Whole.{passed_from}
+use Rattle.tl_check_blocks.specs.Lined.{list_of}
+use Rattle.tl_check_gaps.proofs.Whole.{passed_from}
 use Rattle.tl_check_sweep.proofs.passing.pass.Goals as goal
 
 pub returns : goal.returns

@@ -1,9 +1,9 @@
 use Rattle.std.proofs.Common.{◌≡◌, ◌+◌, ◌++◌, refl, ap, sym, ◌∙◌}
 use Rattle.tl_map_county.specs.declared.sides.Side.TheVariants.{Outside}
-use Rattle.tl_check_active.proofs.Answered.{ok_more}
-use Rattle.tl_check_sweep.specs.Beside.{seen_side}
-use Rattle.tl_check_sweep.specs.Keeping.Facing.{gaps_between, last_far, raised}
-use Rattle.tl_check_sweep.proofs.Counts.{in_stead}
+use Rattle.tl_check_blocks.proofs.Answered.{ok_more}
+use Rattle.tl_check_gaps.specs.Beside.{seen_side}
+use Rattle.tl_check_gaps.specs.Keeping.Facing.{gaps_between, last_far, raised}
+use Rattle.tl_check_gaps.proofs.Counts.{in_stead}
 use Rattle.tl_check_sweep.proofs.passing.recount_about.Goals as goal
 
 pub returns : goal.returns

@@ -1,15 +1,17 @@
 use Rattle.std.proofs.Common.{refl, ap, sym, subst, ◌∙◌, arith}
 use Rattle.tl_check_planar.specs.Keeping.Apart.{one_found}
+use Rattle.tl_check_planar.specs.Searching.{IsTrueMeet}
 use Rattle.std.proofs.lemmas.Int.{ints}
-use Rattle.tl_check_active.specs.Lined.{list_of}
+use Rattle.tl_check_blocks.specs.Lined.{list_of}
 use Rattle.tl_check_active.specs.Ranges.{IsInRange}
 use Rattle.tl_check_active.specs.Events.{before, joined}
-use Rattle.tl_check_sweep.specs.Keeping.Facing.{IsCounted, gaps_of, raised}
-use Rattle.tl_check_sweep.specs.Keeping.Swept.{IsSwept}
-use Rattle.tl_check_sweep.specs.Keeping.Watched.{IsWatched}
-use Rattle.tl_check_sweep.proofs.Slab.{begins, ends}
+use Rattle.tl_check_gaps.specs.Keeping.Facing.{IsCounted, gaps_of, raised}
+use Rattle.tl_check_gaps.specs.Keeping.Swept.{IsSwept}
+use Rattle.tl_check_gaps.specs.Keeping.Watched.{IsWatched}
+use Rattle.tl_check_gaps.proofs.Slab.{begins, ends}
 use Rattle.tl_check_sweep.proofs.Arriving.{arrived}
-use Rattle.tl_check_sweep.proofs.Gone.{gone_on, all_before, risen}
+use Rattle.tl_check_gaps.proofs.Gone.{gone_on, all_before, risen}
+use Rattle.tl_check_sweep.proofs.Passages.{failed_meet}
 use Rattle.tl_check_sweep.proofs.Under.{begun, goes_on, ended}
 use Rattle.tl_check_sweep.proofs.sweeping.sweep_along.Goals as goal
 
@@ -35,7 +37,7 @@ loop-from-preserved c =
     let watched : IsWatched chains (joined c.args.events.now) (before c.loop-from.from c.args.events.now) (list_of c.look.new.line) c.loop-from.watch =
     subst (λ l. IsWatched chains (joined events) (before c.loop-from.from events) l c.loop-from.watch) stays c.loop-from.invariant.watched in
     let to = c.in_ok-to.ensures in
-    let passed = c.in_ok-step.ensures.passed c.in-Passed.is in
+    let passed = c.in_ok-is_passed.ensures.passed c.if-not-is_passed.false in
     let looked = passed.watched counted in
     let next = c.step.new.line in
     record {
@@ -64,8 +66,9 @@ step-requires c =
           c.in_ok-to.ensures c.point-p.result c.point-p.ensures c.loop-from.invariant.below range;
     }
 
-pub returns-in-Meet-clause-meet : goal.returns-in-Meet-clause-meet
-returns-in-Meet-clause-meet c = λ meet e. c.in_ok-step.ensures.meet meet (c.in-Meet.is ∙ e)
+pub returns-then-not-is_passed-clause-meet : goal.returns-then-not-is_passed-clause-meet
+returns-then-not-is_passed-clause-meet c = λ meet e.
+    failed_meet (IsTrueMeet c.args.map.now.chains) c.step.new.found (c.in_ok-is_passed.ensures.meet c.if-not-is_passed.true) meet (sym c.or_failed.ensures ∙ e)
 
 pub look-requires-clause-events : goal.look-requires-clause-events
 look-requires-clause-events c = c.requires.events

@@ -1,14 +1,14 @@
 use Rattle.std.proofs.Common.{◌≡◌, ◌-◌, ℕ, Bool, Option, List, length}
 use Rattle.tl_map_county.specs.TheMap.{TheMap}
 use Rattle.tl_check_active.specs.declared.events.Event.{Event}
-use Rattle.tl_check_active.specs.Lined.{list_of}
+use Rattle.tl_check_blocks.specs.Lined.{list_of}
 use Rattle.tl_check_active.specs.Events.{before, joined}
-use Rattle.tl_check_sweep.specs.declared.watch.Gaps.{Gaps}
-use Rattle.tl_check_sweep.specs.declared.watch.Watch.{Watch}
-use Rattle.tl_check_sweep.specs.Keeping.Facing.{IsCounted}
-use Rattle.tl_check_sweep.specs.Keeping.Spotted.{AreMarks}
-use Rattle.tl_check_sweep.specs.Keeping.Swept.{AreBelow, IsSwept}
-use Rattle.tl_check_sweep.specs.Keeping.Watched.{IsWatched}
+use Rattle.tl_check_gaps.specs.declared.watch.Gaps.{Gaps}
+use Rattle.tl_check_gaps.specs.declared.watch.Watch.{Watch}
+use Rattle.tl_check_gaps.specs.Keeping.Facing.{IsCounted}
+use Rattle.tl_check_gaps.specs.Keeping.Spotted.{AreMarks}
+use Rattle.tl_check_gaps.specs.Keeping.Swept.{AreBelow, IsSwept}
+use Rattle.tl_check_gaps.specs.Keeping.Watched.{IsWatched}
 use Rattle.tl_check_sweep.proofs.sweeping.sweep_along.Given as goal
 
 -- how far the sweep has come, that what comes next is higher, how often facing sides differ there, which points were found, and what is told of gaps

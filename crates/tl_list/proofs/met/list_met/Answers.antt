@@ -1,6 +1,6 @@
 use Rattle.std.proofs.Common.{◌≡◌, length, map, refl, ◌∙◌}
 use Rattle.tl_check_verdict.specs.declared.fault.MapFault.TheVariants as fault
-use Rattle.tl_list_text.specs.MapFaults.{AreMapFaults}
+use Rattle.tl_list.specs.MapFaults.{AreMapFaults}
 use Rattle.tl_list.proofs.OfMap.{all_told, some_told, meet_is_fault}
 use Rattle.tl_list.proofs.met.list_met.Goals as goal
 

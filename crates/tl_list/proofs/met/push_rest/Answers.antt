@@ -1,6 +1,6 @@
 use Rattle.std.proofs.Common.{Contains}
 use Rattle.std.proofs.lemmas.Result.{on_ok_weaker}
-use Rattle.tl_list_map.specs.Points.Hidden.{IsMarked}
+use Rattle.tl_list_points.specs.Hidden.{IsMarked}
 use Rattle.tl_list.specs.Keeping.OfMap.{AddsPoints}
 use Rattle.tl_list.proofs.OfMap.{agreement_of, points_there}
 use Rattle.tl_list.proofs.met.push_rest.Goals as goal

@@ -3,8 +3,8 @@ use Rattle.std.proofs.lemmas.List.{nil_from_length}
 use Rattle.tl_map_county.specs.TheMap.{TheMap}
 use Rattle.tl_map_county.specs.Remaining.{remaining}
 use Rattle.tl_check_planar.specs.Planar.{IsPlanar}
-use Rattle.tl_list_map.specs.Points.Hidden.{IsMarked}
-use Rattle.tl_list_map.proofs.PointsLemmas.Alike.{planar_there, remaining_there}
+use Rattle.tl_list_points.specs.Hidden.{IsMarked}
+use Rattle.tl_list_points.proofs.Alike.{planar_there, remaining_there}
 use Rattle.tl_list.proofs.of_map.list_by_part.Goals as goal
 
 pub list_planar-requires-clause-planar : goal.list_planar-requires-clause-planar

@@ -1,4 +1,4 @@
-use Rattle.tl_list_map.specs.Points.Hidden.{IsMarked}
+use Rattle.tl_list_points.specs.Hidden.{IsMarked}
 use Rattle.tl_list.proofs.OfMap.{same_marks, itself}
 use Rattle.tl_list.proofs.of_map.list_by_search.Goals as goal
 

@@ -1,7 +1,7 @@
 use Rattle.std.proofs.Common.{◌≡◌, length, subst, arith}
 use Rattle.std.proofs.lemmas.List.{nil_from_length}
 use Rattle.tl_check_inside.specs.Suspects.{AreSuspects}
-use Rattle.tl_list_map.specs.Points.Hidden.{IsMarked}
+use Rattle.tl_list_points.specs.Hidden.{IsMarked}
 use Rattle.tl_list.proofs.OfMap.{points_placed}
 use Rattle.tl_list.proofs.parts.push_suspects.Goals as goal
 

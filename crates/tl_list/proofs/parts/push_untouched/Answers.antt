@@ -1,6 +1,6 @@
 use Rattle.std.proofs.Common.{refl}
 use Rattle.std.proofs.lemmas.Result.{on_ok_weaker}
-use Rattle.tl_list_map.specs.Points.Hidden.{IsMarked}
+use Rattle.tl_list_points.specs.Hidden.{IsMarked}
 use Rattle.tl_list.specs.Keeping.OfMap.{AddsPoints}
 use Rattle.tl_list.proofs.OfMap.{hidden_points, itself}
 use Rattle.tl_list.proofs.parts.push_untouched.Goals as goal

@@ -1,5 +1,5 @@
 use Rattle.std.proofs.Common.{[], Contains, subst, ◌∙◌}
-use Rattle.tl_list_text.specs.MapFaults.{AreMapFaults}
+use Rattle.tl_list.specs.MapFaults.{AreMapFaults}
 use Rattle.tl_list.specs.Keeping.OfMap.{AddsPoints}
 use Rattle.tl_list.proofs.OfMap.{no_meets, all_told, some_told}
 use Rattle.tl_list.proofs.planar.list_differing.Goals as goal

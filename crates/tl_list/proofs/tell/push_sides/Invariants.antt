@@ -1,5 +1,5 @@
 use Rattle.std.proofs.Common.{◌≡◌, ◌++◌, take, map}
-use Rattle.tl_list_text.specs.MapFaults.{side_fault}
+use Rattle.tl_list.specs.MapFaults.{side_fault}
 use Rattle.tl_list.proofs.tell.push_sides.Given as goal
 
 abbrev pub invariant-loop-side : goal.invariant-loop-side

@@ -2,7 +2,7 @@ use Rattle.std.proofs.Common.{length, refl, subst, arith}
 use Rattle.tl_check_planar.specs.Keeping.Apart.{one_found}
 use Rattle.tl_check_counts.specs.Keeping.Labels.{HasEntered}
 use Rattle.std.proofs.lemmas.List.{get_or_default}
-use Rattle.tl_check_sweep.specs.Keeping.Facing.{raised}
+use Rattle.tl_check_gaps.specs.Keeping.Facing.{raised}
 use Rattle.tl_check_counts.proofs.Treed.{kept_on}
 use Rattle.tl_check_counts.proofs.Entering.{none_entered, one_entered, all_entered}
 use Rattle.tl_check_counts.proofs.labels.Labels.enter_all.Goals as goal

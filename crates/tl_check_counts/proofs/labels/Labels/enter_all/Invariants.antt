@@ -1,5 +1,5 @@
 use Rattle.std.proofs.Common.{length}
-use Rattle.tl_check_sweep.specs.Keeping.Facing.{raised}
+use Rattle.tl_check_gaps.specs.Keeping.Facing.{raised}
 use Rattle.tl_check_counts.proofs.Entering.{IsEntering}
 use Rattle.tl_check_counts.proofs.labels.Labels.enter_all.Given as goal
 

@@ -1,7 +1,7 @@
 use Rattle.std.proofs.Common.{length, sym, subst, ◌∙◌, refl, arith}
-use Rattle.tl_check_sweep.specs.Keeping.Facing.{raised}
+use Rattle.tl_check_gaps.specs.Keeping.Facing.{raised}
 use Rattle.tl_check_active.specs.Events.{before, joined}
-use Rattle.tl_check_sweep.specs.Keeping.Swept.{IsSwept}
+use Rattle.tl_check_gaps.specs.Keeping.Swept.{IsSwept}
 use Rattle.tl_check_counts.specs.Keeping.Labels.{AreLabelled}
 use Rattle.tl_check_counts.proofs.looking.Spots.look.Goals as goal
 

@@ -1,5 +1,5 @@
 use Rattle.std.proofs.Common.{◌≡◌, ◌-◌, All, length}
-use Rattle.tl_check_active.specs.Lined.{list_of}
+use Rattle.tl_check_blocks.specs.Lined.{list_of}
 use Rattle.tl_check_counts.specs.Keeping.Visits.{IsVisit}
 use Rattle.tl_check_counts.proofs.looking.Spots.look.Given as goal
 

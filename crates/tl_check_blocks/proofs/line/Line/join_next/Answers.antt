@@ -1,0 +1,17 @@
+use Rattle.std.proofs.Common.{◌≡◌, ◌++◌, ◌+◌, drop, ap, ◌∙◌}
+use Rattle.tl_check_blocks.specs.Keeping.Blocks.{numbers_of}
+use Rattle.tl_check_blocks.specs.Lined.{list_of}
+use Rattle.tl_check_blocks.proofs.Answered.{still_ok}
+use Rattle.tl_check_blocks.proofs.Numbers.{joined_whole}
+use Rattle.tl_check_blocks.proofs.line.Line.join_next.Goals as goal
+
+pub returns : goal.returns
+returns c =
+    let old = c.self.inside.blocks.items in
+    let new = c.join.new.blocks.items in
+    let opened = c.self.inside.opened in
+    let items = c.self.inside.items.items in
+    let more = c.join.new.items.items in
+    still_ok c.join.result (more ++ numbers_of (drop (opened + 1) new) ≡ items ++ numbers_of (drop (opened + 1) old)) _
+    (λ numbers. joined_whole old new opened items more c.self.inside.place c.join.ensures.before numbers ∙ ap list_of c.self.view_is)
+    c.join.ensures.numbers

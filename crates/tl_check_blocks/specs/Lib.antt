@@ -1,0 +1,3 @@
+-- What the calls of the list cite.
+pub mod Lined
+pub mod Keeping

@@ -1,0 +1,7 @@
+pub mod Places
+pub mod Told
+pub mod Zipped
+pub mod Agreeing
+pub mod Apart
+pub mod Lowest
+pub mod Exact

@@ -1,6 +1,0 @@
-use Rattle.tl_check_sweep.specs.Keeping.Ranges.{AreFirstInRange}
-use Rattle.tl_check_sweep.proofs.near.look_along.Given as goal
-
--- those of the points so far
-abbrev pub invariant-loop-k : goal.invariant-loop-k
-invariant-loop-k l = AreFirstInRange l.points l.k

@@ -1,2 +1,0 @@
-pub mod NodesLemmas
-pub mod PointsLemmas

@@ -1,9 +1,0 @@
-use Rattle.tl_list_map.specs.Nodes.Keeping.Grouped.{HaveBegun, AreNexts}
-use Rattle.tl_list_map.proofs.nodes.groups.next_groups.Given as goal
-
-abbrev pub invariant-loop-place : goal.invariant-loop-place
-invariant-loop-place l =
-    record {
-      begun : HaveBegun l.darts l.place l.first;
-      nexts : AreNexts l.darts l.place l.nexts.items;
-    }

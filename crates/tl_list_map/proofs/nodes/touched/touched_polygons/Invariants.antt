@@ -1,6 +1,0 @@
-use Rattle.tl_list_map.specs.Nodes.Keeping.Named.{AreNamedBefore}
-use Rattle.tl_list_map.proofs.nodes.touched.touched_polygons.Given as goal
-
--- what the disagreements so far name is listed
-abbrev pub invariant-loop-place : goal.invariant-loop-place
-invariant-loop-place l = AreNamedBefore l.map.chains l.sides l.place l.touched.items

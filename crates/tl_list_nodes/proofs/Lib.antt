@@ -1,0 +1,14 @@
+pub mod Sorting
+pub mod Places
+pub mod Ends
+pub mod Nexts
+pub mod Parts
+pub mod Rows
+pub mod Pairs
+pub mod StartLemmas
+pub mod OddLemmas
+pub mod Agreeing
+pub mod Telling
+pub mod Emptiness
+pub mod Listing
+pub mod Touching

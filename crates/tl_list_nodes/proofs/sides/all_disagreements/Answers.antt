@@ -1,0 +1,17 @@
+use Rattle.std.proofs.Common.{arith}
+use Rattle.std.proofs.lemmas.Result.{err_from_is_err_and}
+use Rattle.tl_check_meets.proofs.Reaching.{none_yet}
+use Rattle.tl_list_nodes.proofs.Rows.{all_of}
+use Rattle.tl_list_nodes.proofs.sides.all_disagreements.Goals as goal
+
+pub loop-dart-init : goal.loop-dart-init
+loop-dart-init c = record { grouped = c.in-Ok.ensures; found = rw c.new-found.ensures.items (none_yet _ _ _ _) }
+
+pub returns : goal.returns
+returns c =
+    let past = c.loop-dart-test.false in
+    let count = c.darts-dart-end.ensures in
+    all_of c.args.map.now.chains c.loop-dart.dart c.loop-dart.found.items (omega (arith, past, count)) c.loop-dart.invariant.found
+
+pub returns-in_err-push_next : goal.returns-in_err-push_next
+returns-in_err-push_next c = let p = err_from_is_err_and c.from_residual.result c.from_residual.ensures.1 in rw p.1 tt

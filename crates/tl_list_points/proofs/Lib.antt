@@ -1,0 +1,14 @@
+pub mod Joining
+pub mod Rows
+pub mod Odds
+pub mod Wholes
+pub mod Alike
+pub mod Marking
+pub mod HidingLemmas
+pub mod Pushing
+pub mod Unique
+pub mod Crossing
+pub mod Placed
+pub mod Suspected
+pub mod Known
+pub mod Joined

@@ -1,0 +1,45 @@
+use Rattle.std.proofs.Common.{◌≡◌, Some, None, List, Bor, All, get_or, sym, subst, ap, ◌∙◌}
+use Rattle.std.specs.Prelude.{slice_get}
+use Rattle.std.proofs.lemmas.List.{take_all}
+use Rattle.tl_check_inside.specs.declared.flanks.Flanks.{Flanks}
+use Rattle.tl_check_inside.specs.Keeping.Strips.{IsSiteOf, numbers}
+use Rattle.tl_check_inside.specs.Keeping.Tallies.{AreClear}
+use Rattle.tl_list_points.specs.Hidden.{IsMarked}
+use Rattle.tl_list_points.specs.Keeping.Known.{TellAt}
+use Rattle.tl_list_points.specs.Keeping.Parts.{AreFaultsIn, IsOfAny, AndSettled}
+use Rattle.tl_list_points.proofs.Suspected.{none_among, one_more_among}
+use Rattle.tl_list_points.proofs.Known.{some_more, tell_at}
+use Rattle.tl_list_points.proofs.among.list_each.Goals as goal
+
+pub loop-place-init : goal.loop-place-init
+loop-place-init g c = record {
+  found = rw c.new-found.ensures.items (none_among (IsMarked c.args.marks.now) c.args.map.now);
+  clear = subst (λ n. AreClear n c.in_ok-room.room.near.items c.in_ok-room.room.far.items) c.polygons.ensures c.in_ok-room.ensures;
+}
+
+pub list_one-requires-clause-tell : goal.list_one-requires-clause-tell
+list_one-requires-clause-tell g c =
+    let m = c.args.map.now in
+    let k = c.loop-place.place in
+    some_more {X = Bor (List Flanks)} c.at.result (slice_get c.in_ok-counts.counts k ≡ Some None) (λ flanks. slice_get c.in_ok-counts.counts k ≡ Some (Some flanks.now))
+    (λ flanks. TellAt m (get_or c.args.polygons.now k 0) flanks.now)
+    (λ flanks.
+    tell_at m c.deref.result.now c.args.polygons.now (subst (All (IsSiteOf m)) (sym c.deref.ensures.value) c.in_ok-sites.ensures.sites)
+    (ap numbers c.deref.ensures.value ∙ c.in_ok-sites.ensures.polygons) c.in_ok-counts.counts c.in_ok-counts.ensures.counts k 0 c.loop-place-test.true flanks.now)
+    c.at.ensures
+
+pub list_one-requires-clause-clear : goal.list_one-requires-clause-clear
+list_one-requires-clause-clear g c = c.loop-place.invariant.clear
+
+pub loop-place-preserved : goal.loop-place-preserved
+loop-place-preserved g c = record {
+  found =
+      one_more_among (IsMarked c.args.marks.now) c.args.map.now c.args.polygons.now c.loop-place.place c.loop-place.found.items c.list_one.new.found.items c.loop-place-test.true
+      c.requires.rising c.loop-place.invariant.found c.in_ok-list_one.ensures.part;
+  clear = c.in_ok-list_one.ensures.clear;
+}
+
+pub returns : goal.returns
+returns g c =
+    subst (λ l. AreFaultsIn c.args.map.now (AndSettled (IsMarked c.args.marks.now) (IsOfAny l)) c.loop-place.found.items) (take_all c.loop-place.place c.args.polygons.now c.loop-place-test.false)
+    c.loop-place.invariant.found

@@ -1,0 +1,19 @@
+use Rattle.std.proofs.Common.{arith, ◌∙◌}
+use Rattle.tl_list_points.proofs.Joined.{copied_more, none_sifted, sifted_more, sifted_next, sifted_all}
+use Rattle.tl_list_points.proofs.beside.suspects_beside.Goals as goal
+
+pub loop-p-init : goal.loop-p-init
+loop-p-init g c = record {
+  more = copied_more c.args.map.now c.args.part.now c.in_ok-suspects.suspects.items c.requires.part (c.in_ok-suspects.ensures ∙ c.deref.ensures.value);
+  sifted = none_sifted c.args.map.now c.args.taken.now c.in_ok-suspects.suspects.items;
+}
+
+pub loop-p-preserved : goal.loop-p-preserved
+loop-p-preserved g c = record {
+  more = sifted_more c.args.map.now c.args.taken.now c.args.part.now.suspects.items c.loop-p.suspects.items c.sift.new.suspects.items c.loop-p.p _ c.polygon.ensures c.loop-p.invariant.more c.in_ok-sift.ensures;
+  sifted = sifted_next c.args.map.now c.args.taken.now c.loop-p.suspects.items c.sift.new.suspects.items c.loop-p.p _ c.polygon.ensures c.loop-p.invariant.sifted c.in_ok-sift.ensures;
+}
+
+pub returns : goal.returns
+returns g c = sifted_all c.args.map.now c.args.part.now c.args.taken.now c.loop-p.suspects.items c.loop-p.p c.requires.part c.requires.taken c.has_proper_chains.ensures c.loop-p.invariant.more c.loop-p.invariant.sifted
+    (omega (arith, c.polygons-p-end.ensures, c.loop-p-test.false))

@@ -1,0 +1,26 @@
+use Rattle.std.proofs.Common.{[], subst, arith}
+use Rattle.tl_check_inside.specs.Keeping.Tallies.{AreClear}
+use Rattle.tl_list_points.specs.AllMisplaced.{NoneHidden}
+use Rattle.tl_list_points.specs.Hidden.{IsMarked}
+use Rattle.tl_list_points.proofs.Joining.{none_yet, one_more}
+use Rattle.tl_list_points.proofs.Wholes.{all_of}
+use Rattle.tl_list_points.proofs.Alike.{hidden_as}
+use Rattle.tl_list_points.proofs.misplaced.all_misplaced.Goals as goal
+
+pub loop-p-init : goal.loop-p-init
+loop-p-init g c = record {
+  found = rw c.new-found.ensures.items (none_yet (IsMarked []) c.args.map.now);
+  clear = subst (λ n. AreClear n c.in_ok-room.room.near.items c.in_ok-room.room.far.items) c.polygons.ensures c.in_ok-room.ensures;
+}
+
+pub loop-p-preserved : goal.loop-p-preserved
+loop-p-preserved g c = record {
+  found = one_more (IsMarked []) c.args.map.now c.loop-p.p _ _ c.loop-p.invariant.found c.in_ok-list_at.ensures.part;
+  clear = c.in_ok-list_at.ensures.clear;
+}
+
+pub returns : goal.returns
+returns g c =
+    let past = c.loop-p-test.false in
+    hidden_as (IsMarked []) NoneHidden c.args.map.now c.loop-p.found.items (λ p h. cc) (λ p h. absurd h)
+    (all_of (IsMarked []) c.args.map.now c.loop-p.p _ (omega (arith, past, c.polygons-p-end.ensures, c.loop-p.auto.p-end)) c.loop-p.invariant.found)

@@ -1,0 +1,15 @@
+use Rattle.std.proofs.Common.{sym, subst, arith}
+use Rattle.tl_check_inside.specs.Places.{IsHeldBy}
+use Rattle.tl_check_inside.specs.Keeping.Strips.{AreEnough}
+use Rattle.tl_list_nodes.proofs.Listing.{listed_once}
+use Rattle.tl_list_points.proofs.misplaced.look_about.Goals as goal
+
+pub sift_all-requires : goal.sift_all-requires
+sift_all-requires g c = record {
+  enough = subst (AreEnough c.args.map.now.chains c.args.site.point) (sym c.deref.ensures.value) (c.in_ok-list_in_strip.ensures 0 c.args.site (omega arith));
+}
+
+pub returns-clause-held : goal.returns-clause-held
+returns-clause-held g c =
+    listed_once (IsHeldBy c.args.map.now.chains c.args.site.point) _ _ c.sort_once.ensures.rising c.sort_once.ensures.same c.in_ok-sift_all.ensures.each
+    c.in_ok-sift_all.ensures.all

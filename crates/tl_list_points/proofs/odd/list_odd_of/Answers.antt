@@ -1,0 +1,15 @@
+use Rattle.tl_check_inside.specs.Keeping.Tallies.{IsOdd}
+use Rattle.tl_list_nodes.proofs.Listing.{listed_once}
+use Rattle.tl_list_points.proofs.Odds.{odd_more, all_odd}
+use Rattle.tl_list_points.proofs.odd.list_odd_of.Goals as goal
+
+pub loop-place-preserved : goal.loop-place-preserved
+loop-place-preserved c =
+    odd_more c.args.near.now c.args.far.now c.args.own c.args.crossed.now c.loop-place.place _ c.loop-place.odd.items c.keep_if_odd.new.odd.items
+    c.keep_if_odd-in-loop-place.new.odd.items c.loop-place-test.true c.loop-place.invariant c.in_ok-keep_if_odd.ensures c.in_ok-keep_if_odd-2.ensures
+
+pub returns : goal.returns
+returns c =
+    listed_once (IsOdd c.args.near.now c.args.far.now c.args.own) _ _ c.sort_once.ensures.rising c.sort_once.ensures.same c.loop-place.invariant.each
+    (all_odd c.args.near.now c.args.far.now c.args.own c.args.crossed.now c.loop-place.place _ c.loop-place-test.false c.requires.alike c.requires.tallies
+    c.loop-place.invariant)
