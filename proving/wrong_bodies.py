@@ -1,9 +1,9 @@
 #!/usr/bin/env python3
 """Tries the wrong bodies that the gate leaves out: the edits in the folders `wrong-bodies` of crates.
 
-An edit in a crate's `must-fail` turns what a contract promises to a user, or to who calls the libraries: the gate tries it.
-One in `wrong-bodies` turns a body of a crate whose contracts serve the proofs of the crates above it. Where a contract there
-lets it through, it breaks no promise above. The libraries below these crates are built first, where their sources have changed.
+An edit in a crate's `must-fail` turns what a contract promises to a user, in a crate that answers one: the gate tries it.
+One in `wrong-bodies` turns a body of a crate whose contracts serve callers and the proofs of the crates above it, or is one of
+many of a crate that answers. The libraries below these crates are built first, where their sources have changed.
 
 usage: wrong_bodies.py [CRATE..]     with no CRATE, each crate that has such edits
 """

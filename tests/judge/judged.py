@@ -35,7 +35,7 @@ import judge
 import placed
 import rows
 
-CASES = 20_000
+CASES = 8_000
 # How many cases a process plays before it says how they went.
 SHARE = 50
 ROWS = ("all", "audit", "check", "fields", "landmarks", "locate", "show")
