@@ -1,8 +1,8 @@
 #!/usr/bin/env python3
 """Counts, in the built program itself, how often a command sweeps over a map, how often a search of all its segments decides behind it,
 and how often vertices are passed by exact places: by the calls that valgrind's callgrind sees, of maps of each family that the bench makes. One sweep
-is wanted of each, and none of the others; but where neighbouring sides disagree `--all` sweeps once more, over the map without the polygons
-that they touch. The gate asks for it.
+is wanted of each, and none of the others; but where neighbouring sides disagree `--all` and `draw --faults` sweep once more, over the map
+without the polygons that they touch. The gate asks for it.
 
 usage: ways.py [--chains N] [PROGRAM]
 
@@ -42,10 +42,12 @@ COUNTED = {
 WANTED = {SWEEPS: 1, SEARCHES: 0, EXACT: 0}
 # A map of which neighbouring sides disagree. A ring of one chain has the same sides about its node when they are exchanged.
 DISAGREE = "star-exchanged"
+# Words by which a command lists all faults.
+LISTS = {"--all", "--faults"}
 CHAINS = 300
 # Words of each command that decides a map, and those of one of which a sweep finds that chains meet.
 COMMANDS = [["audit"], ["audit", "--faces"], ["audit", "--all"], ["audit", "--all", "--faces"], ["build"], ["build", "--faces"], ["check"],
-            ["check", "--faces"]]
+            ["check", "--faces"], ["draw", "--faults"]]
 DECIDES = [["audit"], ["audit", "--faces"], ["build"], ["check"]]
 
 
@@ -86,7 +88,8 @@ def certified(folder, kind, file):
 
 def given(words, certificate, number):
     """What a command is given beside its own words and the records: what it makes, or the certificate that it checks by."""
-    return {"build": ["--out", f"made.{number}"], "check": ["--cert", certificate.name]}.get(words[0], [])
+    made = ["--out", f"made.{number}"]
+    return {"build": made, "draw": made, "check": ["--cert", certificate.name]}.get(words[0], [])
 
 
 def calls_in(text):
@@ -111,7 +114,7 @@ def calls_in(text):
 
 def wanted_of(kind, words):
     """The counts that are wanted of this command and a map of this kind."""
-    return {**WANTED, SWEEPS: 2} if kind == DISAGREE and "--all" in words else WANTED
+    return {**WANTED, SWEEPS: 2} if kind == DISAGREE and LISTS.intersection(words) else WANTED
 
 
 def counts_of(program, words, folder, number):

@@ -1,6 +1,7 @@
-//! The walks of a map that is sound.
+//! The walks of maps.
 
 ghost use Rattle.std.specs.Prelude.{◌<◌, ◌^◌, length, map as map_list, IfOk, IfErr, IfSome, MatchOption};
+ghost use Rattle.tl_check_planar.specs.Planar.{IsPlanar};
 ghost use Rattle.tl_check_sides.specs.Walks.{AreWalks};
 ghost use Rattle.tl_check_verdict.specs.Sound.{IsSound};
 ghost use Rattle.tl_build.specs.Auditing.{IsMemoryStop};
@@ -23,20 +24,22 @@ pub fn find_walks(alloc: Global, map: &Map) -> Result<Option<Vec<Vec<u32>>>, Sto
     ensures stops { IfErr result IsMemoryStop }
 {
     match decide(alloc, map, false)? {
-        Audit::Sound(_) => walks_of(alloc, map),
+        Audit::Sound(_) => Ok(Some(planar_walks(alloc, map)?)),
         Audit::Fault(_) => Ok(None),
     }
 }
 
-/// The walks of a sound map.
-fn walks_of(alloc: Global, map: &Map) -> Result<Option<Vec<Vec<u32>>>, Stop>
-    requires { IsSound map.now }
-    ensures sound { IfOk result (λ found. MatchOption found (¬ IsSound map.now) (λ walks. IsSound map.now)) }
-    ensures walks { IfOk result (λ found. IfSome found (λ walks. AreWalks map.now.chains (map_list (λ w. w.items) walks.items))) }
-    ensures counted { IfOk result (λ found. IfSome found (λ walks. length walks.items < 2 ^ 32)) }
+/// The walks of a map whose chains are known to be planar, as those of a sound map are: nothing is decided once more. It stops where memory
+/// was refused, and nowhere else.
+pub fn planar_walks(alloc: Global, map: &Map) -> Result<Vec<Vec<u32>>, Stop>
+    requires { IsPlanar map.now.chains }
+    // They are the map's: rings in which each dart stands once and nothing else does.
+    ensures walks { IfOk result (λ walks. AreWalks map.now.chains (map_list (λ w. w.items) walks.items)) }
+    ensures counted { IfOk result (λ walks. length walks.items < 2 ^ 32) }
+    // It stops for memory alone.
     ensures stops { IfErr result IsMemoryStop }
 {
     map.has_proper_chains();
     let walks = propose_walks(alloc, map)?;
-    Ok(Some(walks))
+    Ok(walks)
 }

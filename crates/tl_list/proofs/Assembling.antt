@@ -31,9 +31,8 @@ use Rattle.tl_list_text.specs.declared.listing.Listing.{Listing}
 use Rattle.tl_list_text.specs.declared.listing.Listing.TheVariants.{Sound, Refused, Faults}
 use Rattle.tl_cert_output.specs.declared.stop.Stop.{Stop}
 use Rattle.tl_list.specs.declared.reading.BothKept.{BothKept}
-use Rattle.tl_list.specs.Listings.{IsListingOf}
+use Rattle.tl_list.specs.Listings.{IsListingOf, IsListingFor}
 use Rattle.tl_list.specs.Keeping.Reading.{Keeps, AreWhole, KeepsAll, IsStopped}
-use Rattle.tl_list.specs.Keeping.OfMap.{IsListingFor}
 use Rattle.tl_list.specs.declared.of_records.Findings.{Findings}
 use Rattle.tl_list.specs.declared.left.LeftFaults.{LeftFaults}
 use Rattle.tl_list.specs.Findings.{AreFindingsOf, AreFaultsOf, IsLeft, IsFoundIn}

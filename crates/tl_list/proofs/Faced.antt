@@ -29,7 +29,8 @@ use Rattle.tl_check_verdict.specs.Verdicts.{IsReport}
 use Rattle.tl_check_verdict.proofs.Asked.{keeps}
 use Rattle.tl_list_text.specs.declared.listing.Listing.TheVariants.{Sound, Faults}
 use Rattle.tl_list.specs.MapFaults.{side_fault, AreMapFaults, AreLookedAt}
-use Rattle.tl_list.specs.Keeping.OfMap.{IsListingFor, AddsFaces, begins_with_chains}
+use Rattle.tl_list.specs.Listings.{IsListingFor, begins_with_faces}
+use Rattle.tl_list.specs.Keeping.OfMap.{AddsFaces, begins_with_chains}
 use Rattle.tl_list.proofs.Emptiness.{map_empty, odds_deny}
 use Rattle.tl_list.proofs.OfMap.{all_told, no_meets, no_points, agreeing as sides_agreeing}
 
@@ -72,15 +73,35 @@ disagreeing faces m old faults asked first some adds sound = (
     all_faces = inl ((asked, (sound.planar, sound.sides)), adds.all);
     are = adds.are ∙ ap (λ (fs : List MapFault). fs ++ map fault.Face adds.told) first;
   },
+  λ of_faces. sound,
 )
 
 -- ---- behind other faults
 
+-- the first of other faults isn't of faces
+first_of_others : (m : TheMap) (others : List MapFault) (touched : ℕ) → AreMapFaults m others touched → begins_with_faces others ≡ false
+first_of_others m others touched all = rw all.are (go all.meets all.sides all.cells all.points)
+  where
+    go : (meets : List Meet) (sides : List Disagreement) (cells : List CellsAtOdds) (points : List Misplaced)
+        → begins_with_faces (map fault.Meet meets ++ map (side_fault m.chains) sides ++ map fault.Cell cells ++ map fault.PolygonPoint points) ≡ false
+    go (meet ∷ meets) sides cells points = refl
+    go [] (side ∷ sides) cells points = refl
+    go [] [] (cell ∷ cells) points = refl
+    go [] [] [] (point ∷ points) = refl
+    go [] [] [] [] = refl
+
+still_first : (others more : List MapFault) → others ≢ [] → begins_with_faces others ≡ false → begins_with_faces (others ++ more) ≡ false
+still_first [] more some other = absurd (some refl)
+still_first (f ∷ others) more some other = other
+
 -- where faces aren't looked at these are all
 pub alone : (faces : Bool) (m : TheMap) (faults : Vec MapFault Global) (touched : ℕ) → faults.items ≢ [] → AreMapFaults m faults.items touched → (¬ AreLookedAt faces m)
     → IsListingFor faces m (Faults faults touched)
-alone faces m faults touched some all none =
-    (some, record { others = faults.items; told = []; all_others = all; all_faces = inr (none, refl); are = sym (append-nil faults.items) })
+alone faces m faults touched some all none = (
+  some,
+  record { others = faults.items; told = []; all_others = all; all_faces = inr (none, refl); are = sym (append-nil faults.items) },
+  λ of_faces. absurd (let wrong : false ≡ true = sym (first_of_others m faults.items touched all) ∙ of_faces in cc),
+)
 
 longer : {X : Type 0} (xs ys zs : List X) → zs ≡ xs ++ ys → xs ≢ [] → zs ≢ []
 longer [] ys zs are some none = some refl
@@ -90,7 +111,12 @@ longer (x ∷ xs) ys zs are some none = absurd (let e : x ∷ (xs ++ ys) ≡ [] 
 pub behind : (faces : Bool) (m : TheMap) (old : List MapFault) (faults : Vec MapFault Global) (touched : ℕ) → old ≢ [] → AreMapFaults m old touched → AreLookedAt faces m
     → AddsFaces m old faults.items → IsListingFor faces m (Faults faults touched)
 behind faces m old faults touched some all looked adds =
-    (longer old (map fault.Face adds.told) faults.items adds.are some, record { others = old; told = adds.told; all_others = all; all_faces = inl (looked, adds.all); are = adds.are })
+    let other : begins_with_faces faults.items ≡ false =
+    ap begins_with_faces adds.are ∙ still_first old (map fault.Face adds.told) some (first_of_others m old touched all) in (
+      longer old (map fault.Face adds.told) faults.items adds.are some,
+      record { others = old; told = adds.told; all_others = all; all_faces = inl (looked, adds.all); are = adds.are },
+      λ of_faces. absurd (let wrong : false ≡ true = sym other ∙ of_faces in cc),
+    )
 
 -- the first fault tells whether chains are planar and sides agree
 abbrev pub Decides : TheMap → Bool → Type 0

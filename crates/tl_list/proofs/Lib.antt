@@ -2,6 +2,7 @@ mod Lists
 mod Emptiness
 mod Truth
 mod Faced
+mod Sounding
 mod Told
 mod OfMap
 mod Gathering

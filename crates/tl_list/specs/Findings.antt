@@ -14,7 +14,7 @@ use Rattle.tl_check_verdict.specs.declared.verdict.Report.{Report}
 use Rattle.tl_check_verdict.specs.Records.{HaveMap}
 use Rattle.tl_list_text.specs.declared.listing.Listing.{Listing}
 use Rattle.tl_list_text.specs.declared.listing.Listing.TheVariants.{Sound, Refused, Faults}
-use Rattle.tl_list.specs.Listings.{IsListingOf}
+use Rattle.tl_list.specs.Listings.{IsListingOf, IsListingFor}
 use Rattle.tl_list.specs.declared.of_records.Findings.{Findings}
 use Rattle.tl_list.specs.declared.left.Found.{Found}
 use Rattle.tl_list.specs.declared.left.LeftFaults.{LeftFaults}
@@ -28,6 +28,10 @@ IsMapIfAny all None = ¬ HaveMap all (λ m. ⊤)
 pub record AreFindingsOf (options : Options) (text : List ℕ) (listed : Findings) : Type 0 where
   pub told : IsListingOf options text listed.listing
   pub drawn : IsMapIfAny (records_of (layout_with options) text) listed.map
+
+-- what is listed beside a map is listed of that map, whatever text it is of
+abbrev pub AreOfMap : (faces : Bool) → Findings → Type 0
+AreOfMap faces listed = IfSome listed.map (λ m. IsListingFor faces m listed.listing)
 
 -- these faults are listed of a text, with its map, or that there are none
 abbrev pub AreFaultsOf : Options → List ℕ → Option TheMap → Vec MapFault Global → ℕ → Type 0

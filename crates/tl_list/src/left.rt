@@ -3,7 +3,7 @@
 ghost use Rattle.std.specs.Prelude.{ℕ, List, Bool, Option};
 ghost use Rattle.tl_record.specs.declared.options.Options.{Options};
 ghost use Rattle.tl_record.specs.Records.{Records as AllRecords};
-ghost use Rattle.tl_list.specs.Findings.{IsFoundIn};
+ghost use Rattle.tl_list.specs.Findings.{IsFoundIn, AreOfMap};
 ghost use Rattle.tl_list.specs.Keeping.OfRecords.{AreFindingsOfRecords, AreLeftOf, AreRead};
 
 use crate::of_records::Findings;
@@ -33,8 +33,9 @@ pub struct Found {
 
 /// What is found in a text, of its refused lines and of what is listed of what is left without them.
 pub fn found_in(alloc: Global, refused: Vec<Refusal>, listed: Findings) -> Found
-    ensures { (options : Options) (skips : Bool) (known : Option (List ℕ)) → AreRead options skips known refused.items listed
+    ensures found { (options : Options) (skips : Bool) (known : Option (List ℕ)) → AreRead options skips known refused.items listed
         → IsFoundIn options skips known result }
+    ensures of_map { (faces : Bool) → AreOfMap faces listed → AreOfMap faces result.whole }
 {
     if refused.is_empty() {
         return Found {

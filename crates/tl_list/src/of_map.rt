@@ -17,7 +17,8 @@ ghost use Rattle.tl_list_nodes.specs.Touched.{AreAllTouched};
 ghost use Rattle.tl_list_points.specs.Hidden.{IsMarked, AreMapsAlikeBut};
 ghost use Rattle.tl_check_sides.specs.Sides.{SidesAgree};
 ghost use Rattle.tl_list.specs.MapFaults.{AreMapFaults};
-ghost use Rattle.tl_list.specs.Keeping.OfMap.{IsListingOfMap, IsListingFor, AddsFaces, begins_with_chains};
+ghost use Rattle.tl_list.specs.Listings.{IsListingFor};
+ghost use Rattle.tl_list.specs.Keeping.OfMap.{IsListingOfMap, AddsFaces, begins_with_chains};
 
 use crate::met::{Differing, list_met};
 use crate::planar::list_planar;

@@ -4,11 +4,10 @@ ghost use Rattle.std.specs.Prelude.{◌≡◌, List, true, None, Some, IfOk, IfE
 ghost use Rattle.tl_record.specs.Records.{Records as AllRecords};
 ghost use Rattle.tl_record.specs.declared.record.Record.{Record};
 ghost use Rattle.tl_list_records.specs.Kept.{KeepsRecords};
-ghost use Rattle.tl_list.specs.Listings.{IsListingOf};
+ghost use Rattle.tl_list.specs.Listings.{IsListingOf, IsListingFor};
 ghost use Rattle.tl_cert_output.specs.Stops.{StopsFor, TellsDevice};
-ghost use Rattle.tl_list.specs.Findings.{IsFoundIn};
+ghost use Rattle.tl_list.specs.Findings.{IsFoundIn, AreOfMap};
 ghost use Rattle.tl_list.specs.Keeping.Reading.{Keeps, AreWhole};
-ghost use Rattle.tl_list.specs.Keeping.OfMap.{IsListingFor};
 ghost use Rattle.tl_list.specs.Keeping.OfRecords.{AreFindingsOfRecords, AreTold};
 
 use crate::left::{Found, found_in};
@@ -73,6 +72,8 @@ pub fn list_with_map<R: Source>(
     // The listing is that of `list_faults`, and the map is that of the text's records; there is none exactly where a line is
     // refused or the records have a fault. What is left, where there is something, is listed as a text of its own.
     ensures found { IfOk result (IsFoundIn options skips (R.remaining records.old)) }
+    // Whatever is known of the bytes: what is listed beside the map is listed of that map.
+    ensures of_map { IfOk result (λ found. AreOfMap options.faces found.whole) }
     // It stops where memory was refused, or a read failed.
     ensures stops { IfErr result (StopsFor ⊤) }
     // `Device` is answered where a read failed in this call, and nowhere else.
@@ -107,6 +108,7 @@ fn list_kept(
     requires { (rs : List Record) × Keeps rs both }
     ensures listed { (all : AllRecords) (rs : List Record) → AreWhole all skipped rs → Keeps rs both →
         IfOk result (AreFindingsOfRecords faces all) }
+    ensures of_map { IfOk result (AreOfMap faces) }
     ensures stops { IfErr result (λ stop. stop ≡ Stop.Memory) }
 {
     let BothKept { collected, kept } = both;

@@ -1,7 +1,9 @@
 //! Pictures that are made over files: each takes its name when it is whole.
 
-ghost use Rattle.std.specs.Prelude.{◌≡◌, [], Some, IfErr, IfOk, IfSome, length, map, option_map, string_bytes};
+ghost use Rattle.std.specs.Prelude.{◌≡◌, [], Some, IfErr, IfOk, IfSome, MatchOption, length, map, map as map_list, option_map, string_bytes};
 ghost use Rattle.tl_build.specs.Auditing.{IsMemoryStop};
+ghost use Rattle.tl_check_sides.specs.Walks.{AreWalks};
+ghost use Rattle.tl_check_verdict.specs.Sound.{IsSound};
 ghost use Rattle.tl_record.specs.Layout.{layout_with};
 ghost use Rattle.tigertopo_files.specs.Files.{IsFree};
 ghost use Rattle.tigertopo_files.specs.World.{Does, world};
@@ -11,6 +13,7 @@ ghost use Rattle.tigertopo_files.specs.Reading.{text_under};
 ghost use Rattle.tigertopo_outcome.specs.Records.{StopsNever, StopsRecords};
 ghost use Rattle.tigertopo_svg.specs.Fills.{AreFillsOf};
 ghost use Rattle.tigertopo_svg.specs.Whole.{picture_text};
+ghost use Rattle.tigertopo_program.specs.Draw.Subjects.{IsKnownOf};
 ghost use Rattle.tigertopo_program.specs.Draw.Drawing.{DrawAnswers, IsDrawnOf, IsFilled, drawn_of, picture_by, places_of};
 
 use crate::draw::subject::{Subject, SubjectOf};
@@ -23,7 +26,7 @@ use tigertopo_outcome::reading::over_records;
 use tigertopo_outcome::said::{Answer, Said};
 use tigertopo_svg::{Fills, Frame, Picture, chain_count, fault_count, picture_of, print_picture};
 use tigertopo_words::View;
-use tl_build::find_walks;
+use tl_build::{find_walks, planar_walks};
 use tl_cert_output::{Stop, Text};
 use tl_check_verdict::MapFault;
 use tl_geom::Rational;
@@ -107,12 +110,13 @@ fn draw_subject<F: FileSystem>(
     shows_faults: bool,
     subject: &Subject,
 ) -> Result<Answer<Said>, Stop>
-    requires { IsFree (F.under files.old) (string_bytes made.now) (map string_bytes names.now) PictureKind }
+    requires free { IsFree (F.under files.old) (string_bytes made.now) (map string_bytes names.now) PictureKind }
+    requires known { IsKnownOf subject.now.map subject.now.is_sound }
     ensures { let w = world F.under F.log F.knows files.old files.new in
         Does w [] (Some (string_bytes made.now))
         (IsDrawnOf w (record { name = string_bytes made.now; view = view; shows = shows_faults }) subject.now) StopsNever result }
 {
-    let fills = fills_of(alloc, &subject.map)?;
+    let fills = fills_of(alloc, &subject.map, subject.is_sound)?;
     let places = fault_places(alloc, hasher, Some(&subject.map), subject.faults.as_slice())?;
     let picture = picture_by(view, subject, places.as_slice());
     let text = PictureText {
@@ -126,18 +130,33 @@ fn draw_subject<F: FileSystem>(
     Ok(Answer::of(Outcome::Drawn(drawn_of(picture, places.as_slice(), shows_faults, subject))))
 }
 
-// What the polygons of a map are filled by, if it is sound.
-fn fills_of(alloc: Global, map: &Map) -> Result<Option<Fills>, Stop>
+// What the polygons of a map are filled by, if it is sound, as may be known.
+fn fills_of(alloc: Global, map: &Map, is_sound: Option<bool>) -> Result<Option<Fills>, Stop>
+    requires { IsKnownOf map.now is_sound }
     ensures filled { IfOk result (λ found. IsFilled map.now (option_map (λ f. f.filling) found)) }
     ensures fills { IfOk result (λ found. IfSome found (AreFillsOf map.now)) }
     ensures stops { IfErr result IsMemoryStop }
 {
-    match find_walks(alloc, map)? {
+    match walks_of(alloc, map, is_sound)? {
         Some(walks) => match Fills::new(alloc, map, walks) {
             Ok(fills) => Ok(Some(fills)),
             Err(_) => Err(Stop::Memory),
         },
         None => Ok(None),
+    }
+}
+
+// The walks of a map, if it is sound. Where that is known, the map isn't decided once more.
+fn walks_of(alloc: Global, map: &Map, is_sound: Option<bool>) -> Result<Option<Vec<Vec<u32>>>, Stop>
+    requires { IsKnownOf map.now is_sound }
+    ensures sound { IfOk result (λ found. MatchOption found (¬ IsSound map.now) (λ walks. IsSound map.now)) }
+    ensures walks { IfOk result (λ found. IfSome found (λ walks. AreWalks map.now.chains (map_list (λ w. w.items) walks.items))) }
+    ensures stops { IfErr result IsMemoryStop }
+{
+    match is_sound {
+        Some(true) => Ok(Some(planar_walks(alloc, map)?)),
+        Some(false) => Ok(None),
+        None => find_walks(alloc, map),
     }
 }
 

@@ -3,7 +3,7 @@
 ghost use Rattle.std.specs.Prelude.{◌≡◌, ℕ, List, Option, true, IfOk, IfErr, IfSome};
 ghost use Rattle.tl_record.specs.declared.options.Options.{Options};
 ghost use Rattle.tl_record.specs.Layout.{layout_with};
-ghost use Rattle.tl_list.specs.Findings.{AreFindingsOf};
+ghost use Rattle.tl_list.specs.Findings.{AreFindingsOf, AreOfMap};
 ghost use Rattle.tigertopo_files.specs.World.{MayStop};
 ghost use Rattle.tl_cert_output.specs.declared.stop.Stop.TheVariants.{Device};
 ghost use Rattle.tigertopo_outcome.specs.Records.{StopsRecords};
@@ -15,18 +15,20 @@ use std::hash::RandomState;
 use tigertopo_outcome::reading::Question;
 use tl_cert_output::Stop;
 use tl_check_verdict::{MapFault, fault_of_records};
-use tl_list::{Findings, list_with_map};
+use tl_list::{Findings, has_sound_map, list_with_map};
 use tl_list_text::Listing;
 use tl_map::read_map_with;
 use tl_map_county::Map;
 use tl_record::{Options, Refusal, Source};
 
-/// A map, the faults of it that are to be shown, and how many polygons they touch.
+/// A map, the faults of it that are to be shown, how many polygons they touch, and whether the map is known to be sound.
 #[derive(Drop)]
 pub struct Subject {
     pub map: Map,
     pub faults: Vec<MapFault>,
     pub touched: u64,
+    /// Whether the map is sound, where its faults were listed: so it isn't decided once more.
+    pub is_sound: Option<bool>,
 }
 
 /// The map of the records, and where they are to be shown all its faults, or the fault of records that have none, as a question.
@@ -58,6 +60,7 @@ impl Question for SubjectOf {
                 map,
                 faults: Vec::new(alloc),
                 touched: 0,
+                is_sound: None,
             })),
             Err(stop) => Ok(Err(fault_of_records(stop)?)),
         }
@@ -67,7 +70,7 @@ impl Question for SubjectOf {
 // The map that was found with its faults, or why there is none.
 fn subject_of(alloc: Global, found: Findings) -> Result<Result<Subject, MapFault>, Stop>
     ensures found { (options : Options) (known : Option (List ℕ)) → IfSome known (λ text. AreFindingsOf options text found) →
-        IfOk result (IsSubjectOf options known true) }
+        AreOfMap options.faces found → IfOk result (IsSubjectOf options known true) }
     ensures stopped { (options : Options) (known : Option (List ℕ)) → IfSome known (λ text. AreFindingsOf options text found) →
         IfErr result (MayStop (StopsRecords (layout_with options) known)) }
     ensures no_device { IfErr result (λ stop. ¬ (stop ≡ Device)) }
@@ -77,6 +80,7 @@ fn subject_of(alloc: Global, found: Findings) -> Result<Result<Subject, MapFault
         Some(map) => Ok(Ok(Subject {
             map,
             touched: touched_of(&listing),
+            is_sound: Some(has_sound_map(&listing)),
             faults: faults_of(alloc, listing),
         })),
         None => Ok(Err(first_of(&listing)?)),

@@ -14,24 +14,18 @@ use Rattle.tl_list_nodes.specs.CellOdds.{AreAllCellsAtOdds}
 use Rattle.tl_list_points.specs.AllMisplaced.{AreAllMisplaced}
 use Rattle.tl_check_verdict.specs.declared.fault.MapFault.{MapFault}
 use Rattle.tl_check_verdict.specs.declared.fault.MapFault.TheVariants as fault
-use Rattle.tl_check_verdict.specs.Sound.{IsSound, IsSoundFor}
+use Rattle.tl_check_verdict.specs.Sound.{IsSound}
 use Rattle.tl_check_verdict.specs.Truth.{IsTrueOfMap}
 use Rattle.tl_check_verdict.specs.Verdicts.{IsReport}
 use Rattle.tl_list_text.specs.declared.listing.Listing.{Listing}
 use Rattle.tl_list_text.specs.declared.listing.Listing.TheVariants.{Sound, Refused, Faults}
-use Rattle.tl_list.specs.MapFaults.{side_fault, AreMapFaults, AreFaceFaults, AreFaultsFor}
+use Rattle.tl_list.specs.MapFaults.{side_fault, AreMapFaults, AreFaceFaults}
 
 -- the map is sound, and these are its numbers; or these are all its faults but those of faces, and there is one
 abbrev pub IsListingOfMap : TheMap → Listing → Type 0
 IsListingOfMap m (Sound report) = IsSound m × IsReport m report
 IsListingOfMap m (Refused list) = ⊥
 IsListingOfMap m (Faults faults touched) = (faults.items ≢ []) × AreMapFaults m faults.items touched
-
--- the same where faces may be asked for
-abbrev pub IsListingFor : (faces : Bool) → TheMap → Listing → Type 0
-IsListingFor faces m (Sound report) = IsSoundFor faces m × IsReport m report
-IsListingFor faces m (Refused list) = ⊥
-IsListingFor faces m (Faults faults touched) = (faults.items ≢ []) × AreFaultsFor faces m faults.items touched
 
 -- some fault is true of the map
 abbrev pub IsFaulty : TheMap → Type 0

@@ -3,15 +3,15 @@ use Rattle.std.proofs.lemmas.Bool.{eq-eqb, eqb-true}
 use Rattle.tl_list.proofs.Assembling.{found_left, found_whole, none_held_in}
 use Rattle.tl_list.proofs.left.found_in.Goals as goal
 
-pub returns-then-is_empty : goal.returns-then-is_empty
-returns-then-is_empty c = λ options skips known read.
+pub returns-then-is_empty-clause-found : goal.returns-then-is_empty-clause-found
+returns-then-is_empty-clause-found c = λ options skips known read.
     let refused = c.args.refused in
     let ok = refused.ok in
     let zero : refused.len ≡ 0 = eqb-true _ _ (sym c.is_empty.ensures ∙ c.if-is_empty.true) in
     found_whole options skips known refused.items c.args.listed read (none_held_in refused.items (omega (arith, ok.0, zero)))
 
-pub returns : goal.returns
-returns c = λ options skips known read.
+pub returns-clause-found : goal.returns-clause-found
+returns-clause-found c = λ options skips known read.
     let refused = c.args.refused in
     let ok = refused.ok in
     found_left options skips known refused c.args.listed c.faults_left.result read

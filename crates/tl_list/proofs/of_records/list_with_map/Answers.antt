@@ -8,7 +8,7 @@ returns-in_ok-listed-in-Some-clause-found g c =
     let kept = rw (c.in-Some.is, ← c.skipped.ensures) at read in
     let lists = c.in_ok-listed-in-Some.ensures.listed in
     let came = left_text c.args.options known _ c.with-reader.ensures.left in
-    c.found_in.ensures c.args.options c.args.skips known (record {
+    c.found_in.ensures.found c.args.options c.args.skips known (record {
       all = refused_told c.args.options c.args.skips known _ c.in_ok-refused.field-0.refused.items c.with-reader.ensures.refusals kept.1.all;
       none = kept.1.none;
       told = kept_told c.args.options c.args.skips known _ _ c.in-Some.both c.in_ok-listed-in-Some.listed came kept.0 lists;

@@ -19,5 +19,8 @@ returns-in-Ok g c =
     let wanted : Wanted = record { name = string_bytes c.args.made.now; view = c.args.view; shows = c.args.shows_faults } in
     does_then w.before mid.before w.after w.log mid.log w.logged w.knows names (Some wanted.name) (IsSubjectOf c.args.options known wanted.shows) (StopsRecords (layout_with c.args.options) known) _
     c.in_ok-subject.ensures (IsDrawnOf mid wanted c.in-Ok.subject) (IsSaid (DrawAnswers w c.args.options known wanted)) StopsNever _ c.draw_subject.ensures
-    (λ answer drawn. says_drawn w c.args.options known wanted c.in-Ok.subject (rw c.in-Ok.is at c.in_ok-subject.ensures.answered) answer drawn.filling drawn.filled drawn.kept drawn.is)
+    (λ answer drawn. says_drawn w c.args.options known wanted c.in-Ok.subject (rw c.in-Ok.is at c.in_ok-subject.ensures.answered).0 answer drawn.filling drawn.filled drawn.kept drawn.is)
     (λ s never. absurd never)
+
+pub draw_subject-requires-clause-known : goal.draw_subject-requires-clause-known
+draw_subject-requires-clause-known g c = (rw c.in-Ok.is at c.in_ok-subject.ensures.answered).1
