@@ -8,6 +8,7 @@
 //! whether those of a sound map agree (`tl_check_face_faults`).
 #![tactic(auto)]
 
+mod agreeing;
 mod answer;
 mod faces;
 mod of_map;

@@ -16,10 +16,11 @@ ghost use Rattle.tl_build.specs.Keeping.Deciding.{Audits, Builds};
 ghost use Rattle.tl_build_propose.specs.Keeping.Lists.{lists_in};
 ghost use Rattle.tl_build_propose.specs.Keeping.Proposed.{IsProposal};
 
+use crate::agreeing::audit_agreeing;
 use crate::answer::{Audit, Built};
 use crate::points::{find_misplaced_beside, find_misplaced_by};
 use std::alloc::Global;
-use tl_build_propose::{find_sides_at_odds, propose, propose_walks};
+use tl_build_propose::{count_walks, find_sides_at_odds, propose, propose_walks};
 use tl_cert::Certificate;
 use tl_cert_output::Stop;
 use tl_check_sides::cells::find_cells_at_odds;
@@ -35,6 +36,19 @@ pub fn audit_planar(alloc: Global, map: &Map, suspects: &[u32]) -> Result<Audit,
     ensures { Audits map.now result }
 {
     map.has_proper_chains();
+    match count_walks(alloc, map)? {
+        Some(rings) => audit_agreeing(alloc, map, rings, suspects),
+        None => audit_by_walks(alloc, map, suspects),
+    }
+}
+
+/// Decides so by the walks themselves, which tell what two sides are at odds where some are.
+fn audit_by_walks(alloc: Global, map: &Map, suspects: &[u32]) -> Result<Audit, Stop>
+    requires planar { IsPlanar map.now.chains }
+    requires proper { AreProper map.now.chains }
+    requires suspects { AreSuspects map.now suspects.now }
+    ensures { Audits map.now result }
+{
     let walks = propose_walks(alloc, map)?;
     match find_fault(alloc, map, &walks, suspects)? {
         None => Ok(Audit::Sound(report(map, walks.len() as u32))),
@@ -109,7 +123,11 @@ fn find_fault_beside(
 }
 
 /// A suspect whose point doesn't lie where it has to, if there is one. Where there are no suspects nothing is looked at.
-fn look_at_suspects(alloc: Global, map: &Map, suspects: &[u32]) -> Result<Option<MapFault>, Memory>
+pub fn look_at_suspects(
+    alloc: Global,
+    map: &Map,
+    suspects: &[u32],
+) -> Result<Option<MapFault>, Memory>
     requires suspects { AreSuspects map.now suspects.now }
     ensures { IfOk result (λ found. MatchOption found (ArePlaced map.now) (IsTrueOfMap false map.now)) }
 {

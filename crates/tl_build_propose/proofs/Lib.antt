@@ -11,3 +11,4 @@ pub mod Holding
 pub mod Packed
 pub mod SideLemmas
 pub mod Soundness
+pub mod CountLemmas

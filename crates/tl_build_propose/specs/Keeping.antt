@@ -4,3 +4,4 @@ pub mod Sorting
 pub mod Following
 pub mod Proposed
 pub mod Siding
+pub mod Counted

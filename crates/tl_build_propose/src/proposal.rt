@@ -1,6 +1,6 @@
 //! The certificate that is proposed for a map.
 
-ghost use Rattle.std.specs.Prelude.{◌*◌, ◌≤◌, length, All, IfOk};
+ghost use Rattle.std.specs.Prelude.{◌*◌, ◌≤◌, length, All, IfOk, IfSome};
 ghost use Rattle.tl_tree_index.specs.Preorder.{IsPreorder};
 ghost use Rattle.tl_tree_index.specs.Trees.{depth, tree_of};
 ghost use Rattle.tl_tree_pack.specs.Packed.{IsEvenlySplit};
@@ -14,7 +14,9 @@ ghost use Rattle.tl_check_verdict.specs.Valid.{AreCounts, IsTree};
 ghost use Rattle.tl_build_propose.specs.Keeping.Lists.{lists_in};
 ghost use Rattle.tl_build_propose.specs.Keeping.Proposed.{IsProposal};
 ghost use Rattle.tl_build_propose.specs.Keeping.Sorting.{AreStarts};
+ghost use Rattle.tl_build_propose.specs.Keeping.Counted.{HaveWalksInAgreement};
 
+use crate::counted::count_traced;
 use crate::rounds::{cut_rounds, sort_starts};
 use crate::walks::{link_darts, trace_walks};
 use std::alloc::{AllocError, Global};
@@ -123,4 +125,31 @@ fn walks_of(alloc: Global, map: &Map, starts: Vec<HeadedDart>) -> Result<Vec<Vec
     drop(starts);
     let walks = trace_walks(alloc, &following)?;
     Ok(walks)
+}
+
+/// How many walks a map has where each of them has one side on its left; none is told where one has two. No walk is kept.
+pub fn count_walks(alloc: Global, map: &Map) -> Result<Option<u32>, AllocError>
+    // Where the chains are planar, they have so many walks, and their sides agree.
+    ensures { IfOk result (λ told. IfSome told (λ count. AreProper map.now.chains → IsPlanar map.now.chains →
+        HaveWalksInAgreement map.now.chains count)) }
+{
+    let starts = sort_starts(alloc, map)?;
+    count_walks_of(alloc, map, starts)
+}
+
+/// The same by the map's sorted darts, whose list is freed before walks are taken.
+fn count_walks_of(
+    alloc: Global,
+    map: &Map,
+    starts: Vec<HeadedDart>,
+) -> Result<Option<u32>, AllocError>
+    requires { AreStarts map.now.chains starts.items }
+    ensures { IfOk result (λ told. IfSome told (λ count. AreProper map.now.chains → HeadApart map.now.chains →
+        HaveWalksInAgreement map.now.chains count)) }
+{
+    // that the nodes of a map are one list
+    let _nodes = map.nodes();
+    let following = link_darts(alloc, &starts)?;
+    drop(starts);
+    count_traced(alloc, map, &following)
 }

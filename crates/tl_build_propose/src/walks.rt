@@ -110,7 +110,7 @@ fn trace_all(
 }
 
 /// Takes the darts that follow one another, from the first up to one that is taken.
-fn trace_walk(
+pub fn trace_walk(
     following: &[u32],
     taken: &mut [bool],
     first: u32,

@@ -1,0 +1,15 @@
+use Rattle.std.proofs.Common.{refl, subst}
+use Rattle.std.specs.Option.{IfSome, IsNone}
+use Rattle.tl_check_sides.specs.Cells.Cells.{CellsAgree, AreCellsAtOdds}
+use Rattle.tl_build.proofs.Decided.{sound_where}
+use Rattle.tl_build.proofs.agreeing.find_other_fault.Goals as goal
+
+pub returns-in-Some : goal.returns-in-Some
+returns-in-Some c = subst (λ found. IfSome found (λ odds. AreCellsAtOdds c.args.map.now.chains odds.first odds.second odds.first_id odds.second_id)) c.in-Some.is c.in_ok-odds.ensures.at_odds
+
+pub returns-in-None : goal.returns-in-None
+returns-in-None c =
+    let is = c.requires.agreeing.1 in
+    sound_where c.args.map.now is.walks is.are c.requires.planar
+    (is.agree, subst (λ found. IsNone found → CellsAgree c.args.map.now.chains) c.in-None.is c.in_ok-odds.ensures.agree refl)
+    c.look_at_suspects.result c.look_at_suspects.ensures
