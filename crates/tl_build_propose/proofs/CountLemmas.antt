@@ -1,6 +1,6 @@
 -- Walks that are counted, one after the other.
-use Rattle.std.proofs.Common.{◌≡◌, ℕ, ◌+◌, ◌*◌, ◌<◌, ◌≤◌, Bool, List, [], length, slice_index, refl, ap, subst, ◌∙◌, inl, inr, arith, Option, Some, None, Result, Ok, Err}
-use Rattle.std.specs.Prelude.{IfOk, IfSome}
+use Rattle.std.proofs.Common.{◌≡◌, ℕ, ◌+◌, ◌*◌, ◌<◌, ◌≤◌, Bool, List, [], length, slice_index, refl, ap, subst, ◌∙◌, inl, inr, arith, Option, Some, None, Result, Ok, Err, suc, sym}
+use Rattle.std.specs.Prelude.{IfOk, MatchOption}
 use Rattle.std.proofs.lemmas.Bool.{cases_lt}
 use Rattle.tl_map_county.specs.TheMap.{MapChain}
 use Rattle.tl_tree_index.specs.Keeping.Marked.{mark_at}
@@ -9,6 +9,9 @@ use Rattle.tl_check_planar.specs.Planar.{IsPlanar}
 use Rattle.tl_check_faces.specs.Crossings.Headings.{AreProper, HeadApart}
 use Rattle.tl_check_faces.proofs.CrossingsLemmas.Apart.{apart}
 use Rattle.tl_check_sides.specs.Lists.{and_list, EachList, HoldOnce}
+use Rattle.tl_map_county.specs.Darts.{reverse_dart, dart_left}
+use Rattle.tl_check_sides.specs.Sides.{IsNext, Follows, SidesAgree}
+use Rattle.tl_check_sides.proofs.Boundaries.{back_again}
 use Rattle.tl_check_sides.specs.Rounds.{AreRounds}
 use Rattle.tl_check_sides.specs.Walks.{AreWalks}
 use Rattle.tl_check_sides.specs.Keeping.Marked.{AddMarks}
@@ -18,9 +21,9 @@ use Rattle.tl_check_sides.proofs.TakeFacts.{mark_more}
 use Rattle.tl_build_propose.specs.Keeping.Following.{IsOneToOne, IsLinkedIn, AreFollowed, GoesBy}
 use Rattle.tl_build_propose.specs.Keeping.Lists.{AreUnmarked}
 use Rattle.tl_build_propose.specs.Keeping.Siding.{HasOneLeft}
-use Rattle.tl_build_propose.specs.Keeping.Counted.{AreCounted, AreTraced, HaveWalksInAgreement}
+use Rattle.tl_build_propose.specs.Keeping.Counted.{AreCounted, AreTraced, HasTwoLefts, HaveWalksInAgreement}
 use Rattle.tl_build_propose.proofs.MarkFacts.{no_lists, some_taken, stay_taken}
-use Rattle.tl_build_propose.proofs.RingLemmas.{one_to_one, are_walks}
+use Rattle.tl_build_propose.proofs.RingLemmas.{one_to_one, follows, are_walks}
 use Rattle.tl_build_propose.proofs.SideLemmas.{agree}
 
 -- what is taken is one of the darts that have marks
@@ -90,17 +93,29 @@ module _ (chains : List MapChain) where
       let walks : AreWalks chains is.walks = are_walks chains proper rounds are following long linked is.walks (subst (λ n. HoldOnce n is.walks) long is.hold) is.some (is.goes only) in
       record { walks = is.walks; are = walks; many = is.many; agree = agree chains heads is.walks walks is.one }
 
+  -- where a walk changes its side, sides don't agree
+  changed : (following : List ℕ) (rounds : List (List ℕ)) → length following ≡ 2 * length chains → EachList (IsLinkedIn following) rounds →
+      HoldOnce (2 * length chains) rounds → AreProper chains → AreRounds chains rounds → HasTwoLefts chains following → SidesAgree chains → ⊥
+  changed following rounds long linked hold proper are is sides =
+      let only : IsOneToOne following = one_to_one (length chains) rounds following hold long linked in
+      let d = slice_index is.walk is.changes.place in
+      let e = slice_index is.walk (suc is.changes.place) in
+      let leads : e ≡ slice_index following d = is.goes only (suc is.changes.place) is.changes.within in
+      let place : is.changes.place < length is.walk = omega (arith, is.changes.within) in
+      let led : Follows chains d (slice_index following d) = follows chains proper rounds are following long linked d (is.darts is.changes.place place) in
+      let next : IsNext chains e (reverse_dart d) = subst (λ x. IsNext chains x (reverse_dart d)) (sym leads) led.next in
+      is.changes.two (sides e (reverse_dart d) next ∙ ap (dart_left chains) (back_again d))
+
   pub told_of : (following : List ℕ) (rounds : List (List ℕ)) → length following ≡ 2 * length chains → EachList (IsLinkedIn following) rounds →
       HoldOnce (2 * length chains) rounds → (HeadApart chains → AreRounds chains rounds) → {E : Type 0} (told : Result (Option ℕ) E) →
-      IfOk told (λ t. IfSome t (AreTraced chains following)) →
-      IfOk told (λ t. IfSome t (λ count. AreProper chains → HeadApart chains → HaveWalksInAgreement chains count))
+      IfOk told (λ t. MatchOption t (HasTwoLefts chains following) (AreTraced chains following)) →
+      IfOk told (λ t. AreProper chains → HeadApart chains → MatchOption t (¬ SidesAgree chains) (HaveWalksInAgreement chains))
   told_of following rounds long linked hold are (Ok (Some count)) is = λ proper heads. in_agreement following rounds long linked hold proper heads (are heads) count is
-  told_of following rounds long linked hold are (Ok None) is = tt
+  told_of following rounds long linked hold are (Ok None) is = λ proper heads. changed following rounds long linked hold proper (are heads) is
   told_of following rounds long linked hold are (Err refused) is = tt
 
   pub where_planar : {E : Type 0} (told : Result (Option ℕ) E) →
-      IfOk told (λ t. IfSome t (λ count. AreProper chains → HeadApart chains → HaveWalksInAgreement chains count)) →
-      IfOk told (λ t. IfSome t (λ count. AreProper chains → IsPlanar chains → HaveWalksInAgreement chains count))
-  where_planar (Ok (Some count)) is = λ proper planar. is proper (apart chains planar proper)
-  where_planar (Ok None) is = tt
+      IfOk told (λ t. AreProper chains → HeadApart chains → MatchOption t (¬ SidesAgree chains) (HaveWalksInAgreement chains)) →
+      IfOk told (λ t. AreProper chains → IsPlanar chains → MatchOption t (¬ SidesAgree chains) (HaveWalksInAgreement chains))
+  where_planar (Ok told) is = λ proper planar. is proper (apart chains planar proper)
   where_planar (Err refused) is = tt

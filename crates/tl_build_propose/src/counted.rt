@@ -1,10 +1,10 @@
 //! The walks of a map, which are counted and not kept.
 
-ghost use Rattle.std.specs.Prelude.{◌≡◌, ℕ, ◌<◌, ◌*◌, ◌^◌, zero, length, All, IfOk, IfSome, IsTrue, slice_index};
+ghost use Rattle.std.specs.Prelude.{◌≡◌, ℕ, ◌<◌, ◌^◌, zero, length, All, IfOk, MatchOption, IsTrue, IsFalse, slice_index};
 ghost use Rattle.tl_check_sides.specs.Sides.{dart_count};
 ghost use Rattle.tl_build_propose.specs.Keeping.Lists.{AreUnmarked};
 ghost use Rattle.tl_build_propose.specs.Keeping.Siding.{HasOneLeft};
-ghost use Rattle.tl_build_propose.specs.Keeping.Counted.{AreTraced};
+ghost use Rattle.tl_build_propose.specs.Keeping.Counted.{AreTraced, ChangesSide, HasTwoLefts};
 
 use crate::walks::trace_walk;
 use std::alloc::{AllocError, Global};
@@ -16,7 +16,8 @@ pub fn count_traced(alloc: Global, map: &Map, following: &[u32]) -> Result<Optio
     requires known { All (λ d. d < length following.now) following.now }
     requires darts { length following.now ≡ dart_count map.now.chains }
     requires counted { length following.now < 2 ^ 32 }
-    ensures { IfOk result (λ count. IfSome count (AreTraced map.now.chains following.now)) }
+    ensures { IfOk result (λ told. MatchOption told (HasTwoLefts map.now.chains following.now)
+        (AreTraced map.now.chains following.now)) }
 {
     let mut taken = vec![in alloc; false; following.len()]?;
     count_all(alloc, map, following, &mut taken)
@@ -34,7 +35,8 @@ fn count_all(
     requires counted { length following.now < 2 ^ 32 }
     requires long { length taken.old ≡ length following.now }
     requires free { AreUnmarked taken.old }
-    ensures { IfOk result (λ count. IfSome count (AreTraced map.now.chains following.now)) }
+    ensures { IfOk result (λ told. MatchOption told (HasTwoLefts map.now.chains following.now)
+        (AreTraced map.now.chains following.now)) }
 {
     let mut walk = Vec::new(alloc);
     let mut count = 0u32;
@@ -55,7 +57,8 @@ fn count_all(
 fn has_one_left(map: &Map, walk: &[u32]) -> bool
     requires some { zero < length walk.now }
     requires darts { (k : ℕ) → k < length walk.now → slice_index walk.now k < dart_count map.now.chains }
-    ensures { IsTrue result → HasOneLeft map.now.chains walk.now }
+    ensures one { IsTrue result → HasOneLeft map.now.chains walk.now }
+    ensures two { IsFalse result → ChangesSide map.now.chains walk.now }
 {
     let left = map.dart_left(walk[0]);
     for place in 1..walk.len() {

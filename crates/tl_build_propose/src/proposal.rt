@@ -1,11 +1,12 @@
 //! The certificate that is proposed for a map.
 
-ghost use Rattle.std.specs.Prelude.{◌*◌, ◌≤◌, length, All, IfOk, IfSome};
+ghost use Rattle.std.specs.Prelude.{◌*◌, ◌≤◌, length, All, IfOk, MatchOption};
 ghost use Rattle.tl_tree_index.specs.Preorder.{IsPreorder};
 ghost use Rattle.tl_tree_index.specs.Trees.{depth, tree_of};
 ghost use Rattle.tl_tree_pack.specs.Packed.{IsEvenlySplit};
 ghost use Rattle.tl_check_planar.specs.Planar.{IsPlanar};
 ghost use Rattle.tl_check_sides.specs.Lists.{HoldOnce};
+ghost use Rattle.tl_check_sides.specs.Sides.{SidesAgree};
 ghost use Rattle.tl_check_sides.specs.Rounds.{AreRounds};
 ghost use Rattle.tl_check_sides.specs.Walks.{AreWalks};
 ghost use Rattle.tl_check_faces.specs.Crossings.Headings.{AreProper, HeadApart};
@@ -129,9 +130,9 @@ fn walks_of(alloc: Global, map: &Map, starts: Vec<HeadedDart>) -> Result<Vec<Vec
 
 /// How many walks a map has where each of them has one side on its left; none is told where one has two. No walk is kept.
 pub fn count_walks(alloc: Global, map: &Map) -> Result<Option<u32>, AllocError>
-    // Where the chains are planar, they have so many walks, and their sides agree.
-    ensures { IfOk result (λ told. IfSome told (λ count. AreProper map.now.chains → IsPlanar map.now.chains →
-        HaveWalksInAgreement map.now.chains count)) }
+    // Where the chains are planar: they have so many walks, and their sides agree; or where none is told, their sides don't.
+    ensures { IfOk result (λ told. AreProper map.now.chains → IsPlanar map.now.chains →
+        MatchOption told (¬ SidesAgree map.now.chains) (HaveWalksInAgreement map.now.chains)) }
 {
     let starts = sort_starts(alloc, map)?;
     count_walks_of(alloc, map, starts)
@@ -144,8 +145,8 @@ fn count_walks_of(
     starts: Vec<HeadedDart>,
 ) -> Result<Option<u32>, AllocError>
     requires { AreStarts map.now.chains starts.items }
-    ensures { IfOk result (λ told. IfSome told (λ count. AreProper map.now.chains → HeadApart map.now.chains →
-        HaveWalksInAgreement map.now.chains count)) }
+    ensures { IfOk result (λ told. AreProper map.now.chains → HeadApart map.now.chains →
+        MatchOption told (¬ SidesAgree map.now.chains) (HaveWalksInAgreement map.now.chains)) }
 {
     // that the nodes of a map are one list
     let _nodes = map.nodes();

@@ -3,6 +3,7 @@ use Rattle.std.proofs.lemmas.Option.{slice_get-get_or}
 use Rattle.tl_tree_index.specs.Keeping.Marked.{mark_at}
 use Rattle.tl_tree_index.proofs.Marks.{unmarked, is-marked}
 use Rattle.tl_build_propose.specs.Keeping.Siding.{HasOneLeft}
+use Rattle.tl_build_propose.specs.Keeping.Counted.{ChangesSide}
 use Rattle.tl_build_propose.proofs.CountLemmas.{walk_within, none_counted, one_counted, all_counted}
 use Rattle.tl_build_propose.proofs.MarkFacts.{some_taken}
 use Rattle.tl_build_propose.proofs.counted.count_all.Goals as goal
@@ -28,7 +29,7 @@ loop-first-preserved-then-taken-first c =
 pub loop-first-preserved : goal.loop-first-preserved
 loop-first-preserved c =
     let walk = c.trace_walk.new.walk.items in
-    let one : HasOneLeft c.args.map.now.chains walk = subst (HasOneLeft c.args.map.now.chains) c.deref.ensures.value (c.has_one_left.ensures c.if-not-has_one_left.false) in
+    let one : HasOneLeft c.args.map.now.chains walk = subst (HasOneLeft c.args.map.now.chains) c.deref.ensures.value (c.has_one_left.ensures.one c.if-not-has_one_left.false) in
     one_counted c.args.map.now.chains c.args.following.now c.loop-first.taken c.trace_walk.new.taken walk c.loop-first.first c.loop-first.count c.loop-first.invariant
     c.in_ok-trace_walk.ensures.taken (unmarked c.loop-first.taken c.loop-first.first c.if-taken-first.false) c.in_ok-trace_walk.ensures.begun
     c.in_ok-trace_walk.ensures.goes c.in_ok-trace_walk.ensures.followed one
@@ -73,3 +74,13 @@ pub has_one_left-requires-clause-darts : goal.has_one_left-requires-clause-darts
 has_one_left-requires-clause-darts c = rw c.deref.ensures.value (λ k h.
     let within = walk_within c.loop-first.taken c.trace_walk.new.taken c.trace_walk.new.walk.items c.in_ok-trace_walk.ensures.taken k h in
     omega (arith, within, c.in_ok-trace_walk.ensures.taken.long, c.loop-first.invariant.marks.long, c.requires.darts))
+
+pub returns-then-not-has_one_left : goal.returns-then-not-has_one_left
+returns-then-not-has_one_left c = record {
+  walk = c.trace_walk.new.walk.items;
+  darts = λ k h.
+      let within = walk_within c.loop-first.taken c.trace_walk.new.taken c.trace_walk.new.walk.items c.in_ok-trace_walk.ensures.taken k h in
+      omega (arith, within, c.in_ok-trace_walk.ensures.taken.long, c.loop-first.invariant.marks.long, c.requires.darts);
+  goes = λ one_to_one. c.in_ok-trace_walk.ensures.goes one_to_one (c.loop-first.invariant.followed one_to_one);
+  changes = subst (ChangesSide c.args.map.now.chains) c.deref.ensures.value (c.has_one_left.ensures.two c.if-not-has_one_left.true);
+}
