@@ -12,3 +12,4 @@ pub mod Telling
 pub mod Emptiness
 pub mod Listing
 pub mod Touching
+pub mod Outside

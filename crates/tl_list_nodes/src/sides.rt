@@ -23,10 +23,15 @@ use tl_tree_index::Memory;
 pub fn all_disagreements(alloc: Global, map: &Map) -> Result<Vec<Disagreement>, Memory>
     ensures { IfOk result (λ found. AreAllDisagreements map.now.chains found.items) }
 {
+    let mut found = Vec::new(alloc);
+    // So all sides of a map without polygons are the outside, and none differ.
+    map.names_its_polygons();
+    if map.polygons() == 0 {
+        return Ok(found);
+    }
     let Ok(groups) = Groups::new(alloc, map) else {
         return Err(Memory);
     };
-    let mut found = Vec::new(alloc);
     for dart in 0..map.darts() {
         push_next(map, dart, groups.next_after(map, dart), &mut found)?;
     }

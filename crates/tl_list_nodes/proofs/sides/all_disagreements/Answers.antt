@@ -1,8 +1,14 @@
-use Rattle.std.proofs.Common.{arith}
+use Rattle.std.proofs.Common.{◌≡◌, length, arith}
 use Rattle.std.proofs.lemmas.Result.{err_from_is_err_and}
 use Rattle.tl_check_meets.proofs.Reaching.{none_yet}
 use Rattle.tl_list_nodes.proofs.Rows.{all_of}
+use Rattle.tl_list_nodes.proofs.Outside.{none_without_polygons}
 use Rattle.tl_list_nodes.proofs.sides.all_disagreements.Goals as goal
+
+pub returns-then-polygons-eq0 : goal.returns-then-polygons-eq0
+returns-then-polygons-eq0 c =
+    let none : length c.args.map.now.polygons ≡ 0 = omega (arith, c.polygons.ensures, c.if-polygons-eq0.true) in
+    rw c.new-found.ensures.items (none_without_polygons c.args.map.now.chains (length c.args.map.now.polygons) none c.names_its_polygons.ensures)
 
 pub loop-dart-init : goal.loop-dart-init
 loop-dart-init c = record { grouped = c.in-Ok.ensures; found = rw c.new-found.ensures.items (none_yet _ _ _ _) }
