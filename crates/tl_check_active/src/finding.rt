@@ -57,6 +57,7 @@ pub fn go_to(map: &Map, line: &mut Line, p: Point) -> Result<(), AllocError>
 
 /// Goes to the place of a point at which segments may end: before the first of these or, if none does or it isn't found, as
 /// [`go_to`] does. The error is that memory was refused.
+#[inline(always)]
 pub fn go_to_first(
     map: &Map,
     p: Point,

@@ -105,6 +105,7 @@ fn replace(map: &Map, line: &mut Line, outs: &[u32], ins: &[u32]) -> Result<bool
 
 /// Takes these segments off the list at the place and puts those in, if the former stand there and each of the latter may stand
 /// behind the one before it. As many as there are of both stand in each other's stead, and only the others move what is behind.
+#[inline(always)]
 pub fn shift(map: &Map, line: &mut Line, outs: &[u32], ins: &[u32]) -> Result<bool, AllocError>
     ensures front { IfOk result (λ done. IsTrue done → line.new.front ≡ line.old.front ++ ins.now) }
     ensures back { IfOk result (λ done. IsTrue done → line.old.back ≡ outs.now ++ line.new.back) }

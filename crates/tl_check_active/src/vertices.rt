@@ -51,6 +51,7 @@ fn note_all(
 
 /// The segments that end at the point of a place's events, and those that begin there; and how far these events go. The error is
 /// that memory was refused.
+#[inline(always)]
 pub fn gather(
     events: &Events,
     from: usize,

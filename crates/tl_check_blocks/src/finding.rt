@@ -128,6 +128,7 @@ fn find_place<S: Seeks>(sought: &S, line: &Line, places: &Places, numbers: &[u32
 
 /// Goes to the place of what is sought, at which these numbers may stand: before the first of these or, if there is none or it isn't
 /// found, as [`go_to`] does. The error is that memory was refused.
+#[inline(always)]
 pub fn go_to_first<S: Seeks>(
     line: &mut Line,
     sought: &S,
