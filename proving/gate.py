@@ -1,13 +1,14 @@
 #!/usr/bin/env python3
 """The merge gate: `rt ci`, and behind it what only the built program can show. The last line counts all of it."""
 
+import multiprocessing
 import os
 import re
 import resource
 import subprocess
 import sys
 import time
-from concurrent.futures import ThreadPoolExecutor
+from concurrent.futures import ProcessPoolExecutor
 from pathlib import Path
 
 sys.path.append(str(Path(__file__).resolve().parents[1] / "tests"))
@@ -111,6 +112,23 @@ def timed(part):
     return well, ill + (well + ill == 0)
 
 
+def apart(part):
+    """The same in a process of its own, with what was skipped there."""
+    before = len(skipped.PARTS)
+    return *timed(part), skipped.PARTS[before:]
+
+
+def play_side_by_side(found):
+    """Plays these parts side by side, and gives the two numbers of each. Each has a process, since most of what they take is
+    Python's own, of which one process does one thing at a time."""
+    counts = []
+    with ProcessPoolExecutor(len(os.sched_getaffinity(0)), multiprocessing.get_context("fork")) as pool:
+        for well, ill, missing in pool.map(apart, found):
+            counts.append((well, ill))
+            skipped.PARTS += missing
+    return counts
+
+
 def main():
     begun = time.monotonic()
     with times.Watch() as watch:
@@ -118,8 +136,7 @@ def main():
     print(f"the proofs, in processor minutes:\n{times.table(watch.seconds())}", flush=True)
     # Where a proof failed, the program is not the one that was proved.
     if not counts[0][1]:
-        with ThreadPoolExecutor(len(os.sched_getaffinity(0))) as pool:
-            counts += pool.map(timed, parts())
+        counts += play_side_by_side(parts())
     used = resource.getrusage(resource.RUSAGE_CHILDREN)
     print(f"{(time.monotonic() - begun) / 60:.0f} minutes, {(used.ru_utime + used.ru_stime) / 60:.0f} processor minutes")
     if skipped.PARTS:

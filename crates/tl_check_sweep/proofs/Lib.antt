@@ -4,7 +4,6 @@ pub mod Touching
 pub mod Pushing
 pub mod Under
 pub mod Answered
-pub mod Parted
 pub mod Deciding
 pub mod Putting
 pub mod Exactly

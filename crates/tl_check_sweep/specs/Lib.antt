@@ -1,4 +1,3 @@
 -- What the contracts of sweeps cite.
 pub mod Deciding
 pub mod Keeping
-pub mod Parts

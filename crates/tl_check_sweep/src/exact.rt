@@ -36,7 +36,7 @@ fn lies_east(map: &Map, s: u32, p: Point) -> bool
 }
 
 /// Whether a segment ends at a point, as its higher end.
-pub fn ends_at(map: &Map, s: u32, p: Point) -> bool
+fn ends_at(map: &Map, s: u32, p: Point) -> bool
     ensures here { IsTrue result → EndsAt map.now.chains p s }
     ensures elsewhere { result ≡ false → EndsElsewhere map.now.chains p s }
 {

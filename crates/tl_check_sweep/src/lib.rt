@@ -9,18 +9,14 @@
 //!
 //! On its way it looks at polygons' points, and at the gaps whose facing sides differ (`tl_check_gaps`): it counts the places along the list
 //! where sides differ, and only where there are such does it look at the gaps about a vertex.
-//!
-//! Of a map whose chains aren't planar, [`planar_part`] takes chains out until those that remain are.
 #![tactic(auto)]
 
 mod answer;
 mod exact;
 mod meets;
 mod passing;
-mod remaining;
 mod suspects;
 mod sweeping;
-mod taking;
 
 pub use answer::{SweepReport, Swept, sweep};
-pub use remaining::{PlanarPart, planar_part};
+pub use meets::may_meet;

@@ -2,7 +2,7 @@
 
 ghost use Rattle.std.specs.Prelude.{◌≢◌, ◌↔◌, ℕ, [], IfOk, OnOk, Contains};
 ghost use Rattle.tl_check_meets.specs.Meets.{AreAllMeets};
-ghost use Rattle.tl_check_sweep.specs.Parts.{IsPlanarPart};
+ghost use Rattle.tl_check_remaining.specs.Parts.{IsPlanarPart};
 ghost use Rattle.tl_list_nodes.specs.Disagreements.{AreAllDisagreements};
 ghost use Rattle.tl_list_nodes.specs.Touched.{AreAllTouched};
 ghost use Rattle.tl_list_points.specs.Hidden.{IsMarked, AreMapsAlikeBut};
@@ -13,7 +13,7 @@ use crate::tell::{push_meets, push_sides};
 use std::alloc::Global;
 use tl_check_planar::Meet;
 use tl_check_sides::Disagreement;
-use tl_check_sweep::PlanarPart;
+use tl_check_remaining::PlanarPart;
 use tl_check_verdict::MapFault;
 use tl_list_points::suspects_by_part;
 use tl_list_text::Listing;

@@ -4,7 +4,7 @@ ghost use Rattle.std.specs.Prelude.{IfOk, IfSome, OnOk, length, Contains};
 ghost use Rattle.tl_map_county.specs.Segments.{segments_before};
 ghost use Rattle.tl_check_planar.specs.Rectangles.{segment_rect};
 ghost use Rattle.tl_check_inside.specs.Suspects.{AreSuspects};
-ghost use Rattle.tl_check_sweep.specs.Parts.{IsPlanarPart};
+ghost use Rattle.tl_check_remaining.specs.Parts.{IsPlanarPart};
 ghost use Rattle.tl_list_points.specs.Hidden.{IsMarked};
 ghost use Rattle.tl_list.specs.Keeping.OfMap.{AddsAgreement, AddsCells, AddsPoints};
 
@@ -12,7 +12,8 @@ use crate::tell::{push_cells, push_points, push_sides};
 use std::alloc::Global;
 use tl_check_gaps::Gaps;
 use tl_check_planar::Segments;
-use tl_check_sweep::{PlanarPart, SweepReport, sweep};
+use tl_check_remaining::PlanarPart;
+use tl_check_sweep::{SweepReport, sweep};
 use tl_check_verdict::MapFault;
 use tl_list_nodes::{all_cells_at_odds, all_disagreements, touched_polygons};
 use tl_list_points::{all_misplaced_among, hide_polygons, marks_of};

@@ -20,8 +20,8 @@ use Rattle.tl_check_inside.specs.Places.{IsHeldBy, IsOffChains}
 use Rattle.tl_check_inside.specs.Keeping.Tallies.{TellCounts}
 use Rattle.tl_check_faces.specs.Crossings.Headings.{AreProper}
 use Rattle.tl_check_faces.proofs.Parted.{tell_turned, off_both}
-use Rattle.tl_check_sweep.specs.declared.remaining.PlanarPart.{PlanarPart}
-use Rattle.tl_check_sweep.specs.Parts.{IsPlanarPart}
+use Rattle.tl_check_remaining.specs.declared.remaining.PlanarPart.{PlanarPart}
+use Rattle.tl_check_remaining.specs.Parts.{IsPlanarPart}
 use Rattle.tl_check_counts.specs.Counts.{AreCountsAt}
 use Rattle.tl_check_counts.proofs.Known.{one_known}
 use Rattle.tl_list_points.specs.Keeping.Joined.{AreJoined, IsApart, IsSifted, turned}

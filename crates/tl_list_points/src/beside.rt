@@ -6,7 +6,7 @@ ghost use Rattle.tl_map_county.specs.Remaining.{map_without};
 ghost use Rattle.tl_check_planar.specs.Rectangles.{segment_rect};
 ghost use Rattle.tl_check_inside.specs.Keeping.Probing.{ChainsAreInReach};
 ghost use Rattle.tl_check_inside.specs.Suspects.{AreSuspects};
-ghost use Rattle.tl_check_sweep.specs.Parts.{IsPlanarPart};
+ghost use Rattle.tl_check_remaining.specs.Parts.{IsPlanarPart};
 ghost use Rattle.tl_list_points.specs.Keeping.Joined.{turned, IsApart, IsSifted};
 
 use crate::misplaced::look_about;
@@ -15,7 +15,7 @@ use crate::room::Room;
 use std::alloc::Global;
 use tl_check_inside::{Site, look_at_points};
 use tl_check_planar::Segments;
-use tl_check_sweep::PlanarPart;
+use tl_check_remaining::PlanarPart;
 use tl_geom::Point;
 use tl_map_county::Map;
 use tl_tree::FlatTree;

@@ -6,7 +6,7 @@ ghost use Rattle.tl_map_county.specs.Remaining.{map_without};
 ghost use Rattle.tl_check_planar.specs.Rectangles.{segment_rect};
 ghost use Rattle.tl_check_inside.specs.Keeping.Probing.{ChainsAreInReach};
 ghost use Rattle.tl_check_inside.specs.Places.{IsOffChains};
-ghost use Rattle.tl_check_sweep.specs.Parts.{IsPlanarPart};
+ghost use Rattle.tl_check_remaining.specs.Parts.{IsPlanarPart};
 ghost use Rattle.tl_check_counts.specs.Counts.{AreCountsAt};
 ghost use Rattle.tl_list_points.specs.Keeping.Joined.{AreJoined, turned};
 
@@ -16,7 +16,7 @@ use std::alloc::Global;
 use tl_check_counts::{PointCounts, count_at};
 use tl_check_inside::{Flanks, Site, look_at_points};
 use tl_check_planar::Segments;
-use tl_check_sweep::PlanarPart;
+use tl_check_remaining::PlanarPart;
 use tl_map_county::Map;
 use tl_tree::FlatTree;
 use tl_tree_index::{BoxIndex, Memory, TreeStop};

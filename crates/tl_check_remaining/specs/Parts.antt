@@ -4,7 +4,7 @@ use Rattle.tl_map_county.specs.TheMap.{TheMap}
 use Rattle.tl_map_county.specs.Remaining.{map_without}
 use Rattle.tl_check_planar.specs.Planar.{IsPlanar}
 use Rattle.tl_check_inside.specs.Suspects.{AreSuspects}
-use Rattle.tl_check_sweep.specs.declared.remaining.PlanarPart.{PlanarPart}
+use Rattle.tl_check_remaining.specs.declared.remaining.PlanarPart.{PlanarPart}
 
 -- each chain of the map has a mark, and the chains that aren't marked are planar; in the map of these the points of all polygons but the
 -- suspects lie where they have to

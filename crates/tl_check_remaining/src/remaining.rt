@@ -1,12 +1,12 @@
 //! The part of a map whose chains are planar among themselves, where all of them aren't.
 ghost use Rattle.std.specs.Prelude.{◌≡◌, ◌<◌, IfOk, length};
-ghost use Rattle.tl_check_sweep.specs.Parts.{IsPlanarPart};
+ghost use Rattle.tl_check_remaining.specs.Parts.{IsPlanarPart};
 
-use crate::answer::{SweepReport, Swept, sweep};
 use crate::taking::take_out;
 use std::alloc::{AllocError, Global};
 use tl_check_gaps::{Gaps, list_unmarked};
 use tl_check_planar::Meet;
+use tl_check_sweep::{SweepReport, Swept, sweep};
 use tl_map_county::Map;
 
 /// How often chains that remain are swept at most, where some of them meet after all.

@@ -8,7 +8,7 @@ use Rattle.std.proofs.lemmas.List.{length-replicate}
 use Rattle.tl_map_county.specs.TheMap.{TheMap, MapChain}
 use Rattle.tl_map_county.specs.Remaining.{remaining, map_without}
 use Rattle.tl_check_planar.specs.Planar.{IsPlanar}
-use Rattle.tl_check_sweep.specs.Parts.{IsPlanarPart}
+use Rattle.tl_check_remaining.specs.Parts.{IsPlanarPart}
 
 all_gone : (chains : List MapChain) → remaining (replicate (length chains) true) chains ≡ []
 all_gone [] = refl

@@ -1,7 +1,7 @@
 use Rattle.std.proofs.Common.{◌∙◌, rules, ap}
 use Rattle.tl_map_county.specs.Remaining.{map_without}
-use Rattle.tl_check_sweep.proofs.Parted.{none_remain, none_long, all_suspected}
-use Rattle.tl_check_sweep.proofs.remaining.part_of_none.Goals as goal
+use Rattle.tl_check_remaining.proofs.Parted.{none_remain, none_long, all_suspected}
+use Rattle.tl_check_remaining.proofs.remaining.part_of_none.Goals as goal
 
 pub returns : goal.returns
 returns c =

@@ -4,11 +4,10 @@
 //! and those that become neighbours so are tested in their turn. Nothing rests on what is found: whether the others are planar a sweep over
 //! these alone has to say.
 
-use crate::exact::ends_at;
-use crate::meets::may_meet;
 use std::alloc::{AllocError, Global};
-use tl_check_active::{Event, Events, are_tested, bend, gather, go_to_first, order};
+use tl_check_active::{Event, Events, are_one, are_tested, bend, ends, gather, go_to_first, order};
 use tl_check_blocks::{Line, Places};
+use tl_check_sweep::may_meet;
 use tl_geom::Point;
 use tl_map_county::Map;
 
@@ -30,6 +29,11 @@ pub fn take_out(alloc: Global, map: &Map) -> Result<Vec<bool>, AllocError> {
     let mut taking = Taking::new(alloc, map)?;
     taking.sweep(alloc, &events)?;
     taking.into_marks(alloc)
+}
+
+/// Whether a segment ends at a point, as its higher end.
+fn ends_at(map: &Map, s: u32, p: Point) -> bool {
+    s < map.segments() && are_one(ends(map.segment(s)).1, p)
 }
 
 /// How many segments each chain has.

@@ -1,0 +1,2 @@
+-- What the contract of the part that remains cites.
+pub mod Parts
