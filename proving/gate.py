@@ -70,17 +70,20 @@ def parts():
     """What the built program is asked for, the longest first, each with what plays it and gives how many cases passed and how many
     failed."""
     found = [
-        ("maps judged", judged.play_all),
-        ("certificates", certificates.play_all),
         ("answers at full size", full_size.play_all),
+        ("decisions at full size", full_size.play_decisions),
         ("lists at full size", full_size.play_lists),
         ("refused allocations", memory.play_all),
+        ("maps judged", judged.play_all),
+        ("maps in parts", maps_in_parts.play_all),
+        ("faces of maps", faced.play_all),
+        ("counties that are joined", joined.play_all),
+        ("certificates", certificates.play_all),
+        ("rows", rows.play_all),
+        ("rows over the core", core.play_all),
         ("failed reads and writes", devices.play_all),
         ("examples", examples.play_all),
         ("many counties", counties.play_all),
-        ("faces of maps", faced.play_all),
-        ("maps in parts", maps_in_parts.play_all),
-        ("counties that are joined", joined.play_all),
         ("files made over others", made_files.play_all),
         ("pictures", pictures.play_all),
         ("manual page, completions and programs of the libraries", installed.play_all),
@@ -88,8 +91,6 @@ def parts():
         ("progress", progress.play_all),
         ("a county mended", mended.play_all),
         ("objects of JSON", objects.play_all),
-        ("rows", rows.play_all),
-        ("rows over the core", core.play_all),
         ("what pages name", cited.play_all),
         ("promises", promises.play_all),
     ]
@@ -98,7 +99,7 @@ def parts():
     if readings.can_play():
         found.append(("how often files are read", readings.play_all))
     if ways.can_play():
-        found.append(("sweeps of each command", ways.play_all))
+        found.insert(0, ("sweeps of each command", ways.play_all))
     return found
 
 

@@ -163,6 +163,13 @@ def play_all(program=PROGRAM, measures=False):
         refusal = f"refused line {lines + 1} L4 OutOfRange TOLAT\n"
         plays.play("a late refusal", [county_file, late], 3, "", refusal)
         play_maps(plays, county_file, tlids)
+    return plays.passed, plays.failed
+
+
+def play_decisions(program=PROGRAM, measures=False):
+    """What is decided and where points lie, by itself: it takes as long as the rest, and the gate plays it beside that."""
+    with tempfile.TemporaryDirectory() as folder:
+        plays = Plays(program, folder, measures)
         play_checks(plays)
         play_path(plays)
         play_squares(plays)
@@ -173,7 +180,7 @@ def play_all(program=PROGRAM, measures=False):
 
 
 def play_lists(program=PROGRAM, measures=False):
-    """The lists of all faults by themselves: they take as long as a third of the rest, and the gate plays them beside it."""
+    """The lists of all faults by themselves, which the gate plays beside the rest too."""
     with tempfile.TemporaryDirectory() as folder:
         plays = Plays(program, folder, measures)
         full_lists.play_all(plays)
@@ -376,7 +383,7 @@ def play_maps(plays, county_file, tlids):
 if __name__ == "__main__":
     words = sys.argv[1:]
     measures = words[:1] == ["--measure"]
-    parts = [play(*words[measures : measures + 1], measures=measures) for play in (play_all, play_lists)]
+    parts = [play(*words[measures : measures + 1], measures=measures) for play in (play_all, play_decisions, play_lists)]
     passed, failed = (sum(column) for column in zip(*parts))
     print(f"{passed} passed, {failed} failed")
     sys.exit(failed > 0 or passed == 0)

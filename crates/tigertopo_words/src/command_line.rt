@@ -23,7 +23,7 @@ use clap::{Arg, ArgAction, Command};
 use std::alloc::{AllocError, Global};
 
 // The version, and the line of the kit that the program is proved with.
-const VERSION: &str = "0.5.0, proved with rattle-kit-13f logic dac8208d650f15bf";
+const VERSION: &str = "0.5.1, proved with rattle-kit-13f logic dac8208d650f15bf";
 
 /// A command of the program.
 #[derive(Clone, Copy)]
