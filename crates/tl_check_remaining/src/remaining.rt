@@ -7,6 +7,7 @@ use std::alloc::{AllocError, Global};
 use tl_check_gaps::{Gaps, list_unmarked};
 use tl_check_planar::Meet;
 use tl_check_sweep::{SweepReport, Swept, sweep};
+use tl_geom::Point;
 use tl_map_county::Map;
 
 /// How often chains that remain are swept at most, where some of them meet after all.
@@ -81,7 +82,7 @@ fn mark_one(alloc: Global, map: &Map, meet: Meet) -> Result<Vec<bool>, AllocErro
 }
 
 /// Whether the first of two chains is rather taken out than the second. Sides that face each other agree without a chain of which both sides
-/// name the same, so it's that one; and else the one of fewer segments.
+/// name the same, so it's that one; and else the one of fewer segments, or of as many the one whose ends are closer, as that meets fewer others.
 fn goes_first(map: &Map, c: u32, d: u32) -> bool
     requires first { c < length map.now.chains }
     requires second { d < length map.now.chains }
@@ -91,7 +92,18 @@ fn goes_first(map: &Map, c: u32, d: u32) -> bool
     if is_alike != (other.left == other.right) {
         return is_alike;
     }
-    one.points.len() <= other.points.len()
+    if one.points.len() != other.points.len() {
+        return one.points.len() < other.points.len();
+    }
+    width(one.points) <= width(other.points)
+}
+
+/// How far the first and the last of some points are apart, to the east and to the north together.
+fn width(points: &[Point]) -> u64 {
+    match (points.first(), points.last()) {
+        (Some(p), Some(q)) => u64::from(p.x.abs_diff(q.x)) + u64::from(p.y.abs_diff(q.y)),
+        _ => 0,
+    }
 }
 
 /// A mark for each chain of a map, which those have that a sweep takes out on its way.
