@@ -24,11 +24,12 @@ impl<'a> SeeksMany for Ahead<'a> {
     }
 }
 
-/// Looks at the events from a place on, if the list is long and it wasn't looked ahead to there: in which blocks of the list the segments
+/// Looks at the events from a place on, if the list is long, the last vertices were far from one another, and it wasn't looked ahead to
+/// there: in which blocks of the list the segments
 /// stand that end there, and where these entered it. Nothing rests on it.
 #[inline(always)]
 pub fn look_ahead(map: &Map, events: &Events, from: usize, line: &Line, places: &mut Places) {
-    if line.is_long() && !places.are_ahead(from) {
+    if line.is_long() && !places.are_ahead(from) && places.goes_far(from.saturating_add(AHEAD)) {
         look_at_next(map, events, from, line, places);
     }
 }
@@ -45,12 +46,7 @@ fn look_at_next(map: &Map, events: &Events, from: usize, line: &Line, places: &m
             outs[one] = ending(map, events, place);
         }
     }
-    places.look_ahead(
-        &Ahead { map, points },
-        line,
-        &outs,
-        from.saturating_add(AHEAD),
-    );
+    places.look_ahead(&Ahead { map, points }, line, &outs);
 }
 
 /// The segment that ends at a place's events, or else one that begins there or none. At a bend that is as a rule the one that doesn't

@@ -13,6 +13,9 @@ pub(crate) struct Seen {
     pub place: usize,
 }
 
+/// So often another block has to have been opened for the last vertices, as many as are looked at together, if it pays to look ahead.
+const FAR: u32 = 8;
+
 /// Of each segment the place in a block of the list where it entered. What comes and goes moves it, mostly by less than twenty
 /// places. Of those that leave the list next the blocks are kept too. Nothing rests on any of it.
 #[derive(Drop)]
@@ -26,6 +29,10 @@ pub struct Places {
     entered: [u16; AHEAD],
     /// Up to where it was looked ahead.
     end: usize,
+    /// How often another block was opened since then.
+    opened: u32,
+    /// The block that was open last.
+    last: usize,
 }
 
 impl Places {
@@ -37,6 +44,8 @@ impl Places {
             blocks: [0; AHEAD],
             entered: [0; AHEAD],
             end: 0,
+            opened: 0,
+            last: 0,
         })
     }
 
@@ -46,16 +55,18 @@ impl Places {
         here < self.end
     }
 
-    /// Keeps of the segments that leave the list next, up to here, where they entered and their blocks, each found as that of what is
-    /// sought by the same number.
-    pub fn look_ahead<S: SeeksMany>(
-        &mut self,
-        sought: &S,
-        line: &Line,
-        outs: &[u32; AHEAD],
-        end: usize,
-    ) {
+    /// Whether the last places were so far from one another that it pays to look ahead. Else it isn't looked ahead up to here.
+    pub fn goes_far(&mut self, end: usize) -> bool {
+        let is_far = self.opened >= FAR;
         self.end = end;
+        self.opened = 0;
+        self.outs = [u32::MAX; AHEAD];
+        is_far
+    }
+
+    /// Keeps of the segments that leave the list next where they entered and their blocks, each found as that of what is sought by the
+    /// same number.
+    pub fn look_ahead<S: SeeksMany>(&mut self, sought: &S, line: &Line, outs: &[u32; AHEAD]) {
         self.outs = *outs;
         for one in 0..AHEAD {
             self.entered[one] = self.place(outs[one]);
@@ -94,8 +105,12 @@ impl Places {
         line.find(s, near)
     }
 
-    /// Keeps the places of the segments that entered last.
+    /// Keeps the places of the segments that entered last, and whether another block was opened for them.
     pub fn keep(&mut self, line: &Line, ins: &[u32]) {
+        if line.opened() != self.last {
+            self.last = line.opened();
+            self.opened = self.opened.saturating_add(1);
+        }
         let mut place = line.place().saturating_sub(ins.len());
         for s in ins {
             if let Some(kept) = self.places.get_mut(*s as usize) {
