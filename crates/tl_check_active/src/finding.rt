@@ -32,6 +32,13 @@ fn is_east_of(s: Segment, p: Point) -> bool {
     if p.x > a.x && p.x > b.x {
         return true;
     }
+    is_east_by_products(s, p)
+}
+
+/// The same by products alone, where nothing is known of longitudes.
+#[inline]
+pub fn is_east_by_products(s: Segment, p: Point) -> bool {
+    let (a, b) = (s.a(), s.b());
     let along = offset(a.x, b.x).wrapping_mul(offset(a.y, p.y));
     let aside = offset(a.y, b.y).wrapping_mul(offset(a.x, p.x));
     if is_lower(a, b) {

@@ -126,6 +126,22 @@ fn find_place<S: Seeks>(sought: &S, line: &Line, places: &Places, numbers: &[u32
     }
 }
 
+/// Goes before the first of these numbers, if it stands in the block where it was seen ahead. Tells whether it does.
+#[inline(never)]
+fn go_ahead(line: &mut Line, places: &Places, numbers: &[u32]) -> Result<bool, AllocError>
+    ensures { IfOk result (λ done. list_of line.new ≡ list_of line.old) }
+{
+    let Some(seen) = places.seen(numbers) else {
+        return Ok(false);
+    };
+    line.open_block(seen.block)?;
+    let Some(place) = line.find(seen.segment, seen.place) else {
+        return Ok(false);
+    };
+    line.seek(place);
+    Ok(true)
+}
+
 /// Goes to the place of what is sought, at which these numbers may stand: before the first of these or, if there is none or it isn't
 /// found, as [`go_to`] does. The error is that memory was refused.
 #[inline(always)]
@@ -137,6 +153,9 @@ pub fn go_to_first<S: Seeks>(
 ) -> Result<(), AllocError>
     ensures { IfOk result (λ done. list_of line.new ≡ list_of line.old) }
 {
+    if line.is_long() && go_ahead(line, places, numbers)? {
+        return Ok(());
+    }
     open(line, sought)?;
     line.seek(find_place(sought, line, places, numbers));
     Ok(())

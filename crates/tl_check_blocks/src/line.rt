@@ -12,6 +12,9 @@ use std::mem;
 /// How many numbers a block holds at most.
 const MOST: usize = 512;
 
+/// A list of so many blocks is long: it is more than the processor's nearest memory holds, with all that is read of its segments.
+const LONG: usize = 8;
+
 /// How far before the place where a number is expected it is looked for first.
 const REACH: usize = 32;
 
@@ -97,6 +100,12 @@ impl Line {
         self.blocks.len()
     }
 
+    /// Whether there are so many blocks that places are sought many at a time.
+    #[inline]
+    pub fn is_long(&self) -> bool {
+        self.blocks.len() >= LONG
+    }
+
     /// The number of the open block.
     pub(crate) fn opened(&self) -> usize {
         self.opened
@@ -105,6 +114,15 @@ impl Line {
     /// The first number of a block that isn't open.
     pub(crate) fn first(&self, block: usize) -> Option<u32> {
         self.blocks.get(block)?.first().copied()
+    }
+
+    /// The first number of a block, be it open or not.
+    pub(crate) fn begin(&self, block: usize) -> Option<u32> {
+        if block == self.opened {
+            self.at(0)
+        } else {
+            self.first(block)
+        }
     }
 
     /// How many numbers the open block holds.

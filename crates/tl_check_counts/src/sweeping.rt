@@ -12,7 +12,7 @@ use crate::looking::{Spots, Visit};
 use crate::passing::pass;
 use crate::vertex::label_vertex;
 use std::alloc::{AllocError, Global};
-use tl_check_active::{Events, gather};
+use tl_check_active::{Events, gather, look_ahead};
 use tl_check_blocks::{Line, Places};
 use tl_check_inside::Site;
 use tl_map_county::Map;
@@ -82,6 +82,7 @@ fn sweep_along(
 {
     let mut from = 0;
     while from < events.len() {
+        look_ahead(map, events, from, line, places);
         spots.look(map, line, events, from, sites, labels)?;
         let to = gather(events, from, &mut room.outs, &mut room.ins)?;
         let p = events.point(from);

@@ -17,7 +17,7 @@ use crate::exact::pass_exactly;
 use crate::passing::pass;
 use crate::suspects::{find_meet, list_suspects};
 use std::alloc::{AllocError, Global};
-use tl_check_active::{Events, gather};
+use tl_check_active::{Events, gather, look_ahead};
 use tl_check_blocks::{Line, Places};
 use tl_check_gaps::{InnerPoints, Watch};
 use tl_check_planar::Meet;
@@ -112,6 +112,7 @@ fn sweep_along(
     let mut found = None;
     let mut from = 0;
     while from < events.len() {
+        look_ahead(map, events, from, line, places);
         spots.look(map, line, events, from, gaps)?;
         let to = gather(events, from, outs, ins)?;
         let p = events.point(from);
