@@ -25,8 +25,7 @@ impl<'a> SeeksMany for Ahead<'a> {
 }
 
 /// Looks at the events from a place on, if the list is long, the last vertices were far from one another, and it wasn't looked ahead to
-/// there: in which blocks of the list the segments
-/// stand that end there, and where these entered it. Nothing rests on it.
+/// there: in which blocks of the list the segments stand that end there, and where these entered it. Nothing rests on it.
 #[inline(always)]
 pub fn look_ahead(map: &Map, events: &Events, from: usize, line: &Line, places: &mut Places) {
     if line.is_long() && !places.are_ahead(from) && places.goes_far(from.saturating_add(AHEAD)) {
