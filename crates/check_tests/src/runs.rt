@@ -3,9 +3,9 @@
 use crate::keys::fixed_keys;
 use crate::maps::SQUARE;
 use std::alloc::{AllocError, Global};
-use tigertopo_command::start::start;
 use tigertopo_memory_files::FilesInMemory;
 use tigertopo_program::Whole;
+use tigertopo_run::start::start;
 use tl_record::MeterOut;
 
 /// Words, and the status and the output that they come to, and the error output.

@@ -4,9 +4,9 @@
 use std::hash::RandomState;
 use std::io::IsTerminal;
 use std::process::ExitCode;
-use tigertopo_command::start::answer;
-use tigertopo_command::words::words_of;
 use tigertopo_program::Whole;
+use tigertopo_run::start::answer;
+use tigertopo_run::words::words_of;
 use tigertopo_system_files::SystemFiles;
 use tl_record::MeterOut;
 

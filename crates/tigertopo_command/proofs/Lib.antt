@@ -1,3 +1,3 @@
 -- Lemmas on commands.
-pub mod CommandLemmas
+mod PlainLemmas
 pub mod DecideLemmas

@@ -1,49 +1,20 @@
--- What a command reads and makes, and what it answers.
-use Rattle.std.specs.Prelude.{ℕ, Bool, true, false, List, [], ◌∷◌, ◌++◌, None, map, string_bytes, ⊤}
+-- What commands answer that make no list of faults, no export, no picture and no border.
+use Rattle.std.specs.Prelude.{ℕ, Bool, true, false, List, None, string_bytes, ⊤}
 use Rattle.tl_record.specs.declared.options.Options.{Options}
 use Rattle.tl_record.specs.Layout.{layout_with}
 use Rattle.tl_cert_output.specs.declared.stop.Stop.{Stop}
 use Rattle.tigertopo_words.specs.declared.asked.Asked.{Asked}
 use Rattle.tigertopo_words.specs.declared.asked.Asked.TheVariants.{Show, Landmarks, Locate, Audit, Build, Check, Convert, Export, Draw, Border}
-use Rattle.tigertopo_words.specs.declared.asked.Command.{Command}
 use Rattle.tigertopo_words.specs.declared.budget.Told.TheVariants.{One}
 use Rattle.tigertopo_words.specs.declared.form.Form.TheVariants.{Lines}
 use Rattle.tigertopo_files.specs.Files.{bytes_under}
 use Rattle.tigertopo_files.specs.World.{World}
-use Rattle.tigertopo_files.specs.declared.beginning.FileKind.{FileKind}
-use Rattle.tigertopo_files.specs.declared.beginning.FileKind.TheVariants.{Certificate, Collection, Picture, Records}
 use Rattle.tigertopo_outcome.specs.Answers.{ShowAnswers, LandmarksAnswers, LocateAnswers, AuditAnswers, CheckAnswers, ConvertAnswers}
 use Rattle.tigertopo_files.specs.Reading.{text_under}
 use Rattle.tigertopo_outcome.specs.Records.{StopsRecords, StopsCheck, StopsNever}
 use Rattle.tigertopo_command.specs.Decide.Building.{BuildAnswers}
 
--- the names of the files that are read, in their order, where those of the records are `names`: the certificate's is the last
-abbrev pub names_with : Asked → (names : List (List ℕ)) → List (List ℕ)
-names_with (Check cert budget) names = names ++ string_bytes cert ∷ []
-names_with (Convert cert made) names = string_bytes cert ∷ []
-names_with other names = names
-
-abbrev pub names_read : Command → List (List ℕ)
-names_read command = names_with command.asked (map string_bytes command.files.items)
-
--- the names of the files that are read where one is made
-abbrev pub inputs_with : Asked → (names : List (List ℕ)) → List (List ℕ)
-inputs_with (Convert cert made) names = string_bytes cert ∷ []
-inputs_with other names = names
-
-abbrev pub inputs_of : Command → List (List ℕ)
-inputs_of command = inputs_with command.asked (map string_bytes command.files.items)
-
--- the kind of the file that is made, where one is
-abbrev pub kind_of : Asked → FileKind
-kind_of (Audit told form made) = Collection
-kind_of (Export made layer) = Collection
-kind_of (Draw made view faults) = Picture
-kind_of (Border cenid made) = Records
-kind_of other = Certificate
-
--- what is answered, where the records are in the files of these names: of the commands that make no list of faults, no export, no
--- picture and no border
+-- what is answered, where the records are in the files of these names
 abbrev pub PlainAnswers : Asked → Options → (names : List (List ℕ)) → World → ℕ → List ℕ → Type 0
 PlainAnswers Show options names w = ShowAnswers (layout_with options) (text_under w.before names)
 PlainAnswers Landmarks options names w = LandmarksAnswers (layout_with options) (text_under w.before names)

@@ -9,9 +9,9 @@ use crate::export::export;
 use std::alloc::Global;
 use std::hash::RandomState;
 use tigertopo_command::plain::{answer, is_plain};
-use tigertopo_command::run::{Outcome, Program, is_aside, tell_answer};
 use tigertopo_files::FileSystem;
 use tigertopo_lists::{Wanted, list};
+use tigertopo_run::run::{Outcome, Program, is_aside, tell_answer};
 use tigertopo_words::{Asked, Command};
 use tl_record::Sink;
 

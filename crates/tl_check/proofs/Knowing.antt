@@ -7,7 +7,7 @@ use Rattle.tl_check.specs.declared.known.Known.{Known}
 use Rattle.tl_check.specs.declared.known.Known.TheVariants.{Suspects, Rings}
 use Rattle.tl_check.specs.Keeping.Known.{IsKnown, IsKnownOf, HasNone}
 use Rattle.tl_check.specs.Keeping.Parts.{IsWalked}
-use Rattle.tl_check_points.proofs.Suspecting.{placed_but}
+use Rattle.tl_check_rings.proofs.Suspecting.{placed_but}
 
 pub known_of : (m : TheMap) (c : TheCertificate) (count : ℕ) (known : Known) → IsWalked m c count known → count < 2 ^ 32 → IsKnownOf m known
 known_of m c count known w few = record { walks = c.walks; are_walks = w.valid.walks; few = subst (λ n. n < 2 ^ 32) w.counted few; known = w.behind }

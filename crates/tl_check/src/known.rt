@@ -5,7 +5,7 @@ ghost use Rattle.tl_check_sides.specs.Lists.{and_list};
 ghost use Rattle.tl_check.specs.Keeping.Known.{AreToldSuspects, IsKnown};
 
 use std::alloc::Global;
-use tl_check_points::Rings;
+use tl_check_rings::Rings;
 use tl_map_county::Map;
 use tl_tree_index::Memory;
 

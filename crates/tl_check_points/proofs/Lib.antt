@@ -1,9 +1,1 @@
-pub mod Laying
-pub mod Lending
-pub mod Boxing
-pub mod Adding
-pub mod Upward
-pub mod Looking
-pub mod Ordering
-pub mod Suspecting
-pub mod Leaving
+mod Leaving

@@ -1,3 +1,1 @@
--- What the contracts cite.
-pub mod Rings
 pub mod Keeping

@@ -1,23 +1,10 @@
-//! The points of polygons by rings: whether each lies on no chain, inside its own polygon and clear of every other.
+//! Polygons' points that don't lie where they have to.
 //!
-//! Where sides agree, a ring of darts winds about no point outside of its bounding box. So the count of a polygon at a
-//! point is what the rings with that polygon on their left add whose boxes hold the point
-//! (`tl_check_faces::crossings::laws::rings_that_hold_a_point_count_for_all`). They are found with a tree over the boxes.
+//! They are looked at by the rings of a map (`tl_check_rings`), and those that cost too much so, or that are suspects to begin with, by
+//! counts that become known in one sweep (`tl_check_counts`), or else along their rays.
 #![tactic(auto)]
 
-mod boxes;
-mod darts;
-mod heights;
 mod known;
-mod laid;
-mod lent;
-mod look;
 mod misplaced;
-mod points;
-mod rings;
-mod sites;
-mod spot;
 
 pub use misplaced::{find_among_suspects, find_misplaced};
-pub use rings::Rings;
-pub use sites::sites_of;

@@ -7,14 +7,12 @@ ghost use Rattle.tl_check_sides.specs.Sides.{SidesAgree};
 ghost use Rattle.tl_check_sides.specs.Walks.{AreWalks};
 ghost use Rattle.tl_check_inside.specs.Placed.{ArePlaced, IsTrueMisplaced};
 ghost use Rattle.tl_check_inside.specs.Suspects.{AreSuspects};
-ghost use Rattle.tl_check_points.specs.Rings.{AreBoxed};
+ghost use Rattle.tl_check_rings.specs.Rings.{AreBoxed};
 
 use crate::known::find_by_counts;
-use crate::points::look_at_points;
-use crate::rings::Rings;
-use crate::sites::sites_of;
 use std::alloc::Global;
 use tl_check_inside::{Misplaced, find_among};
+use tl_check_rings::{Rings, look_at_points, sites_of};
 use tl_map_county::Map;
 use tl_tree_index::{BoxIndex, Memory};
 

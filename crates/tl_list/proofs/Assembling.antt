@@ -31,14 +31,15 @@ use Rattle.tl_list_text.specs.declared.listing.Listing.{Listing}
 use Rattle.tl_list_text.specs.declared.listing.Listing.TheVariants.{Sound, Refused, Faults}
 use Rattle.tl_cert_output.specs.declared.stop.Stop.{Stop}
 use Rattle.tl_list.specs.declared.reading.BothKept.{BothKept}
-use Rattle.tl_list.specs.Listings.{IsListingOf, IsListingFor}
+use Rattle.tl_list_map.specs.MapListings.{IsListingFor}
+use Rattle.tl_list.specs.Listings.{IsListingOf}
 use Rattle.tl_list.specs.Keeping.Reading.{Keeps, AreWhole, KeepsAll, IsStopped}
 use Rattle.tl_list.specs.declared.of_records.Findings.{Findings}
 use Rattle.tl_list.specs.declared.left.LeftFaults.{LeftFaults}
 use Rattle.tl_list.specs.Findings.{AreFindingsOf, AreFaultsOf, IsLeft, IsFoundIn}
 use Rattle.tl_list.specs.Keeping.OfRecords.{IsListingOfRecords, AreFindingsOfRecords, IsListOf, AreTold, AreRead, AreLeftOf}
 use Rattle.tl_map_rules.specs.Faults.{IsTrueOf}
-use Rattle.tl_list.proofs.Emptiness.{map_empty, none_held}
+use Rattle.tl_list_map.proofs.Emptiness.{map_empty, none_held}
 
 read_from : (all : Records) (rs : List Record) (skipped : ℕ) (m : TheMap) → AreWhole all skipped rs → IsMapOfRecords rs skipped m → IsReadFrom all m
 read_from all rs skipped m whole made = record {

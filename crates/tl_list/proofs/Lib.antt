@@ -1,10 +1,7 @@
 mod Lists
-mod Emptiness
 mod Truth
-mod Faced
 mod Sounding
 mod Told
-mod OfMap
 mod Gathering
 mod Taking
 mod Passing

@@ -23,10 +23,10 @@ use Rattle.tl_check_verdict.proofs.OneMap.{both, weaker}
 use Rattle.tl_check_verdict.proofs.Deciding.{not_sound_records}
 use Rattle.tl_list_text.specs.declared.listing.Listing.{Listing}
 use Rattle.tl_list_text.specs.declared.listing.Listing.TheVariants.{Sound, Refused, Faults}
-use Rattle.tl_list.specs.MapFaults.{AreFaultsFor}
+use Rattle.tl_list_map.specs.MapFaults.{AreFaultsFor}
 use Rattle.tl_list.specs.Listings.{AreRecordFaults, AreFaults, IsListingOf}
 use Rattle.tl_list.specs.Telling.{IsTold, Tells, SaysSound, EachFault, IsTrueAmong, IsTrueAmongFaults}
-use Rattle.tl_list.proofs.Emptiness.{map_empty}
+use Rattle.tl_list_map.proofs.Emptiness.{map_empty}
 use Rattle.tl_list.proofs.Lists.{held_map, some_first, none_first}
 use Rattle.tl_list.proofs.Truth.{each_is_true_for, among_denies}
 use Rattle.tl_list.proofs.Told.{told_for}

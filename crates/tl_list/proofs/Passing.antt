@@ -22,7 +22,7 @@ use Rattle.tl_cert_output.specs.Stops.{TellsDevice}
 use Rattle.tl_list_records.specs.Refusals.Listing.{BeginsWith, ListsAll, ListsSoFar}
 use Rattle.tl_list_records.specs.Refusals.Listing.{TellsDevice as TellsDeviceAt}
 use Rattle.tl_list.specs.Keeping.Reading.{IsStopped, ListsFrom, MayPassOver}
-use Rattle.tl_list.proofs.Emptiness.{none_held}
+use Rattle.tl_list_map.proofs.Emptiness.{none_held}
 
 first_held : (first : Refusal) → Contains (first ∷ []) first
 first_held first = (0, omega arith, refl)

@@ -36,12 +36,12 @@ use Rattle.tl_check_verdict.specs.Records.{HaveMap}
 use Rattle.tl_check_verdict.proofs.OneMap.{both}
 use Rattle.tl_list_text.specs.declared.listing.Listing.{Listing}
 use Rattle.tl_list_text.specs.declared.listing.Listing.TheVariants.{Sound, Refused, Faults}
-use Rattle.tl_list.specs.MapFaults.{side_fault, AreMapFaults, AreFacesTold, AreFaultsFor}
+use Rattle.tl_list_map.specs.MapFaults.{side_fault, AreMapFaults, AreFacesTold, AreFaultsFor}
 use Rattle.tl_list.specs.Listings.{AreFaults, IsListingOf}
 use Rattle.tl_list.specs.Alike.{IsSameFault, AreSameFaults, HaveSameNumbers, AreAlike}
 use Rattle.tl_list.proofs.OneOrder.{AreOne, AreInOne, one_order}
 use Rattle.tl_list.proofs.Listed.{none_is_refused, sound_alone, no_map}
-use Rattle.tl_list.proofs.Emptiness.{map_empty}
+use Rattle.tl_list_map.proofs.Emptiness.{map_empty}
 use Rattle.tl_check_planar.specs.ByHeight.Heights.{height, widest}
 use Rattle.tl_check_faces.specs.declared.odd.OddGap.{OddGap}
 use Rattle.tl_check_faces.specs.declared.fault.FaceFault.{FaceFault}

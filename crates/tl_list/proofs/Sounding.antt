@@ -9,7 +9,7 @@ use Rattle.tl_check_verdict.specs.Sound.{IsSound}
 use Rattle.tl_check_verdict.proofs.Denials.{not_sound_alone}
 use Rattle.tl_list_text.specs.declared.listing.Listing.TheVariants.{Faults}
 use Rattle.tl_list.specs.Telling.{IsTrueAmong}
-use Rattle.tl_list.specs.Listings.{IsListingFor, is_of_faces, begins_with_faces}
+use Rattle.tl_list_map.specs.MapListings.{IsListingFor, is_of_faces, begins_with_faces}
 use Rattle.tl_list.proofs.Truth.{each_is_true_for}
 
 module _ (faces : Bool) (m : TheMap) where

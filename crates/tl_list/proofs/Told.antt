@@ -20,9 +20,9 @@ use Rattle.tl_check_verdict.specs.Truth.{IsTrueOfMap}
 use Rattle.tl_check_faces.specs.declared.fault.FaceFault.{FaceFault}
 use Rattle.tl_check_faces.specs.Faults.{IsTrueFaceFault}
 use Rattle.tl_check_face_faults.proofs.Exact.{told as of_all_gaps}
-use Rattle.tl_list.specs.MapFaults.{side_fault, AreMapFaults, AreLookedAt, AreFacesTold, AreFaultsFor}
+use Rattle.tl_list_map.specs.MapFaults.{side_fault, AreMapFaults, AreLookedAt, AreFacesTold, AreFaultsFor}
 use Rattle.tl_list.specs.Telling.{IsMeetOf, IsOfSides, IsOfCells, HangsOnSides, IsTold, IsTrueAmong}
-use Rattle.tl_list.proofs.Emptiness.{odds_deny}
+use Rattle.tl_list_map.proofs.Emptiness.{odds_deny}
 use Rattle.tl_list.proofs.Lists.{held_map, named_by, some_first, contains_or}
 use Rattle.tl_list.proofs.Truth.{start_is}
 

@@ -15,7 +15,7 @@ use Rattle.tl_check_verdict.specs.Truth.{IsTrueOfMap}
 use Rattle.tl_check_verdict.specs.Sound.{IsSoundFor}
 use Rattle.tl_check_verdict.proofs.Denials.{not_sound_alone}
 use Rattle.tl_check_faces.specs.declared.fault.FaceFault.{FaceFault}
-use Rattle.tl_list.specs.MapFaults.{nowhere, start_of, side_fault, AreMapFaults, AreFacesTold, AreFaultsFor}
+use Rattle.tl_list_map.specs.MapFaults.{nowhere, start_of, side_fault, AreMapFaults, AreFacesTold, AreFaultsFor}
 use Rattle.tl_list.specs.Telling.{IsTrueAmong}
 
 -- a dart that starts somewhere starts at the point that is told

@@ -1,4 +1,3 @@
 -- What is kept on the way. No public contract cites a file of this folder.
-pub mod OfMap
 pub mod OfRecords
 pub mod Reading

@@ -1,4 +1,3 @@
-pub mod MapFaults
 pub mod Listings
 pub mod Telling
 pub mod Alike

@@ -1,5 +1,5 @@
 -- What a county's text is told to be where all that is wrong with it is asked for.
-use Rattle.std.specs.Prelude.{◌≡◌, ◌≢◌, ◌⊎◌, ℕ, Bool, true, false, IsTrue, List, [], ◌∷◌, map, None}
+use Rattle.std.specs.Prelude.{◌≡◌, ◌≢◌, ◌⊎◌, ℕ, Bool, List, [], map, None}
 use Rattle.tl_record.specs.declared.options.Options.{Options}
 use Rattle.tl_record.specs.Layout.{layout_with}
 use Rattle.tl_record.specs.Records.{Records, records_of}
@@ -7,16 +7,15 @@ use Rattle.tl_record.specs.Refusals.{refusals_of}
 use Rattle.tl_list_records.specs.Refusals.Listing.{ListsAll}
 use Rattle.tl_map_rules.specs.declared.fault.RecordFault.{RecordFault}
 use Rattle.tl_map_rules.specs.Reading.{records_in}
-use Rattle.tl_map_county.specs.TheMap.{TheMap}
 use Rattle.tl_list_records.specs.AllFaults.{AreAllFaults}
 use Rattle.tl_check_verdict.specs.declared.fault.MapFault.{MapFault}
 use Rattle.tl_check_verdict.specs.declared.fault.MapFault.TheVariants as fault
-use Rattle.tl_check_verdict.specs.Sound.{IsSound, IsSoundFor}
+use Rattle.tl_check_verdict.specs.Sound.{IsSoundFor}
 use Rattle.tl_check_verdict.specs.Verdicts.{IsReport}
 use Rattle.tl_check_verdict.specs.Records.{HaveMap}
 use Rattle.tl_list_text.specs.declared.listing.Listing.{Listing}
 use Rattle.tl_list_text.specs.declared.listing.Listing.TheVariants.{Sound, Refused, Faults}
-use Rattle.tl_list.specs.MapFaults.{AreFaultsFor}
+use Rattle.tl_list_map.specs.MapFaults.{AreFaultsFor}
 
 -- the faults are all that are true of the records
 pub record AreRecordFaults (all : Records) (faults : List MapFault) : Type 0 where
@@ -28,28 +27,6 @@ pub record AreRecordFaults (all : Records) (faults : List MapFault) : Type 0 whe
 abbrev pub AreFaults : (faces : Bool) → Records → List MapFault → ℕ → Type 0
 AreFaults faces all faults touched =
     (AreRecordFaults all faults × (touched ≡ 0)) ⊎ HaveMap all (λ m. AreFaultsFor faces m faults touched)
-
--- the fault is of faces
-abbrev pub is_of_faces : MapFault → Bool
-is_of_faces (fault.Records told) = false
-is_of_faces (fault.Meet meet) = false
-is_of_faces (fault.Side node first next) = false
-is_of_faces (fault.PolygonPoint told) = false
-is_of_faces (fault.Cell odds) = false
-is_of_faces (fault.Face told) = true
-
--- the first of these faults is: those of faces come behind all others, so all are
-abbrev pub begins_with_faces : List MapFault → Bool
-begins_with_faces [] = false
-begins_with_faces (first ∷ rest) = is_of_faces first
-
--- what is told of a map: it keeps what is asked of it, and these are its numbers; or these are all its faults, of which there is one. Where
--- all are of faces it is sound otherwise.
-abbrev pub IsListingFor : (faces : Bool) → TheMap → Listing → Type 0
-IsListingFor faces m (Sound report) = IsSoundFor faces m × IsReport m report
-IsListingFor faces m (Refused list) = ⊥
-IsListingFor faces m (Faults faults touched) =
-    (faults.items ≢ []) × AreFaultsFor faces m faults.items touched × (IsTrue (begins_with_faces faults.items) → IsSound m)
 
 -- what is told of a text: its map keeps what is asked of it, and these are its numbers; or these are all its lines that are refused;
 -- or none is refused, and these are all faults. A list that is told isn't empty.

@@ -11,7 +11,7 @@ use Rattle.tl_check_verdict.specs.Truth.{IsTrueOfMap}
 use Rattle.tl_check_verdict.specs.Records.{HaveMap, IsTrueOfRecords}
 use Rattle.tl_check_verdict.specs.declared.fault.MapFault.{MapFault}
 use Rattle.tl_check_verdict.specs.declared.fault.MapFault.TheVariants.{Records, Meet, Side, PolygonPoint, Cell, Face}
-use Rattle.tl_list.specs.MapFaults.{AreLookedAt}
+use Rattle.tl_list_map.specs.MapFaults.{AreLookedAt}
 use Rattle.tl_list_text.specs.declared.listing.Listing.{Listing}
 use Rattle.tl_list_text.specs.declared.listing.Listing.TheVariants as listing
 

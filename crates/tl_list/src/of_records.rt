@@ -4,20 +4,21 @@ ghost use Rattle.std.specs.Prelude.{◌≡◌, List, true, None, Some, IfOk, IfE
 ghost use Rattle.tl_record.specs.Records.{Records as AllRecords};
 ghost use Rattle.tl_record.specs.declared.record.Record.{Record};
 ghost use Rattle.tl_list_records.specs.Kept.{KeepsRecords};
-ghost use Rattle.tl_list.specs.Listings.{IsListingOf, IsListingFor};
+ghost use Rattle.tl_list_map.specs.MapListings.{IsListingFor};
+ghost use Rattle.tl_list.specs.Listings.{IsListingOf};
 ghost use Rattle.tl_cert_output.specs.Stops.{StopsFor, TellsDevice};
 ghost use Rattle.tl_list.specs.Findings.{IsFoundIn, AreOfMap};
 ghost use Rattle.tl_list.specs.Keeping.Reading.{Keeps, AreWhole};
 ghost use Rattle.tl_list.specs.Keeping.OfRecords.{AreFindingsOfRecords, AreTold};
 
 use crate::left::{Found, found_in};
-use crate::of_map::list_map;
 use crate::reading::{BothKept, LinesRead, read_all};
 use crate::tell::push_records;
 use std::alloc::Global;
 use std::hash::RandomState;
 use tl_cert_output::Stop;
 use tl_check_verdict::fault_of_records;
+use tl_list_map::list_map;
 use tl_list_records::{KeptRecords, all_record_faults};
 use tl_list_text::Listing;
 use tl_map_county::Map;

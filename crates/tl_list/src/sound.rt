@@ -3,7 +3,7 @@
 ghost use Rattle.std.specs.Prelude.{◌≡◌, ◌↔◌, Bool, IsTrue};
 ghost use Rattle.tl_map_county.specs.TheMap.{TheMap};
 ghost use Rattle.tl_check_verdict.specs.Sound.{IsSound};
-ghost use Rattle.tl_list.specs.Listings.{IsListingFor, begins_with_faces};
+ghost use Rattle.tl_list_map.specs.MapListings.{IsListingFor, begins_with_faces};
 
 use tl_check_verdict::MapFault;
 use tl_list_text::Listing;

@@ -25,7 +25,7 @@ use Rattle.tl_cert_output.specs.declared.stop.Stop.{Stop}
 use Rattle.tl_list_text.specs.declared.listing.Listing.{Listing}
 use Rattle.tl_list_text.specs.declared.listing.Listing.TheVariants.{Sound, Refused, Faults}
 use Rattle.tl_list.specs.Listings.{IsListingOf, AreFaults}
-use Rattle.tl_list.specs.MapFaults.{AreFaultsFor}
+use Rattle.tl_list_map.specs.MapFaults.{AreFaultsFor}
 use Rattle.tl_list.specs.declared.of_records.Findings.{Findings}
 use Rattle.tl_list.specs.Findings.{AreFindingsOf, IsMapIfAny}
 use Rattle.tigertopo_files.specs.World.{MayStop}

@@ -8,7 +8,7 @@ use Rattle.tl_check_planar.specs.Searching.{IsTrueMeet, AreBeyond, meeting_segme
 use Rattle.tl_check_planar.specs.ByHeight.Heights.{widest}
 use Rattle.tl_check_inside.specs.Suspects.{AreSuspects}
 use Rattle.tl_check_sides.specs.Walks.{AreWalks}
-use Rattle.tl_check_points.specs.Rings.{AreBoxed}
+use Rattle.tl_check_rings.specs.Rings.{AreBoxed}
 use Rattle.tl_check_faces.specs.declared.odd.OddGap.{OddGap}
 use Rattle.tl_check_faces.specs.Odd.{IsLowestOddGap}
 use Rattle.tl_check_faces.specs.Facing.{FacesAgree}

@@ -1,6 +1,6 @@
 use Rattle.tigertopo_files.specs.World.{world}
 use Rattle.tigertopo_words.specs.declared.asked.Asked.TheVariants.{Show, Landmarks, Locate, Audit, Build, Check}
-use Rattle.tigertopo_command.proofs.CommandLemmas.{by_asked, makes_none}
+use Rattle.tigertopo_command.proofs.PlainLemmas.{by_asked, makes_none}
 use Rattle.tigertopo_command.proofs.plain.answer.Goals as goal
 
 pub returns-in-Show : goal.returns-in-Show

@@ -1,6 +1,6 @@
 use Rattle.std.proofs.Common.{◌≡◌, length, arith}
 use Rattle.std.proofs.lemmas.List.{nil_from_length}
-use Rattle.tl_check_points.proofs.Suspecting.{placed_but}
+use Rattle.tl_check_rings.proofs.Suspecting.{placed_but}
 use Rattle.tl_build.proofs.planar.look_at_suspects.Goals as goal
 
 pub returns-then-is_empty : goal.returns-then-is_empty

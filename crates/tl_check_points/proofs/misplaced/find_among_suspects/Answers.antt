@@ -3,7 +3,7 @@ use Rattle.tl_check_inside.specs.Placed.{IsTrueMisplaced}
 use Rattle.tl_check_inside.proofs.Misplacing.{told_none}
 use Rattle.tl_check_points.specs.Keeping.Known.{AreLeft}
 use Rattle.tl_check_inside.proofs.Stripping.{placed_answer}
-use Rattle.tl_check_points.proofs.Suspecting.{all_placed}
+use Rattle.tl_check_rings.proofs.Suspecting.{all_placed}
 use Rattle.tl_check_points.proofs.Leaving.{left_placed}
 use Rattle.tl_check_points.proofs.misplaced.find_among_suspects.Goals as goal
 

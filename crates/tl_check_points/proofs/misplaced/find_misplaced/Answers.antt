@@ -1,7 +1,7 @@
 use Rattle.std.proofs.Common.{sym, subst}
 use Rattle.tl_check_inside.proofs.Misplacing.{told_none}
 use Rattle.tl_check_inside.specs.Suspects.{AreSuspects}
-use Rattle.tl_check_points.proofs.Suspecting.{listed_or_placed}
+use Rattle.tl_check_rings.proofs.Suspecting.{listed_or_placed}
 use Rattle.tl_check_points.proofs.misplaced.find_misplaced.Goals as goal
 
 pub find_among_suspects-requires-clause-suspects : goal.find_among_suspects-requires-clause-suspects

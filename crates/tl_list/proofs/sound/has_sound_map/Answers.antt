@@ -1,6 +1,6 @@
 use Rattle.std.proofs.Common.{IsTrue, refl, sym, subst, ◌↔◌, ◌∙◌, ap}
 use Rattle.tl_check_verdict.specs.Sound.{IsSound}
-use Rattle.tl_list.specs.Listings.{IsListingFor, begins_with_faces}
+use Rattle.tl_list_map.specs.MapListings.{IsListingFor, begins_with_faces}
 use Rattle.tl_list.proofs.Sounding.{decided_by_first}
 use Rattle.tl_list.proofs.sound.has_sound_map.Goals as goal
 

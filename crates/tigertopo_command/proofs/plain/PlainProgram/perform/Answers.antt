@@ -3,8 +3,8 @@ use Rattle.tigertopo_files.specs.World.{world}
 use Rattle.tigertopo_outcome.specs.Answers.{IsSaid, said_text}
 use Rattle.tl_cert_output.specs.Streams.{stream}
 use Rattle.tigertopo_command.specs.Commands.{PlainAnswers, PlainStops, IsPlain}
-use Rattle.tigertopo_command.specs.Running.{streams, terms}
-use Rattle.tigertopo_command.proofs.CommandLemmas.{answered}
+use Rattle.tigertopo_run.specs.Running.{streams, terms}
+use Rattle.tigertopo_run.proofs.CommandLemmas.{answered}
 use Rattle.tigertopo_command.proofs.plain.PlainProgram.perform.Goals as goal
 
 pub returns-then-is_plain : goal.returns-then-is_plain

@@ -2,7 +2,7 @@ use Rattle.std.proofs.Common.{Option, sym, subst}
 use Rattle.std.specs.Option.{IfSome}
 use Rattle.tl_record.specs.Layout.{layout_with}
 use Rattle.tl_map_county.specs.TheMap.{TheMap}
-use Rattle.tl_list.specs.Listings.{IsListingFor}
+use Rattle.tl_list_map.specs.MapListings.{IsListingFor}
 use Rattle.tl_cert_output.proofs.StopLemmas.{by_stop}
 use Rattle.tigertopo_files.specs.World.{MayStop}
 use Rattle.tigertopo_outcome.specs.Records.{StopsRecords}

@@ -7,9 +7,10 @@ use Rattle.tigertopo_files.proofs.WorldLemmas.{does_so}
 use Rattle.tigertopo_outcome.specs.Answers.{IsSaid, said_text}
 use Rattle.tigertopo_files.specs.Reading.{text_under}
 use Rattle.tl_cert_output.specs.Streams.{stream}
-use Rattle.tigertopo_command.specs.Commands.{PlainAnswers, PlainStops, is_plain, names_read, names_with}
-use Rattle.tigertopo_command.specs.Running.{streams, terms}
-use Rattle.tigertopo_command.proofs.CommandLemmas.{answered}
+use Rattle.tigertopo_run.specs.Commands.{names_read, names_with}
+use Rattle.tigertopo_command.specs.Commands.{PlainAnswers, PlainStops, is_plain}
+use Rattle.tigertopo_run.specs.Running.{streams, terms}
+use Rattle.tigertopo_run.proofs.CommandLemmas.{answered}
 use Rattle.tigertopo_program.specs.Border.Borders.{BorderAnswers}
 use Rattle.tigertopo_program.specs.Border.Borders as borders
 use Rattle.tigertopo_program.specs.Draw.Drawing.{DrawAnswers, Wanted}

@@ -1,0 +1,2 @@
+-- Lemmas on what is run.
+pub mod CommandLemmas

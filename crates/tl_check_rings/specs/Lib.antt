@@ -1,0 +1,4 @@
+-- What the contracts cite.
+pub mod Rings
+pub mod Looked
+pub mod Keeping

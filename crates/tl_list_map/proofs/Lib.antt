@@ -1,0 +1,3 @@
+pub mod Emptiness
+mod OfMap
+mod Faced

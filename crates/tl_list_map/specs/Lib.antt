@@ -1,0 +1,3 @@
+pub mod MapFaults
+pub mod MapListings
+pub mod Keeping
