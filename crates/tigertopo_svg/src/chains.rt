@@ -9,6 +9,7 @@ use crate::walk::Walk;
 use tl_geom::{Point, Rect};
 
 /// A walk along the strokes of a chain, by its points.
+#[inline(always)]
 pub fn walk_along(frame: Frame, points: &[Point]) -> Walk<'_>
     ensures strokes { strokes_left result ≡ chain_strokes frame points.now }
 {

@@ -8,6 +8,7 @@ ghost use Rattle.tigertopo_svg.specs.Frames.{meets, is_tiny, is_near, is_small, 
 
 use crate::bounds::{around_places, bounds_of};
 use crate::lean::is_beside;
+use crate::quotients::quotient;
 use tl_geom::{Point, Rational, Rect};
 use tl_map_county::Map;
 
@@ -135,9 +136,10 @@ impl Frame {
         ensures { result ≡ spot_at self at }
     {
         let side = self.side();
+        let inverse = u64::MAX / side;
         Spot {
-            x: at.x.div_euclid(side as i64),
-            y: at.y.div_euclid(side as i64),
+            x: quotient(at.x, side, inverse),
+            y: quotient(at.y, side, inverse),
         }
     }
 

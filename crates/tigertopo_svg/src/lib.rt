@@ -20,6 +20,7 @@ mod pairs;
 mod picture;
 mod places;
 mod print;
+mod quotients;
 mod scale;
 mod text;
 mod walk;

@@ -30,13 +30,16 @@ pub fn print_move<S: Sink>(spot: Spot, printer: &mut Printer, out: &mut S)
 }
 
 /// Prints a stroke: behind its start how far it goes.
+#[inline]
 pub fn print_stroke<S: Sink>(stroke: Stroke, printer: &mut Printer, out: &mut S)
     ensures { Prints S.contents S.failure_count (out.old, printer.old) (out.new, printer.new) (stroke_text stroke) }
 {
     print_start(stroke, printer, out);
-    let east = step(stroke.from.x, stroke.to.x);
-    let south = step(stroke.from.y, stroke.to.y);
-    print_pair(b"l", east, south, printer, out);
+    let (from, to) = (stroke.from, stroke.to);
+    match (to.x.checked_sub(from.x), to.y.checked_sub(from.y)) {
+        (Some(east), Some(south)) => print_pair(b"l", east, south, printer, out),
+        _ => print_pair(b"l", step(from.x, to.x), step(from.y, to.y), printer, out),
+    }
 }
 
 // Prints where a stroke starts, if it begins anew.

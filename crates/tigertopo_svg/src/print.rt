@@ -148,6 +148,7 @@ fn print_drawings<S: Sink>(map: &Map, picture: Picture, printer: &mut Printer, o
 }
 
 // Prints the strokes that a walk comes to.
+#[inline(always)]
 fn print_strokes<S: Sink>(walk: &mut Walk<'_>, printer: &mut Printer, out: &mut S)
     ensures { Prints S.contents S.failure_count (out.old, printer.old) (out.new, printer.new)
         (flat_map stroke_text (strokes_left walk.old)) }

@@ -27,6 +27,7 @@ pub struct Walk<'a> {
 
 impl Walk<'_> {
     /// The next stroke that is drawn.
+    #[inline(always)]
     pub fn next(&mut self) -> Option<Stroke>
         ensures { MatchOption result (strokes_left self.old ≡ []) (λ stroke. strokes_left self.old ≡ stroke ∷ strokes_left self.new) }
     {

@@ -3,5 +3,8 @@ use Rattle.tl_cert_output.proofs.PrinterLemmas.{both, as_text}
 use Rattle.tigertopo_svg.proofs.TextLemmas.{stroke_parts}
 use Rattle.tigertopo_svg.proofs.pairs.print_stroke.Goals as goal
 
-pub returns : goal.returns
-returns g c = as_text (both c.print_start.ensures c.print_pair.ensures) (stroke_parts c.args.stroke _ _ (search rules) (search rules))
+pub returns-in-Some-Some : goal.returns-in-Some-Some
+returns-in-Some-Some g c = as_text (both c.print_start.ensures c.print_pair.ensures) (stroke_parts c.args.stroke _ _ (search rules) (search rules))
+
+pub returns-in_default : goal.returns-in_default
+returns-in_default g c = as_text (both c.print_start.ensures c.print_pair-in_default.ensures) (stroke_parts c.args.stroke _ _ (search rules) (search rules))
