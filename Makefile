@@ -16,7 +16,7 @@
 #                          valgrind is there; with BESIDE=PROGRAM it counts and times that program's too; and lists
 #                          of every fault
 # make ways                counts the sweeps of each command, where valgrind is there: one of a map, that says all that is asked
-# make speed               prints the tables of docs/speed.md, which are the rows of 100,000 chains among these
+# make speed               prints the tables of docs/speed.md, which has the rows of 100,000 and of 1,000,000 chains among these
 # make geojson             reads what `export` and `audit --geojson` make by GDAL
 # make pictures            reads what `draw` makes, and shows it by a browser where one is there
 # make pages               looks at the manual page and the completions, which are made of the program's help, and at what
