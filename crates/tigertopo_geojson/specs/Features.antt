@@ -7,9 +7,9 @@ use Rattle.tl_map_county.specs.declared.sides.Side.{Side}
 use Rattle.tl_map_county.specs.declared.sides.Side.TheVariants as side
 use Rattle.tl_map_county.specs.TheMap.{TheMap, MapChain, MapLandmark}
 use Rattle.std.specs.List.{flat_map}
-use Rattle.tigertopo_words.specs.declared.layer.Layer.{Layer}
-use Rattle.tigertopo_words.specs.declared.layer.Layer.TheVariants.{Chains, Points, Polygons, Landmarks}
-use Rattle.tigertopo_words.specs.Json.{string_text}
+use Rattle.tigertopo_shown.specs.declared.layer.Layer.{Layer}
+use Rattle.tigertopo_shown.specs.declared.layer.Layer.TheVariants.{Chains, Points, Polygons, Landmarks}
+use Rattle.tigertopo_shown.specs.Json.{string_text}
 use Rattle.tigertopo_geojson.specs.Strings.{key_string, key_members}
 use Rattle.tigertopo_geojson.specs.Positions.{position_text, positions_text}
 use Rattle.tigertopo_geojson.specs.Groups.{places}

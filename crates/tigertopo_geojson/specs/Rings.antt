@@ -6,8 +6,8 @@ use Rattle.tl_map_county.specs.TheMap.{TheMap, MapChain}
 use Rattle.tl_map_county.specs.Darts.{dart_start}
 use Rattle.tl_check_sides.specs.Lists.{list_at}
 use Rattle.std.specs.List.{flat_map}
-use Rattle.tigertopo_words.specs.declared.layer.Layer.{Layer}
-use Rattle.tigertopo_words.specs.declared.layer.Layer.TheVariants as layers
+use Rattle.tigertopo_shown.specs.declared.layer.Layer.{Layer}
+use Rattle.tigertopo_shown.specs.declared.layer.Layer.TheVariants as layers
 use Rattle.tigertopo_geojson.specs.Strings.{key_members}
 use Rattle.tigertopo_geojson.specs.Positions.{position_text, comma_position}
 use Rattle.tigertopo_geojson.specs.Groups.{is_one}

@@ -2,7 +2,7 @@
 use Rattle.std.specs.Prelude.{ℕ, List, ◌++◌, codes, decimal}
 use Rattle.tl_record_key.specs.declared.key.PolyKey.{PolyKey}
 use Rattle.tl_record_key.specs.KeyText.{cenid_text, key_text}
-use Rattle.tigertopo_words.specs.Json.{string_text}
+use Rattle.tigertopo_shown.specs.Json.{string_text}
 
 -- the key of a polygon as a string
 abbrev pub key_string : PolyKey → List ℕ

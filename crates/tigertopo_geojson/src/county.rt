@@ -19,7 +19,7 @@ use crate::polygons::{list_links, print_polygons};
 use crate::rings::print_boundaries;
 use std::alloc::{AllocError, Global};
 use std::marker::Model;
-use tigertopo_words::Layer;
+use tigertopo_shown::Layer;
 use tl_cert_output::{Printer, Stop};
 use tl_map_county::Map;
 use tl_record::Sink;

@@ -6,7 +6,7 @@ ghost use Rattle.tigertopo_geojson.specs.Features.{is_shown, shown, lead, featur
 
 use crate::positions::print_positions;
 use crate::strings::{print_key, print_string};
-use tigertopo_words::Layer;
+use tigertopo_shown::Layer;
 use tl_cert_output::Printer;
 use tl_map_county::{Chain, Map, Side};
 use tl_record::Sink;

@@ -5,12 +5,12 @@ ghost use Rattle.arrayvec.specs.ArrayString.{array_string_len};
 ghost use Rattle.tl_record_key.specs.KeyText.{key_text};
 ghost use Rattle.tl_cert_output.specs.Printing.{Prints};
 ghost use Rattle.std.specs.List.{flat_map};
-ghost use Rattle.tigertopo_words.specs.Json.{string_byte, string_text};
+ghost use Rattle.tigertopo_shown.specs.Json.{string_byte, string_text};
 ghost use Rattle.tigertopo_geojson.specs.Strings.{key_string, whole_cenid, key_members};
 
 use arrayvec::ArrayString;
 use itoa::Buffer;
-use tigertopo_words::json_byte;
+use tigertopo_shown::json_byte;
 use tl_cert_output::Printer;
 use tl_record::Sink;
 use tl_record_key::PolyKey;

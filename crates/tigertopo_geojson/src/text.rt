@@ -2,7 +2,7 @@
 
 use crate::county::{Shapes, print_county, print_county_with};
 use std::alloc::Global;
-use tigertopo_words::Layer;
+use tigertopo_shown::Layer;
 use tl_cert_output::{Stop, Text};
 use tl_map_county::Map;
 use tl_record::Sink;

@@ -12,7 +12,7 @@ use Rattle.std.proofs.Math.Arith.{mod-mul}
 use Rattle.tl_geom.specs.declared.point.Point.{Point}
 use Rattle.tl_geom.specs.declared.rational.Rational.{Rational}
 use Rattle.tl_record.specs.Limits.{greatest_longitude, greatest_latitude}
-use Rattle.tigertopo_words.specs.Points.{AreDecimals, AreDegreesOf, AreDegrees, Spells}
+use Rattle.tigertopo_shown.specs.Points.{AreDecimals, AreDegreesOf, AreDegrees, Spells}
 use Rattle.tigertopo_where.specs.Degrees.{degrees_text, digits_below, nearest, sign_of, units_of, decimals_of, location_text}
 use Rattle.tl_geom.proofs.Dividing.{some_size}
 use Rattle.tigertopo_where.proofs.DegreeLemmas.{some_ten}

@@ -6,7 +6,7 @@ ghost use Rattle.tl_geom.specs.declared.rational.Rational.{Rational};
 ghost use Rattle.tl_record.specs.Limits.{greatest_longitude, greatest_latitude};
 ghost use Rattle.tl_record.specs.Lines.{raw_lines};
 ghost use Rattle.tigertopo_text.specs.Joining.{joined};
-ghost use Rattle.tigertopo_words.specs.Points.{Spells};
+ghost use Rattle.tigertopo_shown.specs.Points.{Spells};
 ghost use Rattle.tigertopo_where.specs.Degrees.{location_text};
 ghost use Rattle.tigertopo_where.specs.LinePlaces.{line_count, lines_of_all, place_of, StandsAt};
 

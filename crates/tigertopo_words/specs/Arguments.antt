@@ -10,9 +10,9 @@ use Rattle.tigertopo_words.specs.declared.budget.Told.{Told}
 use Rattle.tigertopo_words.specs.declared.budget.Told.TheVariants.{One, All}
 use Rattle.tigertopo_words.specs.declared.form.Form.{Form}
 use Rattle.tigertopo_words.specs.declared.form.Form.TheVariants.{Lines, Records, Objects}
-use Rattle.tigertopo_words.specs.declared.layer.Layer.{Layer}
-use Rattle.tigertopo_words.specs.declared.layer.Layer.TheVariants.{Chains, Points, Polygons, Landmarks}
-use Rattle.tigertopo_words.specs.Points.{Spells}
+use Rattle.tigertopo_shown.specs.declared.layer.Layer.{Layer}
+use Rattle.tigertopo_shown.specs.declared.layer.Layer.TheVariants.{Chains, Points, Polygons, Landmarks}
+use Rattle.tigertopo_shown.specs.Points.{Spells}
 
 -- a text was given
 abbrev pub IsGiven : Option Text → Type 0

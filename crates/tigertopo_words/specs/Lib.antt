@@ -1,11 +1,9 @@
 -- What the contracts of commands cite.
 pub mod Commands
-pub mod Points
 pub mod Arguments
 pub mod Requests
 pub mod Asked
 pub mod CommandLine
 pub mod Escapes
-pub mod Json
 pub mod Spelling
 pub mod Keeping

@@ -6,7 +6,7 @@ ghost use Rattle.tigertopo_words.specs.Asked.{named_of};
 use crate::budget::Told;
 use crate::command_line::{Named, word_of};
 use crate::form::Form;
-use crate::layer::Layer;
+use tigertopo_shown::Layer;
 use tl_geom::Point;
 use tl_record::Options;
 

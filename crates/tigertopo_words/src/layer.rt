@@ -1,21 +1,10 @@
-//! The layers of a map that a file of GeoJSON can have by themselves, and how they are spelt.
+//! How the layers of a map are spelt.
 
 ghost use Rattle.std.specs.Prelude.{◌≡◌, ◌≢◌, Option, MatchOption, option_map};
 ghost use Rattle.tigertopo_words.specs.Arguments.{IsLayer, layer_word};
-ghost use Rattle.tigertopo_words.specs.declared.layer.Layer.{Layer};
+ghost use Rattle.tigertopo_shown.specs.declared.layer.Layer.{Layer};
 
-/// A layer of a map: features of one kind.
-#[derive(Clone, Copy)]
-pub enum Layer {
-    /// The chains.
-    Chains,
-    /// The polygons' points.
-    Points,
-    /// The polygons.
-    Polygons,
-    /// The landmarks' points.
-    Landmarks,
-}
+use tigertopo_shown::Layer;
 
 /// The layer that was given, if one was. A word that names none has no answer.
 pub fn layer_by(given: Option<&str>) -> Option<Option<Layer>>

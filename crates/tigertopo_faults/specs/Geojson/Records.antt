@@ -12,7 +12,7 @@ use Rattle.tigertopo_records.specs.declared.line.SegmentEnds.{SegmentEnds}
 use Rattle.tigertopo_records.specs.declared.line.Part.{Part}
 use Rattle.tigertopo_records.specs.declared.line.Part.TheVariants.{Start, Pair, End}
 use Rattle.tigertopo_faults.specs.Lines.Texts.{spoken_of}
-use Rattle.tigertopo_words.specs.Json.{string_text}
+use Rattle.tigertopo_shown.specs.Json.{string_text}
 use Rattle.tigertopo_geojson.specs.Features.{separated}
 
 -- a record's type

@@ -10,7 +10,7 @@ use Rattle.tigertopo_records.specs.declared.subject.Subject.{Subject}
 use Rattle.tigertopo_records.specs.SpokenOf.{chains_of}
 use Rattle.tl_geom.specs.declared.rational.Rational.{Rational}
 use Rattle.tigertopo_faults.specs.Lines.Places.{place_at}
-use Rattle.tigertopo_words.specs.Json.{string_text}
+use Rattle.tigertopo_shown.specs.Json.{string_text}
 use Rattle.tigertopo_geojson.specs.Strings.{key_string}
 use Rattle.tigertopo_geojson.specs.Features.{separated, features_below, chain_text, collection_opening, collection_closing}
 use Rattle.tigertopo_faults.specs.Geojson.Named.{listed, tlids_of, keys_of, land_of}

@@ -21,7 +21,7 @@ use Rattle.tigertopo_records.specs.declared.subject.Subject.TheVariants.{Drawn}
 use Rattle.tigertopo_records.specs.Ends.{segment_lines, segment_within}
 use Rattle.tigertopo_records.specs.SpokenOf.{subjects_of}
 use Rattle.tigertopo_faults.specs.Lines.Places.{place_at}
-use Rattle.tigertopo_words.specs.Escapes.{shown_name}
+use Rattle.tigertopo_shown.specs.Names.{shown_name}
 use Rattle.tigertopo_words.specs.declared.budget.Told.{Told}
 use Rattle.tigertopo_words.specs.declared.budget.Told.TheVariants.{One, All}
 use Rattle.tl_list_text.specs.Texts.{printed, touched_text, count_line}

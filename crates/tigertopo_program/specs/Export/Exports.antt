@@ -9,7 +9,7 @@ use Rattle.tigertopo_files.specs.World.{World, Unmade}
 use Rattle.tl_cert_output.specs.Writing.{line_of}
 use Rattle.tl_check_sides.specs.Walks.{AreWalks}
 use Rattle.tl_check_verdict.specs.Sound.{IsSound}
-use Rattle.tigertopo_words.specs.declared.layer.Layer.{Layer}
+use Rattle.tigertopo_shown.specs.declared.layer.Layer.{Layer}
 use Rattle.tigertopo_geojson.specs.Holes.{ring_count}
 use Rattle.tigertopo_geojson.specs.Rings.{county_text, county_text_with}
 use Rattle.tigertopo_outcome.specs.declared.outcome.Exported.{Exported}

@@ -21,7 +21,7 @@ use tigertopo_outcome::outcome::{Exported, Outcome};
 use tigertopo_outcome::reading::over_records;
 use tigertopo_outcome::records::MapOf;
 use tigertopo_outcome::said::{Answer, Said};
-use tigertopo_words::Layer;
+use tigertopo_shown::Layer;
 use tl_build::find_walks;
 use tl_cert_output::Stop;
 use tl_map_county::Map;

@@ -6,7 +6,7 @@ use Rattle.tl_record.specs.declared.judge.Judgement.TheVariants.{PassedOver, Rea
 use Rattle.tl_record.specs.Layout.{layout_with}
 use Rattle.tl_record.specs.Judgement.{judgement}
 use Rattle.tl_cert_output.specs.Writing.{line_of}
-use Rattle.tigertopo_words.specs.Escapes.{shown_name}
+use Rattle.tigertopo_shown.specs.Names.{shown_name}
 use Rattle.tigertopo_where.specs.declared.hint.advice.FileForm.{FileForm}
 use Rattle.tigertopo_where.specs.declared.hint.advice.FileForm.TheVariants.{Archive, Compressed, Shapefile}
 

@@ -11,7 +11,7 @@ use Rattle.tl_record.specs.Range.{Range}
 use Rattle.tl_record.specs.Limits.{most_line_bytes}
 use Rattle.tl_record.specs.Lines.{content, raw_lines}
 use Rattle.tl_cert_output.specs.Writing.{line_of}
-use Rattle.tigertopo_words.specs.Escapes.{shown_name}
+use Rattle.tigertopo_shown.specs.Names.{shown_name}
 use Rattle.tigertopo_where.specs.LinePlaces.{line_at, line_count, place_of}
 use Rattle.tigertopo_where.specs.FieldColumns.{columns_of}
 use Rattle.tigertopo_where.specs.Hint.Shown.{shown_bytes, bytes_at}

@@ -6,7 +6,7 @@ use Rattle.tl_record.specs.declared.layout.Layout.{Layout}
 use Rattle.tl_record.specs.declared.stop.Cause.{Cause}
 use Rattle.tl_record.specs.Lines.{content}
 use Rattle.tl_record.specs.Messages.{cause_text}
-use Rattle.tigertopo_words.specs.Json.{string_text, bytes_text}
+use Rattle.tigertopo_shown.specs.Json.{string_text, bytes_text}
 use Rattle.tigertopo_where.specs.Words.{first_word, behind_word}
 use Rattle.tigertopo_where.specs.Hint.Hints.{columns_for}
 use Rattle.tigertopo_where.specs.Hint.Shown.{bytes_at}

@@ -2,7 +2,7 @@
 use Rattle.std.specs.Prelude.{ℕ, ◌-◌, ◌==◌, ◌&&◌, not, nat_le, Bool, List, [], ◌∷◌, ◌++◌, take, drop, if◌then◌else◌}
 use Rattle.tl_record.specs.Range.{Range}
 use Rattle.tl_record.specs.Fields.{width_of}
-use Rattle.tigertopo_words.specs.Escapes.{escaped_byte}
+use Rattle.tigertopo_shown.specs.Names.{escaped_byte}
 
 -- is a byte shown as itself: printable ASCII, but for the backquote and the backslash
 abbrev pub is_plain : ℕ → Bool

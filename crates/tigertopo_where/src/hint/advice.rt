@@ -5,7 +5,7 @@ ghost use Rattle.tigertopo_where.specs.Hint.Advice.{other_columns, is_read, read
 ghost use Rattle.tigertopo_where.specs.Hint.Advice.{is_archive, is_compressed, is_shapefile, form_of, words_of, piped_text, form_text};
 
 use std::alloc::AllocError;
-use tigertopo_words::push_name;
+use tigertopo_shown::push_name;
 use tl_record::{Judgement, Options, judge_line, layout_with};
 
 /// What a file is that is none of records.

@@ -10,7 +10,7 @@ use crate::FieldColumns;
 use crate::hint::shown::{columns_for, content, push_number};
 use crate::words::split_word;
 use std::alloc::AllocError;
-use tigertopo_words::{push_byte_string, push_string};
+use tigertopo_shown::{push_byte_string, push_string};
 use tl_cert_output::refusal_line;
 use tl_record::{Cause, Columns, Options};
 

@@ -10,7 +10,7 @@ ghost use Rattle.tigertopo_where.specs.Hint.Hints.{field_of, columns_for, column
 use crate::{FieldColumns, columns_of};
 use itoa::Buffer;
 use std::alloc::AllocError;
-use tigertopo_words::{push_escaped, push_name};
+use tigertopo_shown::{push_escaped, push_name};
 use tl_record::{Cause, Columns, Field, Options};
 
 /// Adds where a refused line stands: the file's name, the line's number in it, and where it is refused for a field, the

@@ -13,7 +13,7 @@ ghost use Rattle.tigertopo_where.specs.Hint.Hints.{asker, trouble_text};
 use crate::hint::refused::{RefusedLine, Sought};
 use std::alloc::{AllocError, Global};
 use tigertopo_files::FileSystem;
-use tigertopo_words::push_name;
+use tigertopo_shown::push_name;
 use tl_cert_output::{Stop, write_all};
 use tl_record::{Cause, Options, Sink};
 

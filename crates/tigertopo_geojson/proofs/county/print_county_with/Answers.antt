@@ -1,6 +1,6 @@
 use Rattle.std.proofs.Common.{ap, ap₂, map, option_map, ◌∙◌}
 use Rattle.tigertopo_geojson.specs.Features.{shown, features_below}
-use Rattle.tigertopo_words.specs.declared.layer.Layer.TheVariants.{Polygons}
+use Rattle.tigertopo_shown.specs.declared.layer.Layer.TheVariants.{Polygons}
 use Rattle.tigertopo_geojson.specs.Rings.{boundary_feature, landmarks_text, county_text_with}
 use Rattle.tl_cert_output.proofs.PrinterLemmas.{both, as_text, ends_text}
 use Rattle.tigertopo_geojson.proofs.county.print_county_with.Goals as goal

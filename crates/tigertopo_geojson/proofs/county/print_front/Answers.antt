@@ -1,7 +1,7 @@
 use Rattle.std.proofs.Common.{◌∙◌, ap, ap₂, sym, length, option_map}
 use Rattle.tl_cert_output.proofs.PrinterLemmas.{both, as_text}
 use Rattle.tigertopo_geojson.specs.Features.{shown, features_below, chain_feature, polygon_feature}
-use Rattle.tigertopo_words.specs.declared.layer.Layer.TheVariants.{Chains, Points}
+use Rattle.tigertopo_shown.specs.declared.layer.Layer.TheVariants.{Chains, Points}
 use Rattle.tigertopo_geojson.proofs.FeatureLemmas.{links_beside}
 use Rattle.tigertopo_geojson.proofs.county.print_front.Goals as goal
 

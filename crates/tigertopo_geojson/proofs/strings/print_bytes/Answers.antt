@@ -1,5 +1,5 @@
 use Rattle.std.proofs.Common.{sym}
-use Rattle.tigertopo_words.specs.Json.{string_byte}
+use Rattle.tigertopo_shown.specs.Json.{string_byte}
 use Rattle.tl_cert_output.proofs.PrinterLemmas.{both, as_text}
 use Rattle.tigertopo_geojson.proofs.TextLemmas.{each_at}
 use Rattle.tigertopo_geojson.proofs.strings.print_bytes.Goals as goal

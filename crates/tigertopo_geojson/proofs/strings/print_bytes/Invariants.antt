@@ -1,7 +1,7 @@
 use Rattle.std.proofs.Common.{take}
 use Rattle.tl_cert_output.specs.Printing.{Prints}
 use Rattle.std.specs.List.{flat_map}
-use Rattle.tigertopo_words.specs.Json.{string_byte}
+use Rattle.tigertopo_shown.specs.Json.{string_byte}
 use Rattle.tigertopo_geojson.proofs.strings.print_bytes.Given as goal
 
 abbrev pub invariant-loop-byte : goal.invariant-loop-byte

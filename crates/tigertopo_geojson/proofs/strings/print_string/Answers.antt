@@ -1,4 +1,4 @@
-use Rattle.tigertopo_words.specs.Json.{string_text}
+use Rattle.tigertopo_shown.specs.Json.{string_text}
 use Rattle.tl_cert_output.proofs.PrinterLemmas.{both}
 use Rattle.tigertopo_geojson.proofs.strings.print_string.Goals as goal
 

@@ -1,5 +1,5 @@
 use Rattle.std.proofs.Common.{◌≡◌, ◌++◌, List, ℕ, ap, codes, append_assoc, ◌∙◌}
-use Rattle.tigertopo_words.specs.Escapes.{shown_name}
+use Rattle.tigertopo_shown.specs.Names.{shown_name}
 use Rattle.tigertopo_where.specs.Hint.Advice.{piped_text}
 use Rattle.tigertopo_where.proofs.hint.advice.push_piped.Goals as goal
 

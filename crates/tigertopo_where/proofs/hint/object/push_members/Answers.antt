@@ -1,5 +1,5 @@
 use Rattle.std.proofs.Common.{codes, decimal}
-use Rattle.tigertopo_words.specs.Json.{bytes_text}
+use Rattle.tigertopo_shown.specs.Json.{bytes_text}
 use Rattle.tigertopo_where.specs.FieldColumns.{range_of}
 use Rattle.tigertopo_where.specs.Hint.Shown.{bytes_at}
 use Rattle.tigertopo_where.proofs.WordLemmas.{six_parts}

@@ -1,6 +1,6 @@
 use Rattle.std.proofs.Common.{◌≡◌, ◌∙◌, arith, codes, decimal}
 use Rattle.tl_record.specs.Messages.{cause_text}
-use Rattle.tigertopo_words.specs.Json.{string_text}
+use Rattle.tigertopo_shown.specs.Json.{string_text}
 use Rattle.tigertopo_where.specs.Hint.Objects.{cause_members, refused_feature}
 use Rattle.tigertopo_where.proofs.WordLemmas.{seven_parts}
 use Rattle.tigertopo_where.proofs.hint.object.push_refused_feature.Goals as goal

@@ -1,7 +1,7 @@
 -- Strings of JSON.
 use Rattle.std.specs.Prelude.{ℕ, ◌/◌, ◌%◌, ◌==◌, nat_lt, if◌then◌else◌, List, [], ◌∷◌, ◌++◌, codes}
 use Rattle.std.specs.List.{flat_map}
-use Rattle.tigertopo_words.specs.Escapes.{hex_digit}
+use Rattle.tigertopo_shown.specs.Names.{hex_digit}
 
 -- a character below 256 by its number
 abbrev pub numbered : ℕ → List ℕ

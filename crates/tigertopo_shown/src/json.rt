@@ -2,9 +2,9 @@
 
 ghost use Rattle.std.specs.Prelude.{◌≡◌, ◌<◌, ◌++◌, OnOk};
 ghost use Rattle.std.specs.List.{flat_map};
-ghost use Rattle.tigertopo_words.specs.Json.{byte_character, bytes_text, numbered, string_byte, string_text};
+ghost use Rattle.tigertopo_shown.specs.Json.{byte_character, bytes_text, numbered, string_byte, string_text};
 
-use crate::escapes::hex_digit;
+use crate::names::hex_digit;
 use arrayvec::ArrayVec;
 use std::alloc::AllocError;
 

@@ -1,7 +1,7 @@
 //! Bytes that aren't shown as they are, and names of files as they are shown.
 
 ghost use Rattle.std.specs.Prelude.{◌≡◌, ◌<◌, ◌++◌, OnOk};
-ghost use Rattle.tigertopo_words.specs.Escapes.{escaped_byte, hex_digit, is_shown, shown_name};
+ghost use Rattle.tigertopo_shown.specs.Names.{escaped_byte, hex_digit, is_shown, shown_name};
 
 use std::alloc::AllocError;
 

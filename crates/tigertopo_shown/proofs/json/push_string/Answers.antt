@@ -1,6 +1,6 @@
 use Rattle.std.proofs.Common.{append_assoc}
-use Rattle.tigertopo_words.specs.Json.{string_text}
-use Rattle.tigertopo_words.proofs.json.push_string.Goals as goal
+use Rattle.tigertopo_shown.specs.Json.{string_text}
+use Rattle.tigertopo_shown.proofs.json.push_string.Goals as goal
 
 pub returns : goal.returns
 unfolding string_text

@@ -1,0 +1,4 @@
+-- How things are shown and spelt.
+pub mod Names
+pub mod Json
+pub mod Points
