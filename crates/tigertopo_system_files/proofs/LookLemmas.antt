@@ -75,9 +75,9 @@ stands_there bytes other may (Ok standing) None name text read is same stands = 
 stands_there bytes other may (Ok standing) (Some at) name text read is same stands = rw (same ∙ same_Some (bytes other) (beside name) is) at stands
 
 -- nothing is written beside a name where it is known what stands there
-pub none_beside : {S : Type 0} (P : Held → Type 0) (bytes : S → List ℕ) (held : Option Held) (name : List ℕ) → IfSome held (λ at. None ≡ Some (beside name)) → IfSome held P
-none_beside P bytes None name is = tt
-none_beside P bytes (Some at) name is = absurd (cc)
+pub none_beside : (P : Held → Type 0) (held : Option Held) (name : List ℕ) → IfSome held (λ at. None ≡ Some (beside name)) → IfSome held P
+none_beside P None name is = tt
+none_beside P (Some at) name is = absurd (cc)
 
 -- no regular file stands there, which is never known
 pub never : (P : Held → Type 0) (held : Option Held) → IfSome held (λ at. ⊥) → IfSome held P

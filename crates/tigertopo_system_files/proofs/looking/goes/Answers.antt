@@ -1,3 +1,4 @@
+use Rattle.std.proofs.lemmas.Result.{err_from_is_err_and}
 use Rattle.tigertopo_system_files.specs.Looking.{may_at}
 use Rattle.tigertopo_system_files.specs.declared.looking.Spot.TheVariants as spot
 use Rattle.tigertopo_system_files.proofs.LookLemmas.{whole_told}
@@ -10,3 +11,6 @@ returns-in-Name g c =
 pub returns : goal.returns
 returns g c =
     rw c.in-Beside.is (whole_told (may_at spot.Beside c.args.kind) c.is_unfinished.result (g.L.Lookup.held c.args.files.now) (g.L.File.Read.remaining c.in_ok-file.file) c.args.name.now c.args.size c.in_ok-file.ensures c.is_unfinished.ensures)
+
+pub returns-in_err-file : goal.returns-in_err-file
+returns-in_err-file g c = let p = err_from_is_err_and c.from_residual.result c.from_residual.ensures.1 in rw p.1 tt
