@@ -112,6 +112,14 @@ back_past [] (suc n) x le = absurd (omega (arith, le))
 back_past (y ∷ xs) zero x le = refl
 back_past (y ∷ xs) (suc n) x le = back_past xs n x (omega (arith, le))
 
+front_past : {X : Type 0} (xs : List X) (n : ℕ) (x : X) → n < length xs → take n (insert xs (suc n) x) ≡ take n xs
+front_past [] n x lt = absurd (omega (arith, lt))
+front_past (y ∷ xs) zero x lt = refl
+front_past (y ∷ xs) (suc n) x lt = ap (λ ys. y ∷ ys) (front_past xs n x (omega (arith, lt)))
+
+put_past : {X : Type 0} (xs : List X) (n : ℕ) (x : X) → n < length xs → take n (insert xs (n + 1) x) ≡ take n xs
+put_past xs n x lt = rw add-one (front_past xs n x lt)
+
 put_behind : {X : Type 0} (xs : List X) (n : ℕ) (x : X) → n ≤ length xs → drop (n + 1 + 1) (insert xs n x) ≡ drop (n + 1) xs
 put_behind xs n x le = rw (add-one, add-one) (back_past xs n x le)
 
@@ -155,6 +163,9 @@ closed_some old new n block lt e one before behind =
 pub gone_numbers : (old : List (Vec ℕ Global)) (n : ℕ) (items : List ℕ) → items ≡ [] → numbers_of (remove old n) ≡ numbers_of (take n old) ++ (items ++ numbers_of (drop (n + 1) old))
 gone_numbers old n items e = rw (e, add-one) (numbers-append (take n old) (drop (suc n) old))
 
+pub gone_some : (old : List (Vec ℕ Global)) (n : ℕ) → AreSome (take n old) → AreSome (drop (n + 1) old) → AreSome (remove old n)
+gone_some old n before behind = some_append (take n old) (drop (suc n) old) before (rw add-one at behind)
+
 -- a block is taken from its place
 pub lifted_numbers : (old new : List (Vec ℕ Global)) (n : ℕ) (block other : Vec ℕ Global) → n < length old → block ≡ get_or old n block → new ≡ set old n other → numbers_of (take n new) ++ (block.items ++ numbers_of (drop (n + 1) new)) ≡ numbers_of old
 lifted_numbers old new n block other lt is e =
@@ -190,6 +201,13 @@ rest_some [] (suc n) all = all
 rest_some (block ∷ rest) zero all = some_tail block rest all
 rest_some (block ∷ rest) (suc n) all = rest_some rest n all
 
+-- a block is joined to the open one
+pub joined_numbers : (old : List (Vec ℕ Global)) (n : ℕ) (block : Vec ℕ Global) (items more : List ℕ) → n < length old → block ≡ get_or old n block → more ≡ items ++ block.items →
+    more ++ numbers_of (drop n (remove old n)) ≡ items ++ numbers_of (drop n old)
+joined_numbers old n block items more lt is m =
+    ap₂ (λ xs bs. xs ++ numbers_of bs) m (back_less old n) ∙ append_assoc items block.items (numbers_of (drop (suc n) old)) ∙
+    ap (λ bs. items ++ numbers_of bs) (sym (from_get old n block lt is))
+
 -- ---- the open block
 
 -- wherever the place is
@@ -201,6 +219,9 @@ whole west items east place =
 -- blocks from one on changed
 pub front_same : (old new : List (Vec ℕ Global)) (n : ℕ) → take (n + 1) new ≡ take (n + 1) old → take n new ≡ take n old
 front_same old new n e = sym (take-take n (n + 1) new (omega arith)) ∙ ap (take n) e ∙ take-take n (n + 1) old (omega arith)
+
+pub count_same : (old new : List (Vec ℕ Global)) (n : ℕ) → take (n + 1) new ≡ take (n + 1) old → n ≤ length old → n ≤ length new
+count_same old new n e le = omega (arith, ap length e, length-take (n + 1) new, length-take (n + 1) old, le)
 
 pub joined_whole : (old new : List (Vec ℕ Global)) (n : ℕ) (items more : List ℕ) (place : ℕ) → take (n + 1) new ≡ take (n + 1) old → more ++ numbers_of (drop (n + 1) new) ≡ items ++ numbers_of (drop (n + 1) old) →
     (numbers_of (take n new) ++ take place more) ++ (drop place more ++ numbers_of (drop (n + 1) new)) ≡ (numbers_of (take n old) ++ take place items) ++ (drop place items ++ numbers_of (drop (n + 1) old))
@@ -243,6 +264,18 @@ parted_back old kept new n items left place half behind lt same e l b le within 
     ap₂ (λ xs bs. drop place (take half items) ++ (xs ++ numbers_of bs)) b same ∙
     sym (append_assoc (drop place (take half items)) (drop half items) (numbers_of (drop (n + 1) old))) ∙
     ap (λ xs. xs ++ numbers_of (drop (n + 1) old)) (parted_behind items place half le within)
+
+pub parted_front : (old kept new : List (Vec ℕ Global)) (n : ℕ) (items left : List ℕ) (place half : ℕ) (behind : Vec ℕ Global) → n < length kept → take n kept ≡ take n old → new ≡ insert kept (n + 1) behind → left ≡ take half items → place ≤ half →
+    numbers_of (take n new) ++ take place left ≡ numbers_of (take n old) ++ take place items
+parted_front old kept new n items left place half behind lt same e l le =
+    ap₂ (λ bs xs. numbers_of bs ++ xs) (ap (take n) e ∙ put_past kept n behind lt ∙ same) (ap (take place) l ∙ take-take place half items le)
+
+pub parted_some : (old kept new : List (Vec ℕ Global)) (n : ℕ) (behind : Vec ℕ Global) → n < length kept → take n kept ≡ take n old → new ≡ insert kept (n + 1) behind → AreSome (take n old) → AreSome (take n new)
+parted_some old kept new n behind lt same e all = subst AreSome (sym (ap (take n) e ∙ put_past kept n behind lt ∙ same)) all
+
+pub later_some : (old kept new : List (Vec ℕ Global)) (n : ℕ) (behind : Vec ℕ Global) → n < length kept → drop (n + 1) kept ≡ drop (n + 1) old → new ≡ insert kept (n + 1) behind → 0 < length behind.items → AreSome (drop (n + 1) old) → AreSome (drop (n + 1) new)
+later_some old kept new n behind lt same e one all =
+    subst AreSome (sym (ap (drop (n + 1)) e ∙ back_put kept (n + 1) behind (omega (arith, lt)) ∙ ap (λ bs. behind ∷ bs) same)) (some_cons behind (drop (n + 1) old) one all)
 
 -- or the place goes with what was parted off, and the block stands before it
 pub before_front : (old kept new : List (Vec ℕ Global)) (n : ℕ) (items right : List ℕ) (place half : ℕ) (before : Vec ℕ Global) → n ≤ length kept → take n kept ≡ take n old → new ≡ insert kept n before → before.items ≡ take half items → right ≡ drop half items → half ≤ place →

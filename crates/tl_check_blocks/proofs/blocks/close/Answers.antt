@@ -1,8 +1,8 @@
 use Rattle.std.proofs.Common.{◌<◌, ◌++◌, length, take, drop, ap, sym, refl, subst, ◌∙◌, ◌+◌, ℕ, arith}
 use Rattle.std.specs.Prelude.{Vec}
 use Rattle.std.specs.Global.{Global}
-use Rattle.tl_check_blocks.specs.Keeping.Blocks.{numbers_of}
-use Rattle.tl_check_blocks.proofs.Numbers.{some_by_test, none_by_test, gone_numbers, closed_numbers, closed_some}
+use Rattle.tl_check_blocks.specs.Keeping.Blocks.{numbers_of, AreSome}
+use Rattle.tl_check_blocks.proofs.Numbers.{some_by_test, none_by_test, gone_numbers, gone_some, closed_numbers, closed_some}
 use Rattle.tl_check_blocks.proofs.blocks.close.Goals as goal
 
 pub returns-then-is_empty-clause-numbers : goal.returns-then-is_empty-clause-numbers
@@ -25,3 +25,12 @@ returns-clause-numbers c =
     let place = c.args.place in
     closed_numbers old _ place c.swap.new.y c.requires.within refl ∙
     ap (λ (block : Vec ℕ Global). numbers_of (take place old) ++ (block.items ++ numbers_of (drop (place + 1) old))) c.swap.ensures.y_after
+
+pub remove-requires : goal.remove-requires
+remove-requires c = let ok = c.args.blocks.now.ok in let within = c.requires.within in omega (arith, ok, within)
+
+pub index_mut-requires : goal.index_mut-requires
+index_mut-requires c = let ok = c.args.blocks.now.ok in let within = c.requires.within in omega (arith, ok, within)
+
+pub returns-then-is_empty-clause-some : goal.returns-then-is_empty-clause-some
+returns-then-is_empty-clause-some c = subst AreSome (sym c.remove.ensures.items) (gone_some c.args.blocks.now.items c.args.place c.requires.before c.requires.behind)

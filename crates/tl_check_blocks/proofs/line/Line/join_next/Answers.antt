@@ -1,8 +1,8 @@
-use Rattle.std.proofs.Common.{◌≡◌, ◌++◌, ◌+◌, drop, ap, ◌∙◌}
-use Rattle.tl_check_blocks.specs.Keeping.Blocks.{numbers_of}
+use Rattle.std.proofs.Common.{◌≡◌, ◌++◌, ◌+◌, drop, ap, sym, subst, ◌∙◌, arith}
+use Rattle.tl_check_blocks.specs.Keeping.Blocks.{numbers_of, AreSome}
 use Rattle.tl_check_blocks.specs.Lined.{list_of}
 use Rattle.tl_check_blocks.proofs.Answered.{still_ok}
-use Rattle.tl_check_blocks.proofs.Numbers.{joined_whole}
+use Rattle.tl_check_blocks.proofs.Numbers.{joined_whole, front_same, count_same}
 use Rattle.tl_check_blocks.proofs.line.Line.join_next.Goals as goal
 
 pub returns : goal.returns
@@ -15,3 +15,19 @@ returns c =
     still_ok c.join.result (more ++ numbers_of (drop (opened + 1) new) ≡ items ++ numbers_of (drop (opened + 1) old)) _
     (λ numbers. joined_whole old new opened items more c.self.inside.place c.join.ensures.before numbers ∙ ap list_of c.self.view_is)
     c.join.ensures.numbers
+
+pub join-requires : goal.join-requires
+join-requires c = record { some = c.self.invariant.3 }
+
+pub invariant_of-self : goal.invariant_of-self
+invariant_of-self c =
+    let old = c.self.inside.blocks.items in
+    let opened = c.self.inside.opened in
+    let same = c.join.ensures.before in
+    let inner = c.self.invariant.0 in
+    let longer = c.join.ensures.longer in (
+      omega (arith, inner, longer),
+      count_same old _ opened same c.self.invariant.1,
+      subst AreSome (sym (front_same old _ opened same)) c.self.invariant.2,
+      c.join.ensures.some,
+    )

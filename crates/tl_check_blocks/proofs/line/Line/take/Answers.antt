@@ -1,6 +1,6 @@
-use Rattle.std.proofs.Common.{◌++◌, ◌+◌, take, drop, ap, ◌∙◌, arith}
-use Rattle.tl_check_blocks.specs.Keeping.Blocks.{numbers_of}
-use Rattle.tl_check_blocks.proofs.Numbers.{front_kept, front_same, back_taken, end_taken}
+use Rattle.std.proofs.Common.{◌++◌, ◌+◌, take, drop, ap, sym, subst, ◌∙◌, arith}
+use Rattle.tl_check_blocks.specs.Keeping.Blocks.{numbers_of, AreSome}
+use Rattle.tl_check_blocks.proofs.Numbers.{front_kept, front_same, count_same, back_taken, end_taken}
 use Rattle.tl_check_blocks.proofs.line.Line.take.Goals as goal
 
 pub returns-then-self-len-clause-front : goal.returns-then-self-len-clause-front
@@ -28,3 +28,30 @@ returns-else-self-len-clause-back c =
     let len = c.len.ensures in
     end_taken c.self.inside.items.items (numbers_of (drop (c.self.inside.opened + 1) c.self.inside.blocks.items)) _ c.self.inside.place (omega (arith, past, len)) c.take_first.ensures.numbers ∙
     ap (λ l. drop 1 l.back) c.self.view_is
+
+pub invariant_of-self : goal.invariant_of-self
+invariant_of-self c =
+    let within = c.if-self-len.true in
+    let len = c.len.ensures in
+    let less = c.remove.ensures.len in
+    let count = c.self.inside.items.ok in
+    let new_count = c.remove.new.self.ok in (
+      omega (arith, within, len, less, count, new_count),
+      c.self.invariant.1,
+      c.self.invariant.2,
+      c.self.invariant.3,
+    )
+
+pub take_first-requires : goal.take_first-requires
+take_first-requires c = record { some = c.self.invariant.3 }
+
+pub invariant_of-self-else-self-len : goal.invariant_of-self-else-self-len
+invariant_of-self-else-self-len c =
+    let old = c.self.inside.blocks.items in
+    let opened = c.self.inside.opened in
+    let same = c.take_first.ensures.before in (
+      c.self.invariant.0,
+      count_same old _ opened same c.self.invariant.1,
+      subst AreSome (sym (front_same old _ opened same)) c.self.invariant.2,
+      c.take_first.ensures.some,
+    )
