@@ -61,10 +61,7 @@ impl PointCounts {
         ensures long { IfOk result (λ counts. length counts ≡ points) }
         ensures none { IfOk result (λ counts. All (λ known. known ≡ None) counts) }
     {
-        let mut parts = Vec::with_capacity(alloc, points)?;
-        for place in 0..points {
-            parts.push(None)?;
-        }
+        let parts = vec![in alloc; None; points]?;
         Ok(PointCounts {
             flanks: Vec::new(alloc),
             parts,

@@ -33,13 +33,13 @@ pub fn sweep(
         All (IsVisit (length map.now.polygons) map.now.chains sites.now labels.new.gaps.items) visits.items) }
 {
     let mut places = Places::new(alloc, map.segments() as usize)?;
+    let mut spots = Spots::new(alloc, sites)?;
     let mut line = Line::new(alloc);
     let mut room = Room {
         outs: Vec::new(alloc),
         ins: Vec::new(alloc),
         front: Vec::new(alloc),
     };
-    let mut spots = Spots::new(alloc, sites)?;
     sweep_along(
         map,
         events,

@@ -1,5 +1,7 @@
 use Rattle.std.proofs.Common.{All, length, sym, subst}
+use Rattle.std.proofs.lemmas.Result.{err_from_is_err_and}
 use Rattle.std.proofs.lemmas.List.Elements.{All-nil}
+use Rattle.std.proofs.lemmas.Option.{slice_get_within}
 use Rattle.tl_check_inside.specs.Keeping.Tallies.{AreClear}
 use Rattle.tl_check_counts.specs.Keeping.Balances.{AreAmong, HaveOneBalance}
 use Rattle.tl_check_counts.specs.Keeping.Ways.{TellGap}
@@ -49,3 +51,44 @@ shorten-requires-clause-among c =
 pub shorten-requires-clause-clear : goal.shorten-requires-clause-clear
 shorten-requires-clause-clear c =
     subst (λ k. AreClear k c.loop-place.near c.loop-place.far) (sym c.loop-place.invariant.clear.nears) c.loop-place.invariant.clear
+
+pub returns-in_err-go-clause-long : goal.returns-in_err-go-clause-long
+returns-in_err-go-clause-long c = let p = err_from_is_err_and c.from_residual.result c.from_residual.ensures.1 in rw p.1 tt
+
+pub returns-in_err-go-clause-counts : goal.returns-in_err-go-clause-counts
+returns-in_err-go-clause-counts c = let p = err_from_is_err_and c.from_residual.result c.from_residual.ensures.1 in rw p.1 tt
+
+pub returns-in_err-shorten-clause-long : goal.returns-in_err-shorten-clause-long
+returns-in_err-shorten-clause-long c = let p = err_from_is_err_and c.from_residual-in_err-shorten.result c.from_residual-in_err-shorten.ensures.1 in rw p.1 tt
+
+pub returns-in_err-shorten-clause-counts : goal.returns-in_err-shorten-clause-counts
+returns-in_err-shorten-clause-counts c = let p = err_from_is_err_and c.from_residual-in_err-shorten.result c.from_residual-in_err-shorten.ensures.1 in rw p.1 tt
+
+pub returns-in_err-keep-clause-long : goal.returns-in_err-keep-clause-long
+returns-in_err-keep-clause-long c = let p = err_from_is_err_and c.from_residual-in_err-keep.result c.from_residual-in_err-keep.ensures.1 in rw p.1 tt
+
+pub returns-in_err-keep-clause-counts : goal.returns-in_err-keep-clause-counts
+returns-in_err-keep-clause-counts c = let p = err_from_is_err_and c.from_residual-in_err-keep.result c.from_residual-in_err-keep.ensures.1 in rw p.1 tt
+
+pub returns-then-kept-most-clause-long : goal.returns-then-kept-most-clause-long
+returns-then-kept-most-clause-long c = c.loop-place.invariant.long
+
+pub returns-then-kept-most-clause-counts : goal.returns-then-kept-most-clause-counts
+returns-then-kept-most-clause-counts c = c.loop-place.invariant.counts
+
+pub returns-clause-long : goal.returns-clause-long
+returns-clause-long c = c.loop-place.invariant.long
+
+pub returns-clause-counts : goal.returns-clause-counts
+returns-clause-counts c = c.loop-place.invariant.counts
+
+pub go-requires-clause-told : goal.go-requires-clause-told
+go-requires-clause-told c = c.loop-place.invariant.told
+
+pub go-requires-clause-among : goal.go-requires-clause-among
+go-requires-clause-among c = c.loop-place.invariant.among
+
+pub keep-requires : goal.keep-requires
+keep-requires c =
+    let visit = c.requires.visits c.loop-place.place _ c.loop-place-test.true in
+    rw c.loop-place.invariant.long (slice_get_within c.args.sites.now _ visit.site visit.is)

@@ -1,4 +1,5 @@
 use Rattle.std.proofs.Common.{◌++◌, length, sym, subst, ap, ◌∙◌}
+use Rattle.std.proofs.lemmas.Result.{err_from_is_err_and}
 use Rattle.tl_check_blocks.specs.Lined.{list_of}
 use Rattle.tl_check_active.specs.Events.{before, joined}
 use Rattle.tl_check_gaps.specs.Keeping.Facing.{raised}
@@ -44,3 +45,44 @@ loop-from-preserved c =
           (passed.was ∙ ap (λ o. passed.west ++ (o ++ c.pass.new.line.back)) (sym c.deref.ensures.value)) labelled);
       visits = visits_kept n chains c.args.sites.now old.gaps.items new.gaps.items c.look.new.self.visits.items c.in_ok-label_vertex.ensures.kept c.in_ok-look.ensures.visits;
     }
+
+pub returns-in_err-look : goal.returns-in_err-look
+returns-in_err-look c = let p = err_from_is_err_and c.from_residual.result c.from_residual.ensures.1 in rw p.1 tt
+
+pub returns-in_err-to : goal.returns-in_err-to
+returns-in_err-to c = let p = err_from_is_err_and c.from_residual-in_err-to.result c.from_residual-in_err-to.ensures.1 in rw p.1 tt
+
+pub returns-in_err-pass : goal.returns-in_err-pass
+returns-in_err-pass c = let p = err_from_is_err_and c.from_residual-in_err-pass.result c.from_residual-in_err-pass.ensures.1 in rw p.1 tt
+
+pub returns-in_err-label_vertex : goal.returns-in_err-label_vertex
+returns-in_err-label_vertex c = let p = err_from_is_err_and c.from_residual-in_err-label_vertex.result c.from_residual-in_err-label_vertex.ensures.1 in rw p.1 tt
+
+pub look-requires-clause-events : goal.look-requires-clause-events
+look-requires-clause-events c = c.requires.events
+
+pub look-requires-clause-rising : goal.look-requires-clause-rising
+look-requires-clause-rising c = c.requires.rising
+
+pub look-requires-clause-ranges : goal.look-requires-clause-ranges
+look-requires-clause-ranges c = c.requires.ranges
+
+pub look-requires-clause-labelled : goal.look-requires-clause-labelled
+look-requires-clause-labelled c = c.loop-from.invariant.labelled
+
+pub look-requires-clause-visits : goal.look-requires-clause-visits
+look-requires-clause-visits c = c.loop-from.invariant.visits
+
+pub look-requires-clause-swept : goal.look-requires-clause-swept
+look-requires-clause-swept c = c.loop-from.invariant.swept
+
+pub returns : goal.returns
+returns c = c.loop-from.invariant.visits
+
+pub returns-then-not-branch : goal.returns-then-not-branch
+returns-then-not-branch c = c.in_ok-look.ensures.visits
+
+pub returns-then-not-branch-2 : goal.returns-then-not-branch-2
+returns-then-not-branch-2 c =
+    visits_kept (length c.args.map.now.polygons) c.args.map.now.chains c.args.sites.now c.loop-from.labels.gaps.items c.label_vertex.new.labels.gaps.items c.look.new.self.visits.items
+    c.in_ok-label_vertex.ensures.kept c.in_ok-look.ensures.visits
