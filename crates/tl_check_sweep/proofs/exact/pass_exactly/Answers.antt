@@ -1,4 +1,5 @@
 use Rattle.std.proofs.Common.{◌≡◌, ◌++◌, sym, ap, subst, ◌∙◌}
+use Rattle.std.proofs.lemmas.Result.{err_from_is_err_and}
 use Rattle.std.specs.Prelude.{slice_get, All}
 use Rattle.tl_tree_index.specs.Hits.{times}
 use Rattle.tl_check_planar.specs.ByHeight.Heights.{widest}
@@ -80,3 +81,45 @@ returns-clause-none c = λ h.
     (λ counted. subst (IsCounted chains gaps) (sym (after_is chains p stood after gone entering was gaps old new front back))
     (told.counted (subst (IsCounted chains was) (list_is chains p stood after gone entering was gaps old new front back) counted)))
     told.looked)
+
+pub returns-in_err-go_exactly-clause-meet : goal.returns-in_err-go_exactly-clause-meet
+returns-in_err-go_exactly-clause-meet c = let p = err_from_is_err_and c.from_residual.result c.from_residual.ensures.1 in rw p.1 tt
+
+pub returns-in_err-go_exactly-clause-none : goal.returns-in_err-go_exactly-clause-none
+returns-in_err-go_exactly-clause-none c = let p = err_from_is_err_and c.from_residual.result c.from_residual.ensures.1 in rw p.1 tt
+
+pub returns-in_err-take_ended-clause-meet : goal.returns-in_err-take_ended-clause-meet
+returns-in_err-take_ended-clause-meet c = let p = err_from_is_err_and c.from_residual-in_err-take_ended.result c.from_residual-in_err-take_ended.ensures.1 in rw p.1 tt
+
+pub returns-in_err-take_ended-clause-none : goal.returns-in_err-take_ended-clause-none
+returns-in_err-take_ended-clause-none c = let p = err_from_is_err_and c.from_residual-in_err-take_ended.result c.from_residual-in_err-take_ended.ensures.1 in rw p.1 tt
+
+pub returns-in_err-list_by_direction-clause-meet : goal.returns-in_err-list_by_direction-clause-meet
+returns-in_err-list_by_direction-clause-meet c = let p = err_from_is_err_and c.from_residual-in_err-list_by_direction.result c.from_residual-in_err-list_by_direction.ensures.1 in rw p.1 tt
+
+pub returns-in_err-list_by_direction-clause-none : goal.returns-in_err-list_by_direction-clause-none
+returns-in_err-list_by_direction-clause-none c = let p = err_from_is_err_and c.from_residual-in_err-list_by_direction.result c.from_residual-in_err-list_by_direction.ensures.1 in rw p.1 tt
+
+pub returns-in_err-found-clause-meet : goal.returns-in_err-found-clause-meet
+returns-in_err-found-clause-meet c = let p = err_from_is_err_and c.from_residual-in_err-found.result c.from_residual-in_err-found.ensures.1 in rw p.1 tt
+
+pub returns-in_err-found-clause-none : goal.returns-in_err-found-clause-none
+returns-in_err-found-clause-none c = let p = err_from_is_err_and c.from_residual-in_err-found.result c.from_residual-in_err-found.ensures.1 in rw p.1 tt
+
+pub returns-in_err-recount_about-clause-meet : goal.returns-in_err-recount_about-clause-meet
+returns-in_err-recount_about-clause-meet c = let p = err_from_is_err_and c.from_residual-in_err-recount_about.result c.from_residual-in_err-recount_about.ensures.1 in rw p.1 tt
+
+pub returns-in_err-recount_about-clause-none : goal.returns-in_err-recount_about-clause-none
+returns-in_err-recount_about-clause-none c = let p = err_from_is_err_and c.from_residual-in_err-recount_about.result c.from_residual-in_err-recount_about.ensures.1 in rw p.1 tt
+
+pub enter_exactly-requires-clause-proper : goal.enter_exactly-requires-clause-proper
+enter_exactly-requires-clause-proper c = c.requires.before.proper
+
+pub meet_between-requires-clause-proper : goal.meet_between-requires-clause-proper
+meet_between-requires-clause-proper c = c.requires.before.proper
+
+pub returns-then-is_some-clause-meet : goal.returns-then-is_some-clause-meet
+returns-then-is_some-clause-meet c = c.in_ok-found.ensures.meet
+
+pub returns-clause-meet : goal.returns-clause-meet
+returns-clause-meet c = c.meet_between.ensures.meet

@@ -1,4 +1,5 @@
 use Rattle.std.proofs.Common.{refl, ap, sym, subst, ◌∙◌, arith}
+use Rattle.std.proofs.lemmas.Result.{err_from_is_err_and}
 use Rattle.tl_check_planar.specs.Keeping.Apart.{one_found}
 use Rattle.tl_check_planar.specs.Searching.{IsTrueMeet}
 use Rattle.std.proofs.lemmas.Int.{ints}
@@ -11,7 +12,7 @@ use Rattle.tl_check_gaps.specs.Keeping.Watched.{IsWatched}
 use Rattle.tl_check_gaps.proofs.Slab.{begins, ends}
 use Rattle.tl_check_sweep.proofs.Arriving.{arrived}
 use Rattle.tl_check_gaps.proofs.Gone.{gone_on, all_before, risen}
-use Rattle.tl_check_sweep.proofs.Passages.{failed_meet}
+use Rattle.tl_check_sweep.proofs.Passages.{failed_meet, failed_not_passed, some_not_failed}
 use Rattle.tl_check_sweep.proofs.Under.{begun, goes_on, ended}
 use Rattle.tl_check_sweep.proofs.sweeping.sweep_along.Goals as goal
 
@@ -87,3 +88,61 @@ look-requires-clause-counted c = c.loop-from.invariant.counted
 
 pub look-requires-clause-marks : goal.look-requires-clause-marks
 look-requires-clause-marks c = c.loop-from.invariant.marks
+
+pub returns-in_err-look-clause-passed : goal.returns-in_err-look-clause-passed
+returns-in_err-look-clause-passed c = let p = err_from_is_err_and c.from_residual.result c.from_residual.ensures.1 in rw p.1 tt
+
+pub returns-in_err-look-clause-meet : goal.returns-in_err-look-clause-meet
+returns-in_err-look-clause-meet c = let p = err_from_is_err_and c.from_residual.result c.from_residual.ensures.1 in rw p.1 tt
+
+pub returns-in_err-look-clause-exact : goal.returns-in_err-look-clause-exact
+returns-in_err-look-clause-exact c = λ exact. let p = err_from_is_err_and c.from_residual.result c.from_residual.ensures.1 in rw p.1 tt
+
+pub returns-in_err-to-clause-passed : goal.returns-in_err-to-clause-passed
+returns-in_err-to-clause-passed c = let p = err_from_is_err_and c.from_residual-in_err-to.result c.from_residual-in_err-to.ensures.1 in rw p.1 tt
+
+pub returns-in_err-to-clause-meet : goal.returns-in_err-to-clause-meet
+returns-in_err-to-clause-meet c = let p = err_from_is_err_and c.from_residual-in_err-to.result c.from_residual-in_err-to.ensures.1 in rw p.1 tt
+
+pub returns-in_err-to-clause-exact : goal.returns-in_err-to-clause-exact
+returns-in_err-to-clause-exact c = λ exact. let p = err_from_is_err_and c.from_residual-in_err-to.result c.from_residual-in_err-to.ensures.1 in rw p.1 tt
+
+pub returns-in_err-is_passed-clause-passed : goal.returns-in_err-is_passed-clause-passed
+returns-in_err-is_passed-clause-passed c = let p = err_from_is_err_and c.from_residual-in_err-is_passed.result c.from_residual-in_err-is_passed.ensures.1 in rw p.1 tt
+
+pub returns-in_err-is_passed-clause-meet : goal.returns-in_err-is_passed-clause-meet
+returns-in_err-is_passed-clause-meet c = let p = err_from_is_err_and c.from_residual-in_err-is_passed.result c.from_residual-in_err-is_passed.ensures.1 in rw p.1 tt
+
+pub returns-in_err-is_passed-clause-exact : goal.returns-in_err-is_passed-clause-exact
+returns-in_err-is_passed-clause-exact c = λ exact. let p = err_from_is_err_and c.from_residual-in_err-is_passed.result c.from_residual-in_err-is_passed.ensures.1 in rw p.1 tt
+
+pub returns-clause-passed : goal.returns-clause-passed
+returns-clause-passed c = λ e.
+    let chains = c.args.map.now.chains in
+    let events = c.args.events.now in
+    let so_far = c.loop-from.invariant in
+    let past = c.loop-from-test.false in
+    let len = c.len.ensures in
+    let all = all_before events c.loop-from.from (omega (arith, past, len)) in
+    record {
+      slabs = ends chains (joined events) (before c.loop-from.from events) (list_of c.loop-from.line) so_far.swept all;
+      marks = so_far.marks;
+      asked = so_far.same;
+      watched = ended chains (joined events) (before c.loop-from.from events) (list_of c.loop-from.line) c.loop-from.watch all so_far.watched;
+    }
+
+pub returns-clause-meet : goal.returns-clause-meet
+returns-clause-meet c = λ meet e. absurd (cc e)
+
+pub returns-clause-exact : goal.returns-clause-exact
+returns-clause-exact c = λ exact e. cc e
+
+pub returns-then-not-is_passed-clause-passed : goal.returns-then-not-is_passed-clause-passed
+returns-then-not-is_passed-clause-passed c = λ e. absurd (failed_not_passed c.step.new.found (sym c.or_failed.ensures ∙ e))
+
+pub returns-then-not-is_passed-clause-exact : goal.returns-then-not-is_passed-clause-exact
+returns-then-not-is_passed-clause-exact c = λ exact e.
+    some_not_failed c.step.new.found (c.in_ok-is_passed.ensures.exact exact c.if-not-is_passed.true) (sym c.or_failed.ensures ∙ e)
+
+pub look-requires-clause-within : goal.look-requires-clause-within
+look-requires-clause-within c = let more = c.loop-from-test.true in let len = c.len.ensures in omega (arith, more, len)
