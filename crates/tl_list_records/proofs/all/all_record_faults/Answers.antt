@@ -1,4 +1,5 @@
 use Rattle.std.proofs.Common.{ap, length, arith}
+use Rattle.std.proofs.lemmas.Result.{err_from_is_err_and}
 use Rattle.tl_list_records.specs.Keeping.Parts.{chain_codes}
 use Rattle.tl_list_records.specs.Keeping.Areas.{with_areas}
 use Rattle.tl_list_records.proofs.PartLemmas.{all_told, chains_long, keys_long}
@@ -16,3 +17,12 @@ returns c = λ rs keeps.
       landmarks = areas.landmarks;
     }) areas.told in
     all_told rs _ _ told c.order_faults.ensures
+
+pub returns-in_err-segments : goal.returns-in_err-segments
+returns-in_err-segments c = λ rs keeps. let p = err_from_is_err_and c.from_residual.result c.from_residual.ensures.1 in rw p.1 tt
+
+pub returns-in_err-landmarks : goal.returns-in_err-landmarks
+returns-in_err-landmarks c = λ rs keeps. let p = err_from_is_err_and c.from_residual-in_err-landmarks.result c.from_residual-in_err-landmarks.ensures.1 in rw p.1 tt
+
+pub returns-in_err-push_too_many : goal.returns-in_err-push_too_many
+returns-in_err-push_too_many c = λ rs keeps. let p = err_from_is_err_and c.from_residual-in_err-push_too_many.result c.from_residual-in_err-push_too_many.ensures.1 in rw p.1 tt

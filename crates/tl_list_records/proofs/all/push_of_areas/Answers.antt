@@ -1,4 +1,5 @@
 use Rattle.std.proofs.Common.{◌∙◌}
+use Rattle.std.proofs.lemmas.Result.{err_from_is_err_and}
 use Rattle.tl_list_records.proofs.LimitLemmas.{landmarks_counted}
 use Rattle.tl_list_records.proofs.PartLemmas.{kept_areas}
 use Rattle.tl_list_records.proofs.all.push_of_areas.Goals as goal
@@ -10,3 +11,16 @@ returns c = λ rs codes keeps before.
       told = c.in_ok-push_areas.ensures rs codes (rw (c.deref.ensures.value, c.deref-2.ensures.value, c.deref-3.ensures.value) areas) before;
       landmarks = c.count_distinct.ensures ∙ landmarks_counted rs c.sort_numbers.new.numbers.items c.sort_numbers.ensures.ordered areas.of_landmarks;
     }
+
+pub push_areas-requires : goal.push_areas-requires
+push_areas-requires c = record {
+  polygons = rw c.deref.ensures.value c.sort_keys.ensures.ordered;
+  landmarks = rw c.deref-2.ensures.value c.sort_numbers.ensures.ordered;
+  lands = rw c.deref-3.ensures.value c.in_ok-lands.ensures.ordered;
+}
+
+pub returns-in_err-lands : goal.returns-in_err-lands
+returns-in_err-lands c = λ rs codes keeps before. let p = err_from_is_err_and c.from_residual.result c.from_residual.ensures.1 in rw p.1 tt
+
+pub returns-in_err-push_areas : goal.returns-in_err-push_areas
+returns-in_err-push_areas c = λ rs codes keeps before. let p = err_from_is_err_and c.from_residual-in_err-push_areas.result c.from_residual-in_err-push_areas.ensures.1 in rw p.1 tt

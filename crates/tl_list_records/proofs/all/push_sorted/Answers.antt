@@ -1,4 +1,5 @@
 use Rattle.std.proofs.Common.{refl}
+use Rattle.std.proofs.lemmas.Result.{err_from_is_err_and}
 use Rattle.tl_list_records.proofs.ChainLemmas.{tlid_order}
 use Rattle.tl_list_records.proofs.PartLemmas.{told_sorted, shape_order}
 use Rattle.tl_list_records.proofs.all.push_sorted.Goals as goal
@@ -21,3 +22,27 @@ pub returns-else-joined : goal.returns-else-joined
 returns-else-joined c = λ rs sorted.
     told_sorted rs c.args.chains.now c.args.shapes.now c.args.sides.now c.args.chain_tlids.now c.args.shape_tlids.now c.in_ok-joined.joined _ _ _ _ sorted c.requires.shapes c.requires.chain_tlids c.requires.shape_tlids
     (c.in_ok-joined.ensures rs) (c.in_ok-push_sides.ensures rs) c.in_ok-push_points.ensures (rw c.if-joined.false refl)
+
+pub returns-in_err-joined : goal.returns-in_err-joined
+returns-in_err-joined c = λ rs sorted. let p = err_from_is_err_and c.from_residual.result c.from_residual.ensures.1 in rw p.1 tt
+
+pub returns-in_err-push_sides : goal.returns-in_err-push_sides
+returns-in_err-push_sides c = λ rs sorted. let p = err_from_is_err_and c.from_residual-in_err-push_sides.result c.from_residual-in_err-push_sides.ensures.1 in rw p.1 tt
+
+pub returns-in_err-push_points : goal.returns-in_err-push_points
+returns-in_err-push_points c = λ rs sorted. let p = err_from_is_err_and c.from_residual-in_err-push_points.result c.from_residual-in_err-push_points.ensures.1 in rw p.1 tt
+
+pub push_points-requires : goal.push_points-requires
+push_points-requires c = record { chains = c.requires.chains; shapes = c.requires.shapes }
+
+pub count_segments-requires : goal.count_segments-requires
+count_segments-requires c = record { chains = c.requires.chains; shapes = c.requires.shapes }
+
+pub push_sides-requires-clause-sides : goal.push_sides-requires-clause-sides
+push_sides-requires-clause-sides c = c.requires.sides
+
+pub push_chains-requires-clause-none : goal.push_chains-requires-clause-none
+push_chains-requires-clause-none c = c.requires.none
+
+pub push_chains-requires-clause-shapes : goal.push_chains-requires-clause-shapes
+push_chains-requires-clause-shapes c = c.requires.shapes

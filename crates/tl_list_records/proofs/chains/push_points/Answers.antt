@@ -1,5 +1,6 @@
 use Rattle.std.proofs.Common.{◌≡◌, ◌<◌, inl, inr, length, get_or, sym, ap, ◌∙◌, arith}
 use Rattle.std.proofs.lemmas.List.{get_or_default}
+use Rattle.std.proofs.lemmas.Result.{err_from_is_err_and}
 use Rattle.tl_map_rules.specs.declared.entry.ChainEntry.{ChainEntry}
 use Rattle.tl_list_records.specs.Keeping.Runs.{is_one_point}
 use Rattle.tl_list_records.proofs.ChainLemmas.{passed_shapes, passed_next, no_chain, points_none, points_more, points_other}
@@ -33,3 +34,25 @@ loop-place-preserved c =
             ]) c.loop-place.invariant.told)
       ];
     }
+
+pub run_at-requires : goal.run_at-requires
+run_at-requires c =
+    let chains = c.args.chains.now in
+    let shapes = c.args.shapes.now in
+    record {
+      order = c.requires.shapes;
+      within = c.first_not_below-start.ensures.within;
+      below = passed_shapes chains shapes c.loop-place.place c.loop-place.start c.first_not_below-start.result no_chain c.loop-place-test.true c.loop-place.invariant.passed c.first_not_below-start.ensures.below;
+      from = c.first_not_below-start.ensures.stops;
+    }
+
+pub stands_alone-requires : goal.stands_alone-requires
+stands_alone-requires c = record { within = c.loop-place-test.true; order = c.requires.chains }
+
+pub returns : goal.returns
+returns c =
+    let all : c.loop-place.place ≡ length c.args.chains.now = omega (arith, c.loop-place.auto.place-end, c.loop-place-test.false) in
+    rw all at c.loop-place.invariant.told
+
+pub returns-in_err-push : goal.returns-in_err-push
+returns-in_err-push c = let p = err_from_is_err_and c.from_residual.result c.from_residual.ensures.1 in rw p.1 tt

@@ -1,7 +1,7 @@
 use Rattle.std.proofs.Common.{ltb, length, refl}
 use Rattle.tl_map_rules.specs.ChainsOf.{chain_count}
 use Rattle.tl_map_rules.specs.MapOf.{polygons_in, first_landmarks}
-use Rattle.std.proofs.lemmas.Result.{on_ok_weaker}
+use Rattle.std.proofs.lemmas.Result.{err_from_is_err_and, on_ok_weaker}
 use Rattle.tl_map_rules.specs.declared.fault.Limited.TheVariants.{Chains, Segments, Polygons, Landmarks}
 use Rattle.tl_list_records.specs.Keeping.Told.{Tells}
 use Rattle.tl_list_records.specs.Keeping.Limits.{IsMore}
@@ -18,3 +18,12 @@ returns c = λ rs codes are before.
     on_ok_weaker c.push_if-4.result (λ (tells : Tells (IsMore (ltb 1048576 counts.landmarks) Landmarks) c.push_if-3.new.faults.items c.push_if-4.new.faults.items).
     told_limits rs codes (ltb 1048576 counts.chains) (ltb 16777216 counts.segments) (ltb 1048576 counts.polygons) (ltb 1048576 counts.landmarks) c.args.faults.now.items c.push_if.new.faults.items c.push_if-2.new.faults.items c.push_if-3.new.faults.items c.push_if-4.new.faults.items
     chains segments polygons landmarks c.in_ok-push_if.ensures c.in_ok-push_if-2.ensures c.in_ok-push_if-3.ensures tells before) c.push_if-4.ensures
+
+pub returns-in_err-push_if : goal.returns-in_err-push_if
+returns-in_err-push_if c = λ rs codes are before. let p = err_from_is_err_and c.from_residual.result c.from_residual.ensures.1 in rw p.1 tt
+
+pub returns-in_err-push_if-2 : goal.returns-in_err-push_if-2
+returns-in_err-push_if-2 c = λ rs codes are before. let p = err_from_is_err_and c.from_residual-in_err-push_if-2.result c.from_residual-in_err-push_if-2.ensures.1 in rw p.1 tt
+
+pub returns-in_err-push_if-3 : goal.returns-in_err-push_if-3
+returns-in_err-push_if-3 c = λ rs codes are before. let p = err_from_is_err_and c.from_residual-in_err-push_if-3.result c.from_residual-in_err-push_if-3.ensures.1 in rw p.1 tt
