@@ -1,10 +1,11 @@
 -- Sums over steps and darts.
-use Rattle.std.proofs.Common.{◌≡◌, ℕ, zero, suc, ◌+◌, ◌-◌, ◌/◌, ◌%◌, ◌<◌, ◌≤◌, inl, inr, List, length, get_or, set, Some, None, Option, slice_get, refl, sym, ap, arith, add-one, ℤ, pos, ◌+ℤ◌, unsigned_abs}
+use Rattle.std.proofs.Common.{◌≡◌, ℕ, zero, suc, ◌+◌, ◌-◌, ◌/◌, ◌%◌, ◌<◌, ◌≤◌, inl, inr, List, [], ◌∷◌, ◌++◌, length, get_or, set, Some, None, Option, slice_get, refl, sym, ap, subst, ◌∙◌, below_more, arith, add-one, ℤ, pos, ◌+ℤ◌, unsigned_abs}
 use Rattle.std.proofs.lemmas.Int.{ints}
 use Rattle.std.specs.Prelude.{◌==◌}
 use Rattle.std.proofs.Math.IntN.{+ℤ_idr}
 use Rattle.std.proofs.lemmas.Bool.Decides.{eqb_tells}
-use Rattle.std.proofs.lemmas.List.{get_or-set_same, get_or-set_other}
+use Rattle.std.proofs.Math.Seq.{get_or-append_seam}
+use Rattle.std.proofs.lemmas.List.{get_or-set_same, get_or-set_other, get_or_append_left}
 use Rattle.tl_geom.specs.declared.point.Point.{Point}
 use Rattle.tl_geom.specs.Plane.{cross}
 use Rattle.tl_map_county.specs.declared.sides.Side.{Side}
@@ -50,6 +51,13 @@ share_bound p (Some (Polygon q)) sum n few = elim (eqb_tells q p) [
   | inl same ↦ rw same.0 few
   | inr other ↦ rw other.0 (omega arith)
 ]
+
+-- one area more
+pub one_area_more : (areas : List ℤ) (n : ℕ) (a : ℤ) (made : ℕ → ℤ) → length areas ≡ n → ((k : ℕ) → k < n → get_or areas k (pos 0) ≡ made k) → a ≡ made n → (k : ℕ) → k < n + 1 → get_or (areas ++ a ∷ []) k (pos 0) ≡ made k
+one_area_more areas n a made long each here =
+    below_more (λ k. get_or (areas ++ a ∷ []) k (pos 0) ≡ made k) n
+    (λ k less. get_or_append_left areas (a ∷ []) (pos 0) k (omega (arith, long, less)) ∙ each k less)
+    (subst (λ m. get_or (areas ++ a ∷ []) m (pos 0) ≡ made n) long (get_or-append_seam areas a [] (pos 0) ∙ here))
 
 -- the points of a dart by its chain
 pub points_are : (chains : List MapChain) (d tlid : ℕ) (points : List Point) (left right : Side) → IsChain (slice_get chains (d / 2)) tlid points left right → dart_points chains d ≡ directed (d % 2 == 0) points

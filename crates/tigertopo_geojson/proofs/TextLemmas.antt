@@ -23,6 +23,12 @@ each_next text xs i x here = rw add-one (each_suc text xs i x here)
 pub each_at : {X Y : Type 0} (text : X → List Y) (xs : List X) (i : ℕ) (d : X) → i < length xs → flat_map text (take (i + 1) xs) ≡ flat_map text (take i xs) ++ text (get_or xs i d)
 each_at text xs i d within = each_next text xs i (get_or xs i d) (slice_get-get_or xs i d within)
 
+-- one item more behind others
+pub one_behind : {X Y : Type 0} (made : X → Y) (before : List Y) (xs : List X) (i : ℕ) (d : X) → i < length xs
+    → (before ++ flat_map (λ x. made x ∷ []) (take i xs)) ++ made (get_or xs i d) ∷ [] ≡ before ++ flat_map (λ x. made x ∷ []) (take (i + 1) xs)
+one_behind made before xs i d within =
+    append_assoc before (flat_map (λ x. made x ∷ []) (take i xs)) (made (get_or xs i d) ∷ []) ∙ ap (λ l. before ++ l) (sym (each_at (λ x. made x ∷ []) xs i d within))
+
 -- a CENID put together of its parts
 pub cenid_parts : (c d e f g : List ℕ) → [] ++ c ++ d ++ e ++ f ++ g ≡ c ++ (d ++ (e ++ (f ++ g)))
 cenid_parts c d e f g = simp append_assoc

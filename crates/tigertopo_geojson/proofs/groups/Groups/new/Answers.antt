@@ -1,4 +1,5 @@
 use Rattle.std.proofs.Common.{◌≡◌, ◌+◌, ◌-◌, arith, subst}
+use Rattle.std.proofs.lemmas.Result.{err_from_is_err_and}
 use Rattle.tigertopo_geojson.proofs.GroupLemmas.{IsLinkedFrom, link_some}
 use Rattle.tigertopo_geojson.proofs.groups.Groups.new.Goals as goal
 
@@ -11,3 +12,9 @@ loop-item-preserved-then-group-count c =
       rw (c.put_first.ensures.first, c.put_first.ensures.next)
           (link_some c.args.count c.args.groups.now item c.loop-item.first.items c.loop-item.next.items (omega (arith, c.loop-item.invariant.0)) c.in-Some.group c.in-Some.is c.if-group-count.true linked),
     )
+
+pub returns-in_err-first : goal.returns-in_err-first
+returns-in_err-first c = let p = err_from_is_err_and c.from_residual.result c.from_residual.ensures.1 in rw p.1 tt
+
+pub returns-in_err-next : goal.returns-in_err-next
+returns-in_err-next c = let p = err_from_is_err_and c.from_residual-in_err-next.result c.from_residual-in_err-next.ensures.1 in rw p.1 tt
