@@ -9,7 +9,7 @@ use tl_geom::Point;
 use tl_record::{PAIRS, Record};
 
 /// A point of a chain, and where it is held.
-#[derive(Clone, Copy, Debug)]
+#[derive(Clone, Copy)]
 pub struct HeldPoint {
     /// The place of its record among those of the chain, counted from 0.
     pub place: usize,
@@ -18,7 +18,7 @@ pub struct HeldPoint {
 }
 
 /// A segment of a chain, by its ends.
-#[derive(Clone, Copy, Debug)]
+#[derive(Clone, Copy)]
 pub struct HeldSegment {
     pub from: HeldPoint,
     pub to: HeldPoint,

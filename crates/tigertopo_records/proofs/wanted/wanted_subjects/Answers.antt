@@ -1,3 +1,4 @@
+use Rattle.std.proofs.lemmas.Result.{err_from_is_err_and}
 use Rattle.std.specs.Prelude.{option_copied}
 use Rattle.tigertopo_records.specs.SpokenOf.{chains_of}
 use Rattle.tigertopo_records.proofs.ReadingLemmas.{has_more, has_all}
@@ -10,3 +11,9 @@ loop-fault-preserved c =
 
 pub returns : goal.returns
 returns c = has_all (chains_of (option_copied c.args.map)) c.args.faults.now c.loop-fault.subjects.keys c.loop-fault.fault-index c.loop-fault-test.false c.loop-fault.invariant
+
+pub returns-in_err-want : goal.returns-in_err-want
+returns-in_err-want c = let p = err_from_is_err_and c.from_residual.result c.from_residual.ensures.1 in rw p.1 tt
+
+pub returns-in_err-want-2 : goal.returns-in_err-want-2
+returns-in_err-want-2 c = let p = err_from_is_err_and c.from_residual-in_err-want-2.result c.from_residual-in_err-want-2.ensures.1 in rw p.1 tt

@@ -1,4 +1,5 @@
 use Rattle.std.proofs.Common.{◌∙◌, refl, sym}
+use Rattle.std.proofs.lemmas.Result.{err_from_is_err_and}
 use Rattle.tl_record.specs.declared.judge.Judgement.TheVariants.{PassedOver, Read, Refused}
 use Rattle.tigertopo_records.proofs.ReadingLemmas.{judged_found, judged_line, judged_none, judged_unwanted}
 use Rattle.tigertopo_records.proofs.read.RecordsIn.take_bytes.Goals as goal
@@ -38,3 +39,6 @@ pub returns-in-Refused-clause-found : goal.returns-in-Refused-clause-found
 returns-in-Refused-clause-found c = λ whole shown.
     rw c.in-Some.is (judged_none c.args.self.now.layout.now c.args.self.now.kept.now c.in-Some.before c.args.line.now c.args.goes_on (Refused c.in-Refused.field-0) (sym c.in-Refused.is ∙ c.judge_line.ensures) (λ s wanted. refl) c.if-goes_on.false
     c.args.found.now.items whole shown)
+
+pub returns-in_err-push-in-Read : goal.returns-in_err-push-in-Read
+returns-in_err-push-in-Read c = let p = err_from_is_err_and c.from_residual.result c.from_residual.ensures.1 in rw p.1 (record { accepted = tt; found = tt })

@@ -1,4 +1,5 @@
 use Rattle.std.proofs.Common.{◌<◌, arith, length, min}
+use Rattle.std.proofs.lemmas.Result.{err_from_is_err_and}
 use Rattle.tigertopo_records.specs.Ends.{pairs_from}
 use Rattle.tigertopo_records.proofs.WalkLemmas.{goes_number}
 use Rattle.tigertopo_records.proofs.walk.Walk.pass_pairs.Goals as goal
@@ -11,3 +12,6 @@ loop-number-preserved c =
     let end = c.min-number-end.ensures in
     let within : c.loop-number.number < count = omega (arith, below, end) in
     goes_number lines count c.loop-number.number (pairs_from lines count 1) c.args.self.now c.loop-number.self c.pass_pairs_at.new.self within c.loop-number.invariant c.in_ok-pass_pairs_at.ensures
+
+pub returns-in_err-pass_pairs_at : goal.returns-in_err-pass_pairs_at
+returns-in_err-pass_pairs_at c = let p = err_from_is_err_and c.from_residual.result c.from_residual.ensures.1 in rw p.1 tt
