@@ -1,4 +1,5 @@
 use Rattle.std.proofs.Common.{◌≡◌, Some, None, List, Bor, All, get_or, sym, subst, ap, ◌∙◌}
+use Rattle.std.proofs.lemmas.Result.{err_from_is_err_and}
 use Rattle.std.specs.Prelude.{slice_get}
 use Rattle.std.proofs.lemmas.List.{take_all}
 use Rattle.tl_check_inside.specs.declared.flanks.Flanks.{Flanks}
@@ -43,3 +44,30 @@ pub returns : goal.returns
 returns g c =
     subst (λ l. AreFaultsIn c.args.map.now (AndSettled (IsMarked c.args.marks.now) (IsOfAny l)) c.loop-place.found.items) (take_all c.loop-place.place c.args.polygons.now c.loop-place-test.false)
     c.loop-place.invariant.found
+
+pub returns-in_err-sites : goal.returns-in_err-sites
+returns-in_err-sites g c = let p = err_from_is_err_and c.from_residual.result c.from_residual.ensures.1 in rw p.1 tt
+
+pub returns-in_err-counts : goal.returns-in_err-counts
+returns-in_err-counts g c = let p = err_from_is_err_and c.from_residual-in_err-counts.result c.from_residual-in_err-counts.ensures.1 in rw p.1 tt
+
+pub returns-in_err-room : goal.returns-in_err-room
+returns-in_err-room g c = let p = err_from_is_err_and c.from_residual-in_err-room.result c.from_residual-in_err-room.ensures.1 in rw p.1 tt
+
+pub returns-in_err-list_one : goal.returns-in_err-list_one
+returns-in_err-list_one g c = let p = err_from_is_err_and c.from_residual-in_err-list_one.result c.from_residual-in_err-list_one.ensures.1 in rw p.1 tt
+
+pub sites_of-requires : goal.sites_of-requires
+sites_of-requires g c = c.requires.known
+
+pub counts_of-requires : goal.counts_of-requires
+counts_of-requires g c = c.requires.part
+
+pub list_one-requires-clause-fits : goal.list_one-requires-clause-fits
+list_one-requires-clause-fits g c = c.requires.fits
+
+pub list_one-requires-clause-reach : goal.list_one-requires-clause-reach
+list_one-requires-clause-reach g c = c.requires.reach
+
+pub list_one-requires-clause-polygon : goal.list_one-requires-clause-polygon
+list_one-requires-clause-polygon g c = c.requires.known c.loop-place.place 0 c.loop-place-test.true

@@ -1,4 +1,5 @@
 use Rattle.std.proofs.Common.{◌≡◌, length, subst, arith}
+use Rattle.std.proofs.lemmas.Result.{err_from_is_err_and}
 use Rattle.std.proofs.lemmas.List.{nil_from_length}
 use Rattle.tl_check_inside.specs.Keeping.Tallies.{TellCounts}
 use Rattle.tl_list_points.proofs.Joined.{off_where_none}
@@ -14,3 +15,6 @@ returns-then-is_empty g c = λ apart.
       off = off_where_none c.args.taken.now.chains c.args.site.point held.items c.in_ok-look_about.ensures.held (nil_from_length held.items none);
       tell = subst (TellCounts c.args.taken.now.chains c.args.site.point) (nil_from_length crossed.items uncrossed) c.in_ok-look_about.ensures.tell;
     }
+
+pub returns-in_err-look_about : goal.returns-in_err-look_about
+returns-in_err-look_about g c = let p = err_from_is_err_and c.from_residual.result c.from_residual.ensures.1 in rw p.1 tt

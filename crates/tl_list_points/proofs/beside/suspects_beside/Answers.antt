@@ -1,4 +1,5 @@
 use Rattle.std.proofs.Common.{arith, ◌∙◌}
+use Rattle.std.proofs.lemmas.Result.{err_from_is_err_and}
 use Rattle.tl_list_points.proofs.Joined.{copied_more, none_sifted, sifted_more, sifted_next, sifted_all}
 use Rattle.tl_list_points.proofs.beside.suspects_beside.Goals as goal
 
@@ -17,3 +18,12 @@ loop-p-preserved g c = record {
 pub returns : goal.returns
 returns g c = sifted_all c.args.map.now c.args.part.now c.args.taken.now c.loop-p.suspects.items c.loop-p.p c.requires.part c.requires.taken c.has_proper_chains.ensures c.loop-p.invariant.more c.loop-p.invariant.sifted
     (omega (arith, c.polygons-p-end.ensures, c.loop-p-test.false))
+
+pub returns-in_err-room : goal.returns-in_err-room
+returns-in_err-room g c = let p = err_from_is_err_and c.from_residual.result c.from_residual.ensures.1 in rw p.1 tt
+
+pub returns-in_err-suspects : goal.returns-in_err-suspects
+returns-in_err-suspects g c = let p = err_from_is_err_and c.from_residual-in_err-suspects.result c.from_residual-in_err-suspects.ensures.1 in rw p.1 tt
+
+pub returns-in_err-sift : goal.returns-in_err-sift
+returns-in_err-sift g c = let p = err_from_is_err_and c.from_residual-in_err-sift.result c.from_residual-in_err-sift.ensures.1 in rw p.1 tt

@@ -1,4 +1,5 @@
 use Rattle.std.proofs.Common.{◌≡◌, length, subst, arith}
+use Rattle.std.proofs.lemmas.Result.{err_from_is_err_and}
 use Rattle.tl_list_points.specs.Hidden.{IsMarked}
 use Rattle.tl_list_points.specs.Keeping.Hiding.{ArePartsBefore}
 use Rattle.tl_list_points.proofs.HidingLemmas.{none_put, one_put, room_before, room_after, number_fits}
@@ -46,3 +47,18 @@ returns-clause-segments c =
     let less = room_after c.args.map.now c.loop-c.c in
     let few = c.segments-segments.ensures.few in
     omega (arith, long, count, less, few, c.segments-segments.ensures.count)
+
+pub returns-in_err-rows : goal.returns-in_err-rows
+returns-in_err-rows c = let p = err_from_is_err_and c.from_residual.result c.from_residual.ensures.1 in rw p.1 (record { parts = tt; segments = tt })
+
+pub returns-in_err-points : goal.returns-in_err-points
+returns-in_err-points c = let p = err_from_is_err_and c.from_residual-in_err-points.result c.from_residual-in_err-points.ensures.1 in rw p.1 (record { parts = tt; segments = tt })
+
+pub returns-in_err-sides : goal.returns-in_err-sides
+returns-in_err-sides c = let p = err_from_is_err_and c.from_residual-in_err-sides.result c.from_residual-in_err-sides.ensures.1 in rw p.1 (record { parts = tt; segments = tt })
+
+pub returns-in_err-push_row : goal.returns-in_err-push_row
+returns-in_err-push_row c = let p = err_from_is_err_and c.from_residual-in_err-push_row.result c.from_residual-in_err-push_row.ensures.1 in rw p.1 (record { parts = tt; segments = tt })
+
+pub returns-in_err-push : goal.returns-in_err-push
+returns-in_err-push c = let p = err_from_is_err_and c.from_residual-in_err-push.result c.from_residual-in_err-push.ensures.1 in rw p.1 (record { parts = tt; segments = tt })

@@ -1,4 +1,5 @@
 use Rattle.std.proofs.Common.{◌++◌, ◌∷◌, [], take, ap, sym, ◌∙◌, arith}
+use Rattle.std.proofs.lemmas.Result.{err_from_is_err_and}
 use Rattle.std.proofs.lemmas.List.{take_more, take_all}
 use Rattle.std.proofs.lemmas.Option.{get_or_from_slice_get, slice_get_within}
 use Rattle.tl_list_points.proofs.hiding.polygons_of.Goals as goal
@@ -17,3 +18,9 @@ loop-p-preserved c =
 pub returns : goal.returns
 returns c =
     c.loop-p.invariant ∙ take_all c.loop-p.p c.args.map.now.polygons (let past = c.loop-p-test.false in omega (arith, past, c.polygons-p-end.ensures, c.loop-p.auto.p-end))
+
+pub returns-in_err-polygons : goal.returns-in_err-polygons
+returns-in_err-polygons c = let p = err_from_is_err_and c.from_residual.result c.from_residual.ensures.1 in rw p.1 tt
+
+pub returns-in_err-push : goal.returns-in_err-push
+returns-in_err-push c = let p = err_from_is_err_and c.from_residual-in_err-push.result c.from_residual-in_err-push.ensures.1 in rw p.1 tt

@@ -1,4 +1,5 @@
 use Rattle.std.proofs.Common.{refl}
+use Rattle.std.proofs.lemmas.Result.{err_from_is_err_and}
 use Rattle.tl_list_points.proofs.Marking.{none_marked, marks_more, marks_all}
 use Rattle.tl_list_points.proofs.marks.marks_of.Goals as goal
 
@@ -10,3 +11,6 @@ loop-place-preserved c = marks_more c.args.polygons.now c.loop-place.place c.loo
 
 pub returns : goal.returns
 returns c = marks_all c.args.polygons.now c.loop-place.place c.loop-place.marks.items c.loop-place-test.false c.loop-place.invariant
+
+pub returns-in_err-mark : goal.returns-in_err-mark
+returns-in_err-mark c = let p = err_from_is_err_and c.from_residual.result c.from_residual.ensures.1 in rw p.1 tt

@@ -1,4 +1,5 @@
 use Rattle.std.proofs.Common.{[], subst, arith}
+use Rattle.std.proofs.lemmas.Result.{err_from_is_err_and}
 use Rattle.tl_check_inside.specs.Keeping.Tallies.{AreClear}
 use Rattle.tl_list_points.specs.AllMisplaced.{NoneHidden}
 use Rattle.tl_list_points.specs.Hidden.{IsMarked}
@@ -24,3 +25,9 @@ returns g c =
     let past = c.loop-p-test.false in
     hidden_as (IsMarked []) NoneHidden c.args.map.now c.loop-p.found.items (λ p h. cc) (λ p h. absurd h)
     (all_of (IsMarked []) c.args.map.now c.loop-p.p _ (omega (arith, past, c.polygons-p-end.ensures, c.loop-p.auto.p-end)) c.loop-p.invariant.found)
+
+pub returns-in_err-room : goal.returns-in_err-room
+returns-in_err-room g c = let p = err_from_is_err_and c.from_residual.result c.from_residual.ensures.1 in rw p.1 tt
+
+pub returns-in_err-list_at : goal.returns-in_err-list_at
+returns-in_err-list_at g c = let p = err_from_is_err_and c.from_residual-in_err-list_at.result c.from_residual-in_err-list_at.ensures.1 in rw p.1 tt

@@ -1,4 +1,5 @@
 use Rattle.std.proofs.Common.{◌≡◌, length, sym, subst, arith}
+use Rattle.std.proofs.lemmas.Result.{err_from_is_err_and}
 use Rattle.std.proofs.lemmas.Bool.Decides.{nat_tests}
 use Rattle.std.proofs.lemmas.List.{nil_from_length}
 use Rattle.std.proofs.lemmas.Option.{slice_get-get_or}
@@ -17,3 +18,6 @@ returns-in-Ok-clause-counts g c =
     (c.in_ok-join_at.ensures.off (nil_from_length held.items none))
     (subst (AreJoined c.args.taken.now.chains _ c.in-Some.flanks.now) (sym c.deref.ensures.value) c.in_ok-join_at.ensures.joined)
     c.in-Ok.ensures
+
+pub returns-in_err-join_at : goal.returns-in_err-join_at
+returns-in_err-join_at g c = let p = err_from_is_err_and c.from_residual.result c.from_residual.ensures.1 in rw p.1 (record { many = tt; counts = tt })

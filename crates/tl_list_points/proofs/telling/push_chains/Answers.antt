@@ -1,4 +1,5 @@
 use Rattle.std.proofs.Common.{sym, ◌∙◌}
+use Rattle.std.proofs.lemmas.Option.{slice_get_within}
 use Rattle.tl_list_points.proofs.Pushing.{pushed}
 use Rattle.tl_list_points.proofs.Rows.{row_begun, row_more, row_ended, on_chain}
 use Rattle.tl_list_points.proofs.telling.push_chains.Goals as goal
@@ -15,3 +16,12 @@ loop-place-preserved c =
 
 pub returns : goal.returns
 returns c = row_ended _ _ _ _ c.loop-place.place _ _ c.loop-place-test.false c.loop-place.invariant
+
+pub chain-requires : goal.chain-requires
+chain-requires c = let held = c.requires.held c.loop-place.place 0 c.loop-place-test.true in slice_get_within c.args.map.now.chains _ held.chain held.is
+
+pub bounds-held-place : goal.bounds-held-place
+bounds-held-place c = c.loop-place-test.true
+
+pub returns-then-is_err : goal.returns-then-is_err
+returns-then-is_err c = tt

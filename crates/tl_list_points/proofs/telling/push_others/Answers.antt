@@ -14,3 +14,12 @@ loop-place-preserved c =
 
 pub returns : goal.returns
 returns c = row_ended _ _ _ _ c.loop-place.place _ _ c.loop-place-test.false c.loop-place.invariant
+
+pub polygon-requires : goal.polygon-requires
+polygon-requires c = (c.requires.odd c.loop-place.place 0 c.loop-place-test.true).known
+
+pub bounds-odd-place : goal.bounds-odd-place
+bounds-odd-place c = c.loop-place-test.true
+
+pub returns-then-is_err : goal.returns-then-is_err
+returns-then-is_err c = tt

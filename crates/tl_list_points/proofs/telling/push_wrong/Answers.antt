@@ -1,4 +1,4 @@
-use Rattle.std.proofs.lemmas.Result.{on_ok_weaker}
+use Rattle.std.proofs.lemmas.Result.{err_from_is_err_and, on_ok_weaker}
 use Rattle.tl_list_points.specs.Hidden.{IsMarked}
 use Rattle.tl_list_points.specs.Keeping.Parts.{IsIn, HasRow}
 use Rattle.tl_list_points.proofs.Rows.{rows_joined}
@@ -20,3 +20,12 @@ returns c =
     c.push_outside.new.found.items c.push_others.new.found.items
     c.requires.is c.requires.held (both_so c.args.outside c.is_told.result c.is_told.ensures c.requires.outside)
     (rw c.deref.ensures.value listed) c.in_ok-push_chains.ensures c.in_ok-push_outside.ensures row) c.push_others.ensures
+
+pub returns-in_err-push_chains : goal.returns-in_err-push_chains
+returns-in_err-push_chains c = let p = err_from_is_err_and c.from_residual.result c.from_residual.ensures.1 in rw p.1 tt
+
+pub returns-in_err-push_outside : goal.returns-in_err-push_outside
+returns-in_err-push_outside c = let p = err_from_is_err_and c.from_residual-in_err-push_outside.result c.from_residual-in_err-push_outside.ensures.1 in rw p.1 tt
+
+pub returns-in_err-list_unmarked : goal.returns-in_err-list_unmarked
+returns-in_err-list_unmarked c = let p = err_from_is_err_and c.from_residual-in_err-list_unmarked.result c.from_residual-in_err-list_unmarked.ensures.1 in rw p.1 tt
