@@ -128,7 +128,10 @@ fn commands_of<'a>(alloc: Global, names: &[Named]) -> Result<Vec<Command<'a>>, A
 {
     let mut commands = Vec::new(alloc);
     for named in names {
-        commands.push(subcommand(alloc, named)?)?;
+        match subcommand(alloc, named) {
+            Ok(command) => commands.push(command)?,
+            Err(error) => return Err(error),
+        }
     }
     Ok(commands)
 }

@@ -5,6 +5,7 @@ ghost use Rattle.clap.specs.Values.{kind_of};
 ghost use Rattle.tigertopo_words.specs.CommandLine.{IsStopOf, IsUsage};
 ghost use Rattle.tigertopo_words.specs.Escapes.{plain_text, HasNoEscape, ShowsNoEscape};
 
+use crate::arguments::is_set;
 use crate::command_line::{Named, subcommand};
 use crate::point::point_of;
 use crate::stop::WordsStop;
@@ -128,12 +129,6 @@ fn usage_of(
             POINT_SPELLING,
         );
     }
-    if let Some(most) = word_of(matches, "audit", "most") {
-        return misused_most(alloc, matches, most);
-    }
-    if word_of(matches, "audit", "skip-refused") == Some("true") {
-        return refusal_text(alloc, &Named::Audit, "tigertopo audit", NO_ALL_TO_SKIP);
-    }
     if let Some(layer) = word_of(matches, "export", "layer") {
         return misspelt(
             alloc,
@@ -154,6 +149,23 @@ fn usage_of(
             NAME_SPELLING,
         );
     }
+    usage_of_faults(alloc, command, matches)
+}
+
+// The same of an audit or a picture, or of no word in particular.
+fn usage_of_faults(
+    alloc: Global,
+    command: &mut Command<'_>,
+    matches: &ArgMatches<'_>,
+) -> Result<String, AllocError>
+    ensures { IfOk result HasNoEscape }
+{
+    if let Some(most) = word_of(matches, "audit", "most") {
+        return misused_most(alloc, matches, most);
+    }
+    if is_set(word_of(matches, "audit", "skip-refused")) {
+        return refusal_text(alloc, &Named::Audit, "tigertopo audit", NO_ALL_TO_SKIP);
+    }
     if lacks_faults(matches) {
         return refusal_text(alloc, &Named::Draw, "tigertopo draw", NO_FAULTS);
     }
@@ -170,8 +182,7 @@ fn usage_of(
 
 // Whether a picture is asked for with faces and without faults.
 fn lacks_faults(matches: &ArgMatches<'_>) -> bool {
-    word_of(matches, "draw", "faces") == Some("true")
-        && word_of(matches, "draw", "faults") != Some("true")
+    is_set(word_of(matches, "draw", "faces")) && !is_set(word_of(matches, "draw", "faults"))
 }
 
 // What is wrong with the words of a view: one of them isn't spelt as it has to be.
@@ -197,7 +208,7 @@ fn misspelt_view(alloc: Global, center: &str, width: &str) -> Result<String, All
 fn misused_most(alloc: Global, matches: &ArgMatches<'_>, most: &str) -> Result<String, AllocError>
     ensures { IfOk result HasNoEscape }
 {
-    if word_of(matches, "audit", "all") != Some("true") {
+    if !is_set(word_of(matches, "audit", "all")) {
         return refusal_text(alloc, &Named::Audit, "tigertopo audit", NO_ALL);
     }
     misspelt(

@@ -1,5 +1,6 @@
 use Rattle.tigertopo_words.specs.declared.command_line.Argument.TheVariants.{All, Most, ZeroCells, Released, Files, Point, CertOption, OutOption, Tests, Cert}
 use Rattle.tigertopo_words.specs.declared.command_line.Argument.TheVariants.{Out, Progress, FacesOfDrawing, Faces, CollectionOption, PictureOption, At, Width, Faults, NameOption, BorderOption}
+use Rattle.tigertopo_words.specs.declared.command_line.Argument.TheVariants.{SkipRefused, Join, Where, Json, FaultsOption, LayerOption}
 use Rattle.tigertopo_words.proofs.CommandsLemmas.{arg_told}
 use Rattle.tigertopo_words.proofs.command_line.arg_of.Goals as goal
 
@@ -67,3 +68,21 @@ returns-in-NameOption c = rw c.in-NameOption.is (arg_told c.needed_option-in-Nam
 
 pub returns-in-BorderOption : goal.returns-in-BorderOption
 returns-in-BorderOption c = rw c.in-BorderOption.is (arg_told c.needed_option-in-BorderOption.result BorderOption c.needed_option-in-BorderOption.ensures.rule c.needed_option-in-BorderOption.ensures.local)
+
+pub returns-in-SkipRefused : goal.returns-in-SkipRefused
+returns-in-SkipRefused c = rw c.in-SkipRefused.is (arg_told c.switch-in-SkipRefused.result SkipRefused c.switch-in-SkipRefused.ensures.rule c.switch-in-SkipRefused.ensures.local)
+
+pub returns-in-Join : goal.returns-in-Join
+returns-in-Join c = rw c.in-Join.is (arg_told c.switch-in-Join.result Join c.switch-in-Join.ensures.rule c.switch-in-Join.ensures.local)
+
+pub returns-in-Where : goal.returns-in-Where
+returns-in-Where c = rw c.in-Where.is (arg_told c.switch-in-Where.result Where c.switch-in-Where.ensures.rule c.switch-in-Where.ensures.local)
+
+pub returns-in-Json : goal.returns-in-Json
+returns-in-Json c = rw c.in-Json.is (arg_told c.switch-in-Json.result Json c.switch-in-Json.ensures.rule c.switch-in-Json.ensures.local)
+
+pub returns-in-FaultsOption : goal.returns-in-FaultsOption
+returns-in-FaultsOption c = rw c.in-FaultsOption.is (arg_told c.option-in-FaultsOption.result FaultsOption c.option-in-FaultsOption.ensures.rule c.option-in-FaultsOption.ensures.local)
+
+pub returns-in-LayerOption : goal.returns-in-LayerOption
+returns-in-LayerOption c = rw c.in-LayerOption.is (arg_told c.option-in-LayerOption.result LayerOption c.option-in-LayerOption.ensures.rule c.option-in-LayerOption.ensures.local)

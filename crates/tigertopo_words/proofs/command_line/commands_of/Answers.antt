@@ -4,8 +4,8 @@ use Rattle.tigertopo_words.proofs.command_line.commands_of.Goals as goal
 
 pub loop-named-preserved : goal.loop-named-preserved
 loop-named-preserved c =
-    each_more told_of named_told c.loop-named.commands.items _ c.args.names.now c.loop-named.named-index _ c.in_ok-subcommand.field-0 c.loop-named-test.true c.in_ok-push.ensures.items
-    c.in_ok-subcommand.ensures c.loop-named.invariant
+    each_more told_of named_told c.loop-named.commands.items _ c.args.names.now c.loop-named.named-index _ c.in-Ok.command c.loop-named-test.true c.in_ok-push-in-Ok.ensures.items
+    c.in-Ok.ensures c.loop-named.invariant
 
 pub returns : goal.returns
 returns c = each_all told_of named_told c.loop-named.commands.items c.args.names.now c.loop-named.named-index c.loop-named-test.false c.loop-named.invariant
