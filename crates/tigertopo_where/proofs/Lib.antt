@@ -7,3 +7,4 @@ pub mod LocationLemmas
 pub mod HintLemmas
 pub mod FoundLemmas
 pub mod PlacedLemmas
+pub mod ColumnLemmas
