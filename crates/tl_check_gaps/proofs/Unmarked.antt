@@ -1,7 +1,7 @@
 -- Polygons that are listed where they have no mark.
 use Rattle.std.proofs.Common.{◌≡◌, ◌⊎◌, inl, inr, ℕ, ◌+◌, ◌<◌, Bool, false, true, List, [], ◌∷◌, ◌++◌, All, Contains, slice_index_or, sym, subst, arith}
 use Rattle.std.proofs.lemmas.Bool.{cases_lt, true≢false}
-use Rattle.std.proofs.lemmas.List.Elements.{All-push, Contains-append_left, Contains-push}
+use Rattle.std.proofs.lemmas.List.Elements.{All-nil, All-push, Contains-append_left, Contains-push}
 use Rattle.tl_map_county.specs.TheMap.{TheMap}
 use Rattle.tl_check_gaps.specs.Keeping.Spotted.{AreTrueMarks}
 
@@ -9,6 +9,9 @@ use Rattle.tl_check_gaps.specs.Keeping.Spotted.{AreTrueMarks}
 pub record AreListedBefore (n : ℕ) (marks : List Bool) (p : ℕ) (list : List ℕ) : Type 0 where
   pub known : All (λ q. q < n) list
   pub others : (q : ℕ) → q < p → Contains list q ⊎ (slice_index_or marks q false ≡ true)
+
+pub none_before : (n : ℕ) (marks : List Bool) (list : List ℕ) → list ≡ [] → AreListedBefore n marks 0 list
+none_before n marks list none = record { known = subst (All (λ q. q < n)) (sym none) (All-nil (λ q. q < n)); others = λ q lt. absurd (omega (arith, lt)) }
 
 module _ (n : ℕ) (marks : List Bool) (p : ℕ) where
   pub marked_more : (list : List ℕ) → slice_index_or marks p false ≡ true → AreListedBefore n marks p list → AreListedBefore n marks (p + 1) list

@@ -158,8 +158,10 @@ pub fn recount(
     ensures { (n : ℕ) → result ≡ Some n → (old : ℕ) × (w : Side) × (e : Side) × (count ≡ Some old) × (west ≡ Some w) × (east ≡ Some e) ×
         (n + gaps_between (raised map.now.chains) w outs.now e ≡ old + gaps_between (raised map.now.chains) w ins.now e) }
 {
-    let (west, east) = (west?, east?);
+    let (Some(west), Some(east), Some(count)) = (west, east, count) else {
+        return None;
+    };
     let gone = count_gaps(map, west, outs, east)?;
     let come = count_gaps(map, west, ins, east)?;
-    count?.checked_sub(gone)?.checked_add(come)
+    count.checked_sub(gone)?.checked_add(come)
 }

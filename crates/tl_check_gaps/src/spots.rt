@@ -43,9 +43,9 @@ impl InnerPoints {
     pub fn new(alloc: Global, map: &Map) -> Result<InnerPoints, AllocError>
         ensures { IfOk result (λ spots. AreMarks map.now spots.marks.items) }
     {
-        let marks = vec![in alloc; false; map.polygons() as usize]?;
         let mut spots = list_spots(alloc, map)?;
         presort_by_rank(alloc, &mut spots)?;
+        let marks = vec![in alloc; false; map.polygons() as usize]?;
         Ok(InnerPoints {
             spots,
             next: 0,
