@@ -1,6 +1,6 @@
 -- A part of a list of bytes, as a buffer keeps it.
 use Rattle.std.proofs.Common.{◌≡◌, ℕ, ◌+◌, ◌-◌, ◌<◌, ◌≤◌, List, [], ◌∷◌, ◌++◌, length, take, drop, get_or, set, sym, ap, ◌∙◌, arith}
-use Rattle.std.proofs.lemmas.List.{drop-take, drop-drop, take_more, take_more_set, get_or-drop, length-drop, take-append-le, length-take-le}
+use Rattle.std.proofs.lemmas.List.{drop-take, drop-drop, take_more, take_more_set, get_or-drop, length-drop, take-append-le, length-take, length-take-le}
 use Rattle.std.proofs.Math.Seq.{take-append-add}
 use borrow.Rule.Slice.PartMut.{put_mid, post_of}
 
@@ -10,6 +10,10 @@ pub part_consumed : (bytes : List ℕ) (at filled count : ℕ) → count ≤ fil
 part_consumed bytes at filled count within =
     let split : filled - at ≡ count + (filled - (at + count)) = omega arith in
     sym (ap (λ n. drop count (take n (drop at bytes))) split ∙ drop-take count (filled - (at + count)) (drop at bytes) ∙ ap (take (filled - (at + count))) (drop-drop count at bytes))
+
+-- a line stands in a part with the byte that ends it
+pub line_within : (bytes part : List ℕ) (at filled len : ℕ) → take (filled - at) (drop at bytes) ≡ part → len < length part → at + len + 1 ≤ filled
+line_within bytes part at filled len view lt = omega (arith, ap length view, length-take (filled - at) (drop at bytes), lt)
 
 -- one byte of a part is copied to the front: old is the list before any was, bytes the list so far
 pub byte_moved : (old bytes : List ℕ) (at index : ℕ) → at ≤ index → index < length bytes → length bytes ≡ length old → drop index bytes ≡ drop index old

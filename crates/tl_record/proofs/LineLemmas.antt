@@ -57,6 +57,10 @@ no_feed_found bytes view searched same within none nowhere =
     let after = none_below (drop searched bytes) (length (drop searched bytes)) (omega arith) (λ k less. behind k (omega arith) less) in
     ap line_feeds (sym (take-append-drop searched bytes)) ∙ feeds-append (take searched bytes) (drop searched bytes) ∙ rw (none, sym (ap line_feeds all) ∙ after) refl
 
+-- there is less room where bytes were added
+pub less_room : (old bytes new : List ℕ) (size count : ℕ) → length old ≤ size → (length old ≡ size → ⊥) → new ≡ old ++ bytes → length bytes ≡ count → (count ≡ 0 → ⊥) → size - length new < size - length old
+less_room old bytes new size count room full joined long some = rw joined (omega (arith, length-append old bytes, room, full, long, some))
+
 -- bytes behind bytes with no line feed are still to be searched
 pub front_searched : (old bytes new : List ℕ) (searched : ℕ) → new ≡ old ++ bytes → searched ≡ length old → line_feeds old ≡ 0
     → (searched ≤ length new) × (line_feeds (take searched new) ≡ 0)

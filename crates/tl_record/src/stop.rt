@@ -1,5 +1,6 @@
 //! Why reading stops.
 
+use crate::refusal::Refusal;
 use std::fmt;
 
 /// The fields that are read, by the names of the TIGER/Line technical documentation.
@@ -143,7 +144,13 @@ impl fmt::Display for ReadStop {
 
     fn fmt<W: fmt::Write>(&self, f: &mut fmt::Formatter<W>) -> fmt::Result {
         match self {
-            ReadStop::Refused { line, cause } => write!(f, "refused line {line} {cause}"),
+            ReadStop::Refused { line, cause } => {
+                let refusal = Refusal {
+                    line: *line,
+                    cause: *cause,
+                };
+                fmt::Display::fmt(&refusal, f)
+            }
             ReadStop::Device => f.write_str("stopped Device"),
         }
     }

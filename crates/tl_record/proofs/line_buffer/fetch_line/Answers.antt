@@ -1,9 +1,9 @@
 use Rattle.tl_record.specs.Failures.{one_more}
-use Rattle.std.proofs.Common.{◌≡◌, ◌≤◌, refl, subst, sym, ap, ◌∙◌, length, arith}
+use Rattle.std.proofs.Common.{◌≡◌, ◌≢◌, ◌≤◌, refl, subst, sym, ap, ◌∙◌, length, arith}
 use Rattle.tl_record.specs.Lines.{line_feeds}
 use Rattle.std.proofs.KnownBytes.{Keeps-refl, Keeps-trans}
 use Rattle.tl_record.proofs.KnownLemmas.{fetched_kept, failed_kept}
-use Rattle.tl_record.proofs.LineLemmas.{feed_found, no_feed_found, front_searched, no_bytes}
+use Rattle.tl_record.proofs.LineLemmas.{feed_found, no_feed_found, front_searched, less_room, no_bytes}
 use Rattle.tl_record.proofs.line_buffer.fetch_line.Goals as goal
 
 pub returns-in-Some-clause-shows : goal.returns-in-Some-clause-shows
@@ -93,3 +93,17 @@ returns-in-Err-clause-bytes g c =
 
 pub fetches-init : goal.fetches-init
 fetches-init g c = record { searched = omega arith; none = refl; bytes = Keeps-refl _; failures = refl; same = refl }
+
+pub overflow_add-result : goal.overflow_add-result
+overflow_add-result g c =
+    let found = feed_found c.fetches.buffer c.bytes-bytes.result.now c.fetches.searched c.in-Some.found c.bytes-bytes.ensures.value c.fetches.invariant.searched c.fetches.invariant.none c.in-Some.ensures in
+    let below = found.0 in
+    let room = c.bytes-bytes.ensures.room in
+    let fits = g.N.fits in
+    omega (arith, below, room, fits)
+
+pub fetches-smaller : goal.fetches-smaller
+fetches-smaller g c =
+    let fetched = c.in-Ok.ensures.bytes in
+    less_room c.fetches.buffer fetched.0 c.fetch.new.self g.row.N c.in-Ok.field-0 c.bytes-bytes.ensures.room
+    (subst (λ bytes. length bytes ≢ g.row.N) c.bytes-bytes.ensures.value c.if-searched.false) fetched.2.added fetched.1 c.in-Ok.field-0-test.1
