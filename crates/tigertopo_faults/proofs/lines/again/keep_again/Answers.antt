@@ -1,4 +1,5 @@
 use Rattle.std.proofs.Common.{◌≡◌, ◌≤◌, ◌+◌, ◌∷◌, [], ◌∙◌, Option, ap, drop, get_or, refl, arith, length, map, rules, string_bytes, sym}
+use Rattle.std.proofs.lemmas.Result.{err_from_is_err_and}
 use Rattle.tl_cert_output.specs.Stops.{StopsFor}
 use Rattle.tl_cert_output.proofs.StopLemmas.{by_stop, stops_for}
 use Rattle.tigertopo_files.specs.Files.{Under, bytes_under}
@@ -95,3 +96,39 @@ offset_bounds-to_come-part g c =
     let told = rw c.in-Some.is at answered in
     let within : c.in-Some.part.passed ≤ length c.loop-name.to_come.now = told.0 in
     search rules
+
+pub returns-in_err-part-clause-kept : goal.returns-in_err-part-clause-kept
+returns-in_err-part-clause-kept g c = let p = err_from_is_err_and c.from_residual.result c.from_residual.ensures.1 in rw p.1 tt
+
+pub returns-in_err-part-clause-refused : goal.returns-in_err-part-clause-refused
+returns-in_err-part-clause-refused g c = let p = err_from_is_err_and c.from_residual.result c.from_residual.ensures.1 in rw p.1 tt
+
+pub returns-in_err-part-clause-stays : goal.returns-in_err-part-clause-stays
+returns-in_err-part-clause-stays g c = c.in_err-part.ensures.stays ∙ c.loop-name.invariant.stays
+
+pub returns-in_err-note_all : goal.returns-in_err-note_all
+returns-in_err-note_all g c = let p = err_from_is_err_and c.from_residual-in_err-note_all.result c.from_residual-in_err-note_all.ensures.1 in rw (p.1, p.2) (record { kept = tt; refused = tt; stops = tt; stays = c.in_ok-part.ensures.stays ∙ c.loop-name.invariant.stays; logged = λ known. c.in_ok-part.ensures.logged known ∙ c.loop-name.invariant.same known })
+
+pub returns-in_err-push : goal.returns-in_err-push
+returns-in_err-push g c = let p = err_from_is_err_and c.from_residual-in_err-push.result c.from_residual-in_err-push.ensures.1 in rw (p.1, p.2) (record { kept = tt; refused = tt; stops = tt; stays = c.in_ok-part.ensures.stays ∙ c.loop-name.invariant.stays; logged = λ known. c.in_ok-part.ensures.logged known ∙ c.loop-name.invariant.same known })
+
+pub returns-in_err-append : goal.returns-in_err-append
+returns-in_err-append g c = let p = err_from_is_err_and c.from_residual-in_err-append.result c.from_residual-in_err-append.ensures.1 in rw (p.1, p.2) (record { kept = tt; refused = tt; stops = tt; stays = c.in_ok-part.ensures.stays ∙ c.loop-name.invariant.stays; logged = λ known. c.in_ok-part.ensures.logged known ∙ c.loop-name.invariant.same known })
+
+pub returns-in_default-clause-stops : goal.returns-in_default-clause-stops
+returns-in_default-clause-stops g c = tt
+
+pub returns-in_default-clause-stays : goal.returns-in_default-clause-stays
+returns-in_default-clause-stays g c = c.in_ok-part.ensures.stays ∙ c.loop-name.invariant.stays
+
+pub returns-in_default-clause-logged : goal.returns-in_default-clause-logged
+returns-in_default-clause-logged g c = λ known. c.in_ok-part.ensures.logged known ∙ c.loop-name.invariant.same known
+
+pub returns-clause-stops : goal.returns-clause-stops
+returns-clause-stops g c = tt
+
+pub returns-clause-stays : goal.returns-clause-stays
+returns-clause-stays g c = c.loop-name.invariant.stays
+
+pub returns-clause-logged : goal.returns-clause-logged
+returns-clause-logged g c = c.loop-name.invariant.same

@@ -1,4 +1,5 @@
 use Rattle.std.proofs.Common.{arith}
+use Rattle.std.proofs.lemmas.Result.{err_from_is_err_and}
 use Rattle.tigertopo_faults.proofs.LinesLemmas.PlacesLemmas.{keyed_none, keyed_more, keyed_all}
 use Rattle.tigertopo_faults.proofs.lines.places.index_all.Goals as goal
 
@@ -16,3 +17,9 @@ loop-left-preserved c = record {
 
 pub returns : goal.returns
 returns c = keyed_all c.args.map.now.polygons c.loop-left.index.entries c.loop-left.left (omega (arith, c.loop-left-test.false)) c.loop-left.invariant.keyed
+
+pub returns-in_err-index : goal.returns-in_err-index
+returns-in_err-index c = let p = err_from_is_err_and c.from_residual.result c.from_residual.ensures.1 in rw p.1 tt
+
+pub returns-in_err-insert : goal.returns-in_err-insert
+returns-in_err-insert c = let p = err_from_is_err_and c.from_residual-in_err-insert.result c.from_residual-in_err-insert.ensures.1 in rw p.1 tt
