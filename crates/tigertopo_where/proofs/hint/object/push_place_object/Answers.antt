@@ -1,7 +1,7 @@
 use Rattle.std.proofs.Common.{codes, decimal}
 use Rattle.tl_record.specs.Layout.{layout_with}
 use Rattle.tl_record.specs.Lines.{content}
-use Rattle.tigertopo_words.specs.Json.{string_text}
+use Rattle.tigertopo_shown.specs.Json.{string_text}
 use Rattle.tigertopo_where.specs.Hint.Objects.{field_members, place_object}
 use Rattle.tigertopo_where.proofs.WordLemmas.{six_parts}
 use Rattle.tigertopo_where.proofs.hint.object.push_place_object.Goals as goal
