@@ -1,9 +1,9 @@
 -- Words of a text.
-use Rattle.std.proofs.Common.{◌≡◌, ◌≢◌, ◌==◌, ℕ, ◌<◌, ◌≤◌, ◌+◌, ◌-◌, ◌^◌, false, List, [], ◌∷◌, ◌++◌, take, drop, length, get_or, refl, sym, ap, ◌∙◌, ne_eqb, arith, decimal, append_assoc, append-nil, add-one, drop-cons}
+use Rattle.std.proofs.Common.{◌≡◌, ◌≢◌, ◌==◌, ℕ, suc, ◌<◌, ◌≤◌, ◌+◌, ◌-◌, ◌^◌, false, List, [], ◌∷◌, ◌++◌, take, drop, length, get_or, refl, sym, ap, ◌∙◌, ne_eqb, arith, decimal, append_assoc, append-nil, add-one, drop-cons}
 use Rattle.std.specs.Prelude.{codes}
 use Rattle.std.specs.Str.Parse.{AllDigits}
 use Rattle.std.specs.Char.{digit_value}
-use Rattle.std.proofs.lemmas.List.{length-append, take-append-le, take_all, drop_all}
+use Rattle.std.proofs.lemmas.List.{length-append, take-append-le, take_all, take_more, drop_all}
 use Rattle.std.proofs.lemmas.Fmt.{decimal_is_IsNumeral}
 use Rattle.tl_cert_output.specs.Writing.{line_of}
 use Rattle.tigertopo_where.specs.Words.{first_word, behind_word}
@@ -60,3 +60,35 @@ shown_more old new whole bytes i within is so_far =
 pub shown_all : (text whole bytes : List ℕ) (i : ℕ) → length bytes ≤ i → text ++ shown_bytes (drop i bytes) ≡ whole → text ≡ whole
 shown_all text whole bytes i past so_far =
     sym (append-nil text) ∙ sym (ap (λ (l : List ℕ). text ++ shown_bytes l) (drop_all i bytes past)) ∙ so_far
+
+-- ---- the first word
+
+-- none of it is passed
+pub none_passed : (text : List ℕ) → IsOneWord text 0
+none_passed text = record { first = refl; behind = refl }
+
+-- one more byte of it is
+pub one_passed : (text : List ℕ) (i : ℕ) → i < length text → get_or text i 0 ≢ 32 → IsOneWord text i → IsOneWord text (i + 1)
+one_passed text i within other so_far =
+    let byte = get_or text i 0 in
+    let rest = drop (i + 1) text in
+    let here : (byte == 32) ≡ false = ne_eqb byte 32 other in
+    let next : drop i text ≡ byte ∷ rest = rw (add-one, drop-cons text i 0) refl in
+    let word : first_word (byte ∷ rest) ≡ byte ∷ first_word rest = rw here refl in
+    let left : behind_word (byte ∷ rest) ≡ behind_word rest = rw here refl in record {
+      first = so_far.first ∙ ap (λ (l : List ℕ). take i text ++ first_word l) next ∙ ap (λ (l : List ℕ). take i text ++ l) word
+          ∙ sym (append_assoc (take i text) (byte ∷ []) (first_word rest)) ∙ sym (ap (λ (l : List ℕ). l ++ first_word rest) (take_more text i 0 within));
+      behind = so_far.behind ∙ ap behind_word next ∙ left;
+    }
+
+-- a blank stands behind it
+pub ends_at_blank : (text : List ℕ) (i : ℕ) → i < length text → get_or text i 0 ≡ 32 → IsOneWord text i → (take i text ≡ first_word text) × (drop (i + 1) text ≡ behind_word text)
+ends_at_blank text i within blank so_far =
+    let next : drop i text ≡ 32 ∷ drop (i + 1) text = rw (add-one, drop-cons text i 0) (ap (λ (b : ℕ). b ∷ drop (suc i) text) blank) in
+    (sym (so_far.first ∙ ap (λ (l : List ℕ). take i text ++ first_word l) next ∙ append-nil (take i text)), sym (so_far.behind ∙ ap behind_word next))
+
+-- all of the text is it
+pub ends_at_end : (text : List ℕ) (i : ℕ) → length text ≤ i → IsOneWord text i → (text ≡ first_word text) × ([] ≡ behind_word text)
+ends_at_end text i past so_far =
+    let none : drop i text ≡ [] = drop_all i text past in
+    (sym (so_far.first ∙ ap (λ (l : List ℕ). take i text ++ first_word l) none ∙ append-nil (take i text) ∙ take_all i text past), sym (so_far.behind ∙ ap behind_word none))

@@ -85,7 +85,7 @@ none_passing under (first ∷ names) (text ∷ texts) name zero within is none h
 none_passing under (first ∷ names) (text ∷ texts) name (suc i) within is none have =
     let rest : HaveTexts under names texts = let all = have in cc in none_passing under names texts name i (omega arith) is none rest
 
-named : {A : Type 0} (h : A → List ℕ) (names : List A) (i : ℕ) (name : A) → i < length names → name ≡ get_or names i name → get_or (map h names) i [] ≡ h name
+pub named : {A : Type 0} (h : A → List ℕ) (names : List A) (i : ℕ) (name : A) → i < length names → name ≡ get_or names i name → get_or (map h names) i [] ≡ h name
 named h [] i name within is = absurd (omega arith)
 named h (first ∷ names) zero name within is = ap h (sym is)
 named h (first ∷ names) (suc i) name within is = named h names i name (omega arith) is
