@@ -1,9 +1,10 @@
 -- The colours of polygons.
-use Rattle.std.proofs.Common.{◌≡◌, ◌≢◌, ◌⊎◌, inl, inr, ℕ, zero, suc, ◌+◌, ◌-◌, ◌*◌, ◌/◌, ◌%◌, ◌<◌, ◌≤◌, Bool, true, false, List, [], ◌∷◌, ◌++◌, length, get_or, Some, None, Option, refl, sym, ap, subst, ◌∙◌, arith, length-append}
-use Rattle.std.specs.Prelude.{slice_index, slice_index_or, if◌then◌else◌}
+use Rattle.std.proofs.Common.{◌≡◌, ◌≢◌, ◌⊎◌, inl, inr, ℕ, zero, suc, ◌+◌, ◌*◌, ◌/◌, ◌%◌, ◌<◌, ◌≤◌, Bool, true, false, List, [], ◌∷◌, ◌++◌, length, get_or, Some, None, Option, refl, sym, ap, subst, ◌∙◌, below_more, arith, length-append}
+use Rattle.std.specs.Prelude.{slice_index, if◌then◌else◌}
 use Rattle.std.specs.List.{AllByRecursion}
+use Rattle.std.proofs.Math.Seq.{get_or-append_seam}
 use Rattle.std.proofs.lemmas.List.{get_or_append_left, get_or-append-add}
-use Rattle.std.proofs.lemmas.Bool.{cases_lt, cases_eq}
+use Rattle.std.proofs.lemmas.Bool.{cases_lt}
 use Rattle.std.proofs.lemmas.Bool.Decides.{eqb_tells}
 use Rattle.tl_map_county.specs.TheMap.{MapChain}
 use Rattle.tl_map_county.specs.Darts.{reverse_dart, is_along}
@@ -12,7 +13,14 @@ use Rattle.std.proofs.lemmas.Option.{slice_get_past}
 use Rattle.std.specs.Option.{option_map}
 use Rattle.tigertopo_geojson.specs.Areas.{polygon_on}
 use Rattle.tigertopo_geojson.specs.Groups.{is_group, places_from, places, GoesThrough}
-use Rattle.tigertopo_svg.specs.Colours.{left_polygon, right_polygon, AreNeighbours, IsTaken, AreColours, Reaches, AreLefts, IsAdded}
+use Rattle.tigertopo_svg.specs.Colours.{left_polygon, AreNeighbours, IsTaken, AreColours, Reaches, AreLefts, IsAdded}
+
+-- one item more
+pub each_more : {X : Type 0} (xs : List X) (n : ℕ) (x d : X) (made : ℕ → X) → length xs ≡ n → ((k : ℕ) → k < n → get_or xs k d ≡ made k) → x ≡ made n → (k : ℕ) → k < n + 1 → get_or (xs ++ x ∷ []) k d ≡ made k
+each_more xs n x d made long each here =
+    below_more (λ k. get_or (xs ++ x ∷ []) k d ≡ made k) n
+    (λ k less. get_or_append_left xs (x ∷ []) d k (omega (arith, long, less)) ∙ each k less)
+    (subst (λ m. get_or (xs ++ x ∷ []) m d ≡ made n) long (get_or-append_seam xs x [] d ∙ here))
 
 -- ---- neighbours
 

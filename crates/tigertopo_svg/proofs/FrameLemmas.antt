@@ -1,7 +1,8 @@
 -- Rectangles and frames, part by part.
-use Rattle.std.proofs.Common.{◌≡◌, ℕ, ◌+◌, ◌≤◌, ℤ, List, length, drop, refl, sym, ap, ap₂, ◌∙◌}
+use Rattle.std.proofs.Common.{◌≡◌, ℕ, ◌+◌, ◌*◌, ◌≤◌, arith, ℤ, List, length, drop, refl, sym, ap, ap₂, ◌∙◌}
 use Rattle.tigertopo_svg.specs.declared.frame.Frame.{Frame}
 use Rattle.std.specs.Prelude.{slice_get, Option, Some}
+use Rattle.std.proofs.Math.Nat.{mul-le-mul_left, mul-le-mul_right}
 use Rattle.std.proofs.lemmas.List.{at_drop_all}
 use Rattle.tl_geom.specs.declared.point.Point.{Point}
 use Rattle.tl_geom.specs.declared.rational.Rational.{Rational}
@@ -11,6 +12,9 @@ use Rattle.std.specs.Prelude.{Bool, true, false, ◌&&◌}
 use Rattle.tigertopo_svg.specs.Frames.{around_points, around_chains, around_place, around_places, is_across, are_one_sided}
 use Rattle.tigertopo_svg.proofs.DrawingLemmas.{from_place}
 use Rattle.tl_geom.specs.declared.rect.Rect.{Rect}
+
+pub product_le : (a b m n : ℕ) → a ≤ m → b ≤ n → a * b ≤ m * n
+product_le a b m n first second = omega (arith, mul-le-mul_right b first, mul-le-mul_left m second)
 
 -- two rectangles with the same sides
 pub same_sides : (a b c d e f g h : ℤ) → a ≡ e → b ≡ f → c ≡ g → d ≡ h

@@ -11,7 +11,7 @@ use tl_geom::{Point, Rational};
 const REACH: u128 = 1 << 96;
 
 /// A place in a picture: the whole millionths of a degree to its south-west, and where it lies.
-#[derive(Clone, Copy, Debug, PartialEq, Eq)]
+#[derive(Clone, Copy)]
 pub struct Mark {
     pub corner: Point,
     pub at: Position,

@@ -8,7 +8,7 @@ use crate::frame::{Frame, Spot};
 use tl_geom::Point;
 
 /// A stroke from place to place. It begins anew where the one before it doesn't end there.
-#[derive(Clone, Copy, Debug)]
+#[derive(Clone, Copy)]
 pub struct Stroke {
     pub from: Spot,
     pub to: Spot,
@@ -16,7 +16,7 @@ pub struct Stroke {
 }
 
 /// A walk along the points of a chain.
-#[derive(Clone, Copy, Debug)]
+#[derive(Clone, Copy)]
 pub struct Walk<'a> {
     pub frame: Frame,
     /// The place where the stroke to the last point ended, if it was drawn.

@@ -1,6 +1,9 @@
-use Rattle.std.proofs.Common.{◌∙◌, sym}
+use Rattle.std.proofs.Common.{◌∙◌, sym, ap, length, arith}
+use Rattle.std.proofs.lemmas.List.{length-map}
 use Rattle.tl_cert_output.proofs.PrinterLemmas.{as_text, nothing}
+use Rattle.tigertopo_geojson.specs.Areas.{walk_polygon}
 use Rattle.tigertopo_geojson.specs.Groups.{GoesThrough}
+use Rattle.tigertopo_geojson.proofs.RingLemmas.{many_lists}
 use Rattle.tigertopo_svg.specs.Fills.{rings_of}
 use Rattle.tigertopo_svg.proofs.FillLemmas.{fill_there, fill_none}
 use Rattle.tigertopo_svg.proofs.filled.print_polygon.Goals as goal
@@ -26,3 +29,25 @@ returns-else-is_filled g c =
     rw (c.rings-2.ensures, c.first-first.ensures, c.rings.ensures) (c.requires.fills.rings.each c.args.polygon c.requires.polygon) in
     let around = rw c.walks.ensures at (c.around_walks-rect.ensures ns goes) in
     as_text (nothing _ _) (fill_none c.args.frame chains filling c.args.polygon c.around_walks-rect.result around (sym c.is_filled.ensures ∙ c.if-is_filled.false))
+
+pub first-first-requires : goal.first-first-requires
+first-first-requires g c = rw c.rings.ensures (omega (arith, c.requires.fills.rings.counted, c.requires.polygon))
+
+pub around_walks-rect-requires : goal.around_walks-rect-requires
+around_walks-rect-requires g c =
+    let fills = c.args.fills.now in
+    record {
+      walks = rw c.walks.ensures c.requires.fills.filling.walks;
+      beside = rw c.rings-2.ensures (omega (arith, c.requires.fills.rings.items, length-map fills.filling.walks (walk_polygon c.args.map.now.chains), many_lists c.walks.result.now, ap length c.walks.ensures));
+    }
+
+pub print_fill-requires : goal.print_fill-requires
+print_fill-requires g c =
+    let fills = c.args.fills.now in
+    record {
+      walks = rw c.walks-then-is_filled.ensures c.requires.fills.filling.walks;
+      beside = rw c.rings-then-is_filled.ensures (omega (arith, c.requires.fills.rings.items, length-map fills.filling.walks (walk_polygon c.args.map.now.chains), many_lists c.walks-then-is_filled.result.now, ap length c.walks-then-is_filled.ensures));
+    }
+
+pub colour-requires : goal.colour-requires
+colour-requires g c = omega (arith, c.requires.fills.filling.colours.all, c.requires.polygon)
