@@ -1,14 +1,16 @@
 -- What is seen under names, and whether a file may be made there.
-use Rattle.std.proofs.Common.{◌≡◌, ℕ, Bool, true, false, List, length, take, Option, Some, None, IfSome, Result, Ok, Err, IfOk, Contains, refl, sym, ap, ◌∙◌, arith}
+use Rattle.std.proofs.Common.{◌≡◌, ℕ, Bool, true, false, List, [], ◌∷◌, length, take, Option, Some, None, IfSome, Result, Ok, Err, IfOk, Contains, refl, sym, ap, ◌∙◌, arith}
 use Rattle.std.proofs.lemmas.List.{take_all}
 use Rattle.std.proofs.lemmas.Option.{same_Some}
 use Rattle.tigertopo_files.specs.Files.{beside}
 use Rattle.tigertopo_system_files.specs.Looking.{Held, IsSeenAs, IsStanding, IsRoomAt, may_at}
 use Rattle.tigertopo_files.specs.declared.beginning.FileKind.{FileKind}
+use Rattle.tigertopo_files.specs.declared.beginning.FileKind.TheVariants.{Certificate, Collection, Picture, Records}
 use Rattle.tigertopo_files.specs.declared.file_system.Room.TheVariants as room
 use Rattle.tigertopo_system_files.specs.declared.looking.Seen.TheVariants as seen
 use Rattle.tigertopo_system_files.specs.declared.looking.Standing.{Standing}
 use Rattle.tigertopo_system_files.specs.declared.looking.Standing.TheVariants as standing
+use Rattle.tigertopo_system_files.specs.declared.looking.Spot.{Spot}
 use Rattle.tigertopo_system_files.specs.declared.looking.Spot.TheVariants as spot
 
 whole_of : (may : List ℕ → Bool) (goes : Bool) (size : ℕ) (file : Option (List ℕ)) → IfSome file (λ bytes. goes ≡ may (take size bytes)) → IfSome file (λ bytes. size ≡ length bytes → goes ≡ may bytes)
@@ -22,6 +24,26 @@ pub whole_told : {E : Type 0} (may : List ℕ → Bool) (answer : Result Bool E)
 whole_told may (Err error) held known name size here is = tt
 whole_told may (Ok goes) None known name size here is = tt
 whole_told may (Ok goes) (Some at) known name size here is = whole_of may goes size (at name) (rw here at is)
+
+empty_may : (spot : Spot) (kind : FileKind) → may_at spot kind [] ≡ true
+empty_may spot.Name Certificate = refl
+empty_may spot.Name Collection = refl
+empty_may spot.Name Picture = refl
+empty_may spot.Name Records = refl
+empty_may spot.Beside Certificate = refl
+empty_may spot.Beside Collection = refl
+empty_may spot.Beside Picture = refl
+empty_may spot.Beside Records = refl
+
+empty_at : (may : List ℕ → Bool) (size : ℕ) (file : Option (List ℕ)) → size ≡ 0 → may [] ≡ true → IfSome file (λ bytes. size ≡ length bytes → true ≡ may bytes)
+empty_at may size None none goes = tt
+empty_at may size (Some []) none goes = λ all. sym goes
+empty_at may size (Some (byte ∷ bytes)) none goes = λ all. absurd (omega (arith, none, all))
+
+-- a file without bytes may go
+pub empty_goes : (spot : Spot) (kind : FileKind) (held : Option Held) (name : List ℕ) (size : ℕ) → size ≡ 0 → IfSome held (λ at. IfSome (at name) (λ bytes. size ≡ length bytes → true ≡ may_at spot kind bytes))
+empty_goes spot kind None name size none = tt
+empty_goes spot kind (Some at) name size none = empty_at (may_at spot kind) size (at name) none (empty_may spot kind)
 
 nothing_at : (may : List ℕ → Bool) (file : Option (List ℕ)) (is_read : Type 0) → IsSeenAs file seen.Nothing → ¬ is_read → IsStanding may file is_read standing.Free
 nothing_at may None is_read seen none = (tt, none)
