@@ -74,6 +74,16 @@ given_or_zero (Some n) = refl
 pub long_same : (e : SidesEntry) (l r : PolyKey) (n : ℕ) → given (is_some e.left) l ≡ e.left → given (is_some e.right) r ≡ e.right → long_of (record { tlid = e.tlid; left_polyid = 0; right_polyid = 0; more = n; left_cenid = l.cenid; right_cenid = r.cenid; has_left = is_some e.left; has_right = is_some e.right }) (record { start_cell = unwrap_or e.start_cell 0; end_cell = unwrap_or e.end_cell 0; left_polyid = l.polyid; right_polyid = r.polyid; has_start = is_some e.start_cell; has_end = is_some e.end_cell }) ≡ e
 long_same e l r n left right = λ j. record { tlid = e.tlid; start_cell = given_or_zero e.start_cell j; end_cell = given_or_zero e.end_cell j; left = left j; right = right j }
 
+-- and of parts that were told one by one
+pub row_same : (more new : List SidesMore) (e : SidesEntry) (l r : PolyKey) (n start_cell end_cell : ℕ) (has_start has_end has_left has_right : Bool) → n ≡ length more + 1 →
+    has_start ≡ is_some e.start_cell → has_end ≡ is_some e.end_cell → has_left ≡ is_some e.left → has_right ≡ is_some e.right →
+    start_cell ≡ unwrap_or e.start_cell 0 → end_cell ≡ unwrap_or e.end_cell 0 → given (is_some e.left) l ≡ e.left → given (is_some e.right) r ≡ e.right →
+    new ≡ more ++ record { start_cell = start_cell; end_cell = end_cell; left_polyid = l.polyid; right_polyid = r.polyid; has_start = has_start; has_end = has_end } ∷ [] →
+    kept_in new (record { tlid = e.tlid; left_polyid = 0; right_polyid = 0; more = n; left_cenid = l.cenid; right_cenid = r.cenid; has_left = has_left; has_right = has_right }) ≡ e
+row_same more new e l r n start_cell end_cell has_start has_end has_left has_right last a b x y c d left right is =
+    let s : SidesRow = record { tlid = e.tlid; left_polyid = 0; right_polyid = 0; more = n; left_cenid = l.cenid; right_cenid = r.cenid; has_left = has_left; has_right = has_right } in
+    ap (λ list. kept_in list s) is ∙ kept_last more _ s last ∙ rw (a, b, x, y, c, d) (long_same e l r n left right)
+
 -- a row's TLID is its record's
 pub own_tlid : (more : List SidesMore) (s : SidesRow) → (kept_in more s).tlid ≡ s.tlid
 own_tlid more s = go (eqb s.more 0)

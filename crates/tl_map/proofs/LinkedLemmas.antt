@@ -1,5 +1,5 @@
 use Rattle.std.proofs.Common.{◌≡◌, ℕ, zero, suc, ◌+◌, ◌<◌, eqb, inl, inr, Option, Some, List, [], ◌∷◌, length, map, filter, take, get_or, ◌++◌, All, refl, ap, ◌∙◌, arith}
-use Rattle.std.specs.Prelude.{slice_get, nat_eq}
+use Rattle.std.specs.Prelude.{slice_get, nat_eq, Result, Ok, Err, MatchResult}
 use Rattle.std.proofs.lemmas.List.{length-map}
 use Rattle.std.proofs.lemmas.Bool.{cases_eq, eq-eqb, ne_eqb}
 use Rattle.std.proofs.lemmas.Option.{slice_get_within}
@@ -60,6 +60,11 @@ links_inside ks ns links old new count same all sorted =
     All-permutation (λ m. m.polygon < count) old new sorted.moved (λ k d lt. let x : LinkEntry = record { key = record { cenid = []; polyid = 0 }; land = 0 } in let h = slice_get_within ks (get_or old k d).polygon _ (all.0.each k x d lt).known in omega (arith, h, same))
 
 -- the landmarks with their links
+-- what follows from each of two ways that a call may end
+pub either_way : {A E : Type 0} (r : Result A E) (P Q : A → Type 0) (F G : E → Type 0) → ((a : A) → P a → Q a) → ((e : E) → F e → G e) → MatchResult r P F → MatchResult r Q G
+either_way (Ok a) P Q F G f g h = f a h
+either_way (Err e) P Q F G f g h = g e h
+
 pub linked_all : (ks : List PolyKey) (entries : List LandmarkEntry) (links : List LinkEntry) (old new : List Link) (f : IndexMap ℕ (Option Point) RandomState) (l : LinkedLandmarks) → l.points.items ≡ f.entries → ListsLandmarks entries f → Numbers (keys f) (index_of nat_eq f)
     → AreAllLinks ks (keys f) links old → AreByLandmark old new → AreRows new (length f.entries) l.linked.items l.rows.items → AreLinked ks entries links l
 linked_all ks entries links old new f l same lists numbers all sorted rows = record {

@@ -227,6 +227,29 @@ fn link_landmarks(
     Ok(rows)
 }
 
+/// The landmarks of an index with the polygons that are linked to them.
+fn link_indexed(
+    alloc: Global,
+    polygons: &IndexMap<PolyKey, Point, RandomState>,
+    landmarks: &IndexMap<u64, Option<Point>, RandomState>,
+    links: &[LinkEntry],
+) -> Result<LinkedLandmarks, MapStop>
+    requires polygons { length polygons.now.entries < 2 ^ 32 }
+    requires few { length landmarks.now.entries ≤ LANDMARK_LIMIT }
+    requires keys { IsUnique same_key polygons.now }
+    requires lands { IsUnique nat_eq landmarks.now }
+    ensures { MatchResult result (λ l. (l.points.items ≡ landmarks.now.entries) × AreLinkRows (keys polygons.now) (keys landmarks.now) links.now
+        (length landmarks.now.entries) l.linked.items l.rows.items) (StopsLinks (keys polygons.now) (keys landmarks.now) links.now) }
+{
+    let (rows, linked) = link_landmarks(alloc, polygons, landmarks, links)?;
+    let points = points_of(alloc, landmarks)?;
+    Ok(LinkedLandmarks {
+        points,
+        rows,
+        linked,
+    })
+}
+
 /// The landmarks of the records with the polygons that are linked to them.
 pub fn build_landmarks(
     alloc: Global,
@@ -241,11 +264,5 @@ pub fn build_landmarks(
         (StopsLinking (keys index.now) entries.now links.now) }
 {
     let firsts = first_landmarks(alloc, hasher, entries)?;
-    let (rows, linked) = link_landmarks(alloc, index, &firsts, links)?;
-    let points = points_of(alloc, &firsts)?;
-    Ok(LinkedLandmarks {
-        points,
-        rows,
-        linked,
-    })
+    link_indexed(alloc, index, &firsts, links)
 }

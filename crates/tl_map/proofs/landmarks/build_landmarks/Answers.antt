@@ -4,7 +4,7 @@ use Rattle.std.specs.Cmp.{nat_eq_equiv}
 use Rattle.std.proofs.lemmas.Result.{err_from_is_err_and}
 use Rattle.indexmap.specs.IndexMap.{keys}
 use Rattle.tl_map.proofs.IndexLemmas.{numbers_keys}
-use Rattle.tl_map.proofs.LinkedLemmas.{linked_all, stops_linking}
+use Rattle.tl_map.proofs.LinkedLemmas.{linked_all, stops_linking, either_way}
 use Rattle.tl_map.proofs.landmarks.build_landmarks.Goals as goal
 
 pub returns-in_err-firsts : goal.returns-in_err-firsts
@@ -12,17 +12,17 @@ returns-in_err-firsts c =
     let p = err_from_is_err_and c.from_residual.result c.from_residual.ensures.1 in
     rw (p.1, p.2) (inl c.in_err-firsts.ensures.stops)
 
-pub link_landmarks-requires : goal.link_landmarks-requires
-link_landmarks-requires c = record { polygons = c.requires.few; few = c.in_ok-firsts.ensures.ok.few; keys = c.requires.unique; lands = c.in_ok-firsts.ensures.ok.unique }
-
-pub returns-in_err-rows : goal.returns-in_err-rows
-returns-in_err-rows c =
-    let p = err_from_is_err_and c.from_residual-in_err-rows.result c.from_residual-in_err-rows.ensures.1 in
-    rw (p.1, p.2) (stops_linking (keys c.args.index.now) c.args.entries.now c.in_ok-firsts.firsts c.args.links.now c.in_err-rows.field-0.0 c.in_ok-firsts.ensures.ok c.in_err-rows.ensures)
+pub link_indexed-requires : goal.link_indexed-requires
+link_indexed-requires c = record { polygons = c.requires.few; few = c.in_ok-firsts.ensures.ok.few; keys = c.requires.unique; lands = c.in_ok-firsts.ensures.ok.unique }
 
 pub returns : goal.returns
 returns c =
     let f = c.in_ok-firsts.firsts in
-    let lands = numbers_keys nat_eq nat_eq_equiv eqb-true f c.in_ok-firsts.ensures.ok.unique in
-    let linked = c.in_ok-rows.ensures in
-    linked_all (keys c.args.index.now) c.args.entries.now c.args.links.now linked.made linked.sorted f _ c.in_ok-points.ensures c.in_ok-firsts.ensures.ok lands linked.all linked.by_landmark linked.listed
+    let told = c.in_ok-firsts.ensures.ok in
+    let ks = keys c.args.index.now in
+    let entries = c.args.entries.now in
+    let links = c.args.links.now in
+    let lands = numbers_keys nat_eq nat_eq_equiv eqb-true f told.unique in
+    either_way c.link_indexed.result _ _ _ _
+    (λ l made. linked_all ks entries links made.1.made made.1.sorted f l made.0 told lands made.1.all made.1.by_landmark made.1.listed)
+    (λ stop why. stops_linking ks entries f links stop told why) c.link_indexed.ensures
