@@ -45,7 +45,7 @@ DISAGREE = "star-exchanged"
 # Words by which a command lists all faults.
 LISTS = {"--all", "--faults"}
 CHAINS = 300
-# Words of each command that decides a map, and those of one of which a sweep finds that chains meet.
+# Words of each command that decides a map, and those where one is seen in a mirror or turned, or where a sweep finds that chains meet.
 COMMANDS = [["audit"], ["audit", "--faces"], ["audit", "--all"], ["audit", "--all", "--faces"], ["build"], ["build", "--faces"], ["check"],
             ["check", "--faces"], ["draw", "--faults"]]
 DECIDES = [["audit"], ["audit", "--faces"], ["build"], ["check"]]
@@ -57,14 +57,14 @@ def can_play():
 
 
 def maps():
-    """The kinds of maps that are sound, or whose sides are exchanged, with all commands; and those whose chains meet, with those that end
-    there."""
+    """The kinds of maps that are sound, or whose sides are exchanged, with all commands; and those that are seen otherwise or whose chains
+    meet, with those that decide."""
     for kind in ("county", "shuffled", "grid", "nested"):
         yield kind, COMMANDS
     for kind in run.LONG:
-        for seen in ("", "mirrored", "turned", "mirrored-turned"):
-            yield f"{kind}-{seen}", COMMANDS
-        yield f"{kind}-crossed", DECIDES
+        yield f"{kind}-", COMMANDS
+        for seen in ("mirrored", "turned", "mirrored-turned", "crossed"):
+            yield f"{kind}-{seen}", DECIDES
     for kind in run.SIDED:
         yield f"{kind}-exchanged", COMMANDS
 
