@@ -55,10 +55,10 @@ certificates: build
 	python3 tests/formats/certificates.py
 
 judge: build
-	python3 tests/judge/judged.py
-	python3 tests/judge/faced.py
-	python3 tests/judge/parts.py
-	python3 tests/judge/joined.py
+	python3 tests/judge/judged.py --cases 20000
+	python3 tests/judge/faced.py --cases 2000
+	python3 tests/judge/parts.py --cases 4000
+	python3 tests/judge/joined.py --cases 2000
 
 full-size: build
 	python3 tests/size/full_size.py

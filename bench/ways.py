@@ -45,10 +45,11 @@ DISAGREE = "star-exchanged"
 # Words by which a command lists all faults.
 LISTS = {"--all", "--faults"}
 CHAINS = 300
-# Words of each command that decides a map, and those where one is seen in a mirror or turned, or where a sweep finds that chains meet.
+# Words of each command that decides a map; and where one is seen in a mirror or turned, or a sweep finds that chains meet, those of which the
+# others make the same sweep.
 COMMANDS = [["audit"], ["audit", "--faces"], ["audit", "--all"], ["audit", "--all", "--faces"], ["build"], ["build", "--faces"], ["check"],
             ["check", "--faces"], ["draw", "--faults"]]
-DECIDES = [["audit"], ["audit", "--faces"], ["build"], ["check"]]
+DECIDES = [["audit"], ["check"]]
 
 
 def can_play():

@@ -225,9 +225,10 @@ def prove_all(rt, proofs):
     return failed[0] if failed else None
 
 
-def main():
+def ready():
+    """The kit, made ready to prove the crates of this repository."""
     rt = kit()
-    # An interrupt ends this start at once, and the kit's guard what it started.
+    # An interrupt ends this process at once, and the kit's guard what it started.
     signal.signal(signal.SIGINT, signal.SIG_DFL)
     rt.rtlib.guarded()
     rt.Crate.cuts_libraries = True
@@ -238,26 +239,39 @@ def main():
     rt.Crate.allowed = rt.handles_of(str(TOP))
     rt.rtlib.Crate = rt.Crate
     os.chdir(TOP)
+    return rt
+
+
+def proofs_of(rt, names):
+    """The proofs of these crates and of all below them, lowest first, by the crates' names. Until this process ends no other works there: one
+    that runs in another terminal is waited for."""
     every = rt.rtlib.crates_below(str(TOP))
-    wanted = [it for it in every if it.name in (sys.argv[1:] or ["tigertopo"])]
+    wanted = [it for it in every if it.name in names]
     crates = [it for it in every if any(it is top or it in top.below() for top in wanted)]
     for crate in crates:
         rt.read_files(crate)
         os.makedirs(f"{crate.folder}/out", exist_ok=True)
-    # One that runs in another terminal is waited for.
-    held = rt.rtlib.lock(crates)
+    rt.rtlib.lock(crates)
     proofs = {}
     for crate in sorted(crates, key=lambda it: len(it.below())):
         proofs[crate.name] = Proof(rt, crate, [proofs[it.name] for it in crate.below()])
+    return proofs
+
+
+def prove_missing(rt, proofs):
+    """Proves those of these crates that don't stand, and ends where one isn't proved. Those below each are among them."""
     missing = {}
     for proof in proofs.values():
         if not proof.stands() or any(it.name in missing for it in proof.crate.below()):
             missing[proof.crate.name] = proof
     failure = prove_all(rt, list(missing.values())) if missing else None
-    for it in held:
-        os.close(it)
     if failure:
         stop(f"{failure[0]} isn't proved\n{failure[1]}")
+
+
+def main():
+    rt = ready()
+    prove_missing(rt, proofs_of(rt, sys.argv[1:] or ["tigertopo"]))
     return 0
 
 

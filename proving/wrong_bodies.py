@@ -3,57 +3,98 @@
 
 An edit in a crate's `must-fail` turns what a contract promises to a user, in a crate that answers one: the gate tries it.
 One in `wrong-bodies` turns a body of a crate whose contracts serve callers and the proofs of the crates above it, or is one of
-many of a crate that answers. The libraries below these crates are built first, where their sources have changed.
+many of a crate that answers. The crates below are proved first, where their sources have changed, as `prove.py` does it. An edit that
+was refused isn't tried again until its crate or one below it changes.
 
 usage: wrong_bodies.py [CRATE..]     with no CRATE, each crate that has such edits
 """
 
-import os
+import hashlib
 import shutil
 import sys
-from concurrent.futures import ThreadPoolExecutor
+from concurrent.futures import FIRST_COMPLETED, ThreadPoolExecutor, wait
+from pathlib import Path
 
 from gate import TOP, lanes
-from prove import kit
+from prove import proofs_of, prove_missing, ready, shares
 
 FLAGS = ["--jobs", "1"]
+# What a try costs of the crate's proof, as it is planned with: it begins with what was proved of the crate as it stands.
+OF_PROOF = 0.3
 
 
-def edits_of(crate):
-    return sorted(str(it) for it in (TOP / "crates" / crate / "wrong-bodies").glob("*.edit"))
+def edits_of(name):
+    return sorted((TOP / "crates" / name / "wrong-bodies").glob("*.edit"))
 
 
 def crates_with_some():
     return sorted(folder.parent.name for folder in TOP.glob("crates/*/wrong-bodies"))
 
 
-def seeded(rt, crate):
-    """What the prover says of each edit of a crate, tried in turn over what a check of it as it stands proved; None where it isn't proved
-    as it stands."""
-    room = rt.seeded(crate, FLAGS)
-    if not room:
-        return None
-    answers = []
-    for edit in edits_of(crate.name):
-        over = f"{room}/over"
-        rt.linked(f"{room}/seed", over)
-        told, text = rt.must_fail(crate, edit, FLAGS, over)
+class Tries:
+    """The edits of a crate that are to be tried."""
+
+    def __init__(self, rt, proof):
+        self.rt = rt
+        self.proof = proof
+        self.edits = [it for it in edits_of(proof.crate.name) if not self.was_refused(it)]
+        self.left = len(self.edits)
+        self.room = None
+
+    def note_of(self, edit):
+        """The file that says of what an edit was refused."""
+        return self.proof.folder.parent / "refused" / edit.stem
+
+    def sum_of(self, edit):
+        return hashlib.sha256(self.proof.sum.encode() + edit.read_bytes()).hexdigest()
+
+    def was_refused(self, edit):
+        note = self.note_of(edit)
+        return note.is_file() and note.read_text() == self.sum_of(edit)
+
+    def begin(self):
+        """Checks the crate as it stands, and gives whether it is proved."""
+        self.room = self.rt.seeded(self.proof.crate, FLAGS)
+        if not self.room:
+            print(f"wrong-bodies {self.proof.crate.name}: NOT TRIED: the crate isn't proved as it stands", flush=True)
+        return bool(self.room)
+
+    def is_refused(self, edit):
+        """Tries an edit over what was proved of the crate as it stands, and prints what the prover says of it."""
+        over = f"{self.room}/{edit.stem}"
+        self.rt.linked(f"{self.room}/seed", over)
+        told, text = self.rt.must_fail(self.proof.crate, str(edit), FLAGS, over)
         shutil.rmtree(over, ignore_errors=True)
-        answers.append((told in (rt.REFUSED, rt.AT_LIMIT), text))
-    shutil.rmtree(room, ignore_errors=True)
-    return answers
-
-
-def tried(rt, crate):
-    """Tries the edits of a crate, prints what the prover says of each, and gives how many it doesn't refuse. Kits differ in what they call
-    that."""
-    answers = seeded(rt, crate) if hasattr(rt, "seeded") else rt.must_fail_all(crate, edits_of(crate.name), FLAGS)
-    if answers is None:
-        print(f"wrong-bodies {crate.name}: NOT TRIED: the crate isn't proved as it stands", flush=True)
-        return len(edits_of(crate.name))
-    for _, text in answers:
+        self.left -= 1
+        if not self.left:
+            shutil.rmtree(self.room, ignore_errors=True)
         print(text.replace("must-fail ", "wrong-bodies ", 1), flush=True)
-    return sum(not is_refused for is_refused, _ in answers)
+        if told not in (self.rt.REFUSED, self.rt.AT_LIMIT):
+            return False
+        self.note_of(edit).parent.mkdir(exist_ok=True)
+        self.note_of(edit).write_text(self.sum_of(edit))
+        return True
+
+
+def try_all(tries):
+    """Tries all edits side by side, and gives how many aren't refused. Those of a crate that is begun come before the next crate."""
+    failed, edits, running = 0, [], {}
+    with ThreadPoolExecutor(lanes()) as several:
+        while tries or edits or running:
+            while (tries or edits) and len(running) < lanes():
+                if edits:
+                    it, edit = edits.pop()
+                    running[several.submit(it.is_refused, edit)] = it, [edit]
+                else:
+                    it = tries.pop(0)
+                    running[several.submit(it.begin)] = it, it.edits
+            for ended in wait(running, return_when=FIRST_COMPLETED).done:
+                it, of = running.pop(ended)
+                if not ended.result():
+                    failed += len(of)
+                elif of is it.edits:
+                    edits += [(it, edit) for edit in of]
+    return failed
 
 
 def main():
@@ -62,15 +103,14 @@ def main():
     lacking = [it for it in names if it not in some]
     if lacking:
         sys.exit(f"wrong_bodies.py: {lacking[0]} has no folder wrong-bodies")
-    rt = kit()
-    rt.rtlib.guarded()
-    os.chdir(TOP)
-    crates = [it for it in rt.rtlib.crates_below(os.getcwd()) if it.name in names]
-    for crate in crates:
-        if any(below.build_rlib(FLAGS, anew=False) for below in crate.below()):
-            sys.exit(f"wrong_bodies.py: a library below {crate.name} isn't proved")
-    with ThreadPoolExecutor(lanes()) as several:
-        failed = sum(several.map(lambda it: tried(rt, it), crates))
+    rt = ready()
+    proofs = proofs_of(rt, names)
+    below = {it.name for name in names for it in proofs[name].crate.below()}
+    prove_missing(rt, {name: proof for name, proof in proofs.items() if name in below})
+    share = shares()
+    cost = lambda it: share.get(it.proof.crate.name, 60) * (1 + OF_PROOF * it.left)
+    tries = sorted((it for it in (Tries(rt, proofs[name]) for name in names) if it.edits), key=cost, reverse=True)
+    failed = try_all(tries)
     print(f"{sum(len(edits_of(it)) for it in names) - failed} refused, {failed} not refused")
     return 1 if failed else 0
 

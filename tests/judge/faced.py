@@ -32,7 +32,7 @@ import judged
 import layout
 import placed
 
-CASES = 600
+CASES = 400
 
 # Two towns apart, each a square, with the outside between them.
 TOWNS = [

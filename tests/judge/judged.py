@@ -35,7 +35,8 @@ import judge
 import placed
 import rows
 
-CASES = 8_000
+# In each gate; `make judge` plays more.
+CASES = 3_000
 # How many cases a process plays before it says how they went.
 SHARE = 50
 ROWS = ("all", "audit", "check", "fields", "landmarks", "locate", "show")

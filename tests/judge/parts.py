@@ -24,7 +24,7 @@ import draw
 import faces
 import judge
 
-CASES = 1200
+CASES = 600
 # What may be done to a map before it is cut, beside what is done at its seams.
 SPOILING = [
     draw.exchange_sides,
