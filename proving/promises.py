@@ -616,7 +616,7 @@ def owner_above(source, at):
 
 
 def floors():
-    """The floors with their crates, but for the last: that of tests, programs over the libraries and what is measured."""
+    """The floors with their crates, but for the last: that of tests, a program over the libraries and what is measured."""
     title, found = None, []
     for line in (TOP / "crates.txt").read_text().splitlines():
         if line.startswith("#"):

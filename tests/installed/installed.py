@@ -1,7 +1,7 @@
 #!/usr/bin/env python3
 """Looks at the manual page and at the completions that install/pages.py makes of the program's help: each command and each
-option stands in each of them, and the programs that read them take them with no complaint. And the programs of
-docs/library.md are those of crates/, which are proved and run.
+option stands in each of them, and the programs that read them take them with no complaint. And the program of
+docs/library.md is that of crates/, which is proved and run.
 
 usage: installed.py [PROGRAM]
 """

@@ -1,10 +1,10 @@
-//! Reads a county from standard input, says how much there is in it and where a point lies, and writes a certificate of its
-//! map, where it is sound.
+//! Reads a county from standard input, says whether its map is sound, how much there is in it and where a point lies, and
+//! writes a certificate of its map, where it is sound.
 #![tactic(auto)]
 
 use std::hash::RandomState;
-use std::io;
-use tl_build::{Built, build};
+use std::io::{self, Read};
+use tl_build::{Audit, Built, audit, build};
 use tl_cert::write_cert;
 use tl_check_inside::{Place, locate};
 use tl_geom::Point;
@@ -13,13 +13,30 @@ use tl_record::{Meter, MeterOut};
 use tl_tree::PlainList;
 
 fn main(rt: HostRuntime) -> io::Result<()> {
-    let hasher = RandomState::new(&rt)?;
-    let mut records = Meter::new(rt.stdin());
-    match read_map(rt.alloc(), hasher, &mut records) {
+    let mut records = Vec::new(rt.alloc());
+    rt.stdin().read_to_end(&mut records)?;
+    say_verdict(&rt, &records)?;
+    ask_map(&rt, &records)
+}
+
+/// Says whether the map of a county is sound.
+fn say_verdict(rt: &HostRuntime, records: &[u8]) -> io::Result<()> {
+    let hasher = RandomState::new(rt)?;
+    match audit(rt.alloc(), hasher, &mut Meter::new(records)) {
+        Ok(Audit::Sound(report)) => println!(rt; "sound {report}"),
+        Ok(Audit::Fault(fault)) => println!(rt; "{fault}"),
+        Err(stop) => println!(rt; "{stop}"),
+    }
+}
+
+/// Says how much there is in a county and where a point lies, and writes a certificate of its map.
+fn ask_map(rt: &HostRuntime, records: &[u8]) -> io::Result<()> {
+    let hasher = RandomState::new(rt)?;
+    match read_map(rt.alloc(), hasher, &mut Meter::new(records)) {
         Ok(map) => {
-            say_counts(&rt, &map)?;
-            say_place(&rt, &map, Point { x: 60, y: 20 })?;
-            write_certificate(&rt, &map)
+            say_counts(rt, &map)?;
+            say_place(rt, &map, Point { x: 60, y: 20 })?;
+            write_certificate(rt, &map)
         }
         Err(MapStop::Fault(fault)) => println!(rt; "{fault}"),
         Err(MapStop::Refused { line, cause }) => println!(rt; "line {line}: {cause}"),
