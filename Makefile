@@ -11,10 +11,9 @@
 # make examples            runs the commands of README.md, docs/commands.md, examples/README.md and docs/faults.md, and compares what they print
 # make counties            runs the commands of docs/many-counties.md on a few counties
 # make bench               measures the program on record files of 1,000 to 1,000,000 chains, checks of counties, maps
-#                          decided and certificates built with none given, maps of long segments, what sweeps say of all
-#                          these, searches in trees, and certificates written and read, and counts instructions where
-#                          valgrind is there; with BESIDE=PROGRAM it counts and times that program's too; and lists
-#                          of every fault
+#                          decided and certificates built with none given, maps of long segments, searches in trees, and
+#                          certificates written and read, and counts instructions where valgrind is there; with
+#                          BESIDE=PROGRAM it counts and times that program's too; and lists of every fault
 # make ways                counts the sweeps of each command, where valgrind is there: one of a map, that says all that is asked
 # make speed               prints the tables of docs/speed.md, which has the rows of 100,000 and of 1,000,000 chains among these
 # make geojson             reads what `export` and `audit --geojson` make by GDAL

@@ -1,10 +1,8 @@
 #!/usr/bin/env python3
 """Measures `tigertopo show`, `landmarks` and `locate`, and a program that only counts records, beside `wc -l` of the same files;
-`check` by a plain maker's certificate beside `show`, with the parts of a check as `bench check` tells them, in a second table;
-`audit`, `build`, `check` of what was built and `locate` beside `show` in a third, with the parts of that work as `bench check`
-tells them in a fourth; `audit` of maps of long segments in a fifth; what a sweep says of all these maps in a sixth;
-`bench tree`, which makes the segments of a county and searches them, in a seventh; and `bench cert`, which writes and reads
-certificates, beside `wc -l` of the same file, in an eighth.
+`check` by a plain maker's certificate beside `show` in a second table; `audit`, `build`, `check` of what was built and `locate`
+beside `show` in a third; `audit` of maps of long segments in a fourth; `bench tree`, which makes the segments of a county and
+searches them, in a fifth; and `bench cert`, which writes and reads certificates, beside `wc -l` of the same file, in a sixth.
 
 usage: run.py [--sizes N,N,..] [--counties N,N,..] [--keys N] [--decided N,N,..] [--long N,N,..] [--segments N,N,..]
               [--certificates N,N,..] [--kinds KIND,KIND,..] [--runs N]
@@ -83,12 +81,12 @@ def records_of(chains, kind):
 
 
 def certificate_of(chains):
-    """A certificate of a whole county, and its records in one file."""
-    files, records = files_of(chains, "county"), records_of(chains, "county")
+    """A certificate of a whole county."""
+    files = files_of(chains, "county")
     certificate = BENCH / "out" / f"{chains}-county" / "certificate"
     if not certificate.exists():
         subprocess.run([sys.executable, BENCH / "certificate.py", certificate, *files], check=True)
-    return certificate, records
+    return certificate
 
 
 def seconds_of(words, status=0):
@@ -135,20 +133,13 @@ def rows(chains, kind, runs):
                f"{seconds / base:.1f}", f"{lines / seconds / 1e6:.2f}", f"{peaks[name]:.1f}" if peaks[name] >= 0.1 else "-")
 
 
-def steps_of(words):
-    """The milliseconds of each step that a program tells of."""
-    done = subprocess.run(words, capture_output=True, text=True, check=True)
-    return [int(line.split()[-2]) / 1e3 for line in done.stderr.splitlines()]
-
-
 def check_rows(chains, runs):
-    files, (certificate, records) = files_of(chains, "county"), certificate_of(chains)
+    files, certificate = files_of(chains, "county"), certificate_of(chains)
     show, check = [PROGRAM, "show", *files], [PROGRAM, "check", "--cert", certificate, *files]
     peak = peak_of(check)
-    found = [(seconds_of(show) * 1e3, seconds_of(check) * 1e3, *steps_of([PARTS, "check", records, certificate])) for _ in range(runs)]
-    shown, checked, *parts = (statistics.median(column) for column in zip(*found))
-    yield (f"{chains:,}", f"{shown:.1f}", f"{checked:.1f}", f"{checked / shown:.1f}", *(f"{part:.1f}" for part in parts),
-           f"{parts[3] / shown:.2f}", f"{peak:.1f}", f"{peak * 2 ** 20 / chains:.0f}")
+    found = [(seconds_of(show) * 1e3, seconds_of(check) * 1e3) for _ in range(runs)]
+    shown, checked = (statistics.median(column) for column in zip(*found))
+    yield (f"{chains:,}", f"{shown:.1f}", f"{checked:.1f}", f"{checked / shown:.1f}", f"{peak:.1f}", f"{peak * 2 ** 20 / chains:.0f}")
 
 
 def decided_rows(chains, kind, runs):
@@ -176,25 +167,6 @@ def decided_rows(chains, kind, runs):
         yield (f"{chains:,} {NAMES[kind]}", name, f"{taken:.1f}", f"{taken / shown:.1f}", f"{taken * 1e3 / chains:.2f}", *memory)
 
 
-def part_rows(chains, kind, runs):
-    """The parts of that work, in memory, where the program that tells of them is built."""
-    if not PARTS.exists():
-        return
-    files, records = files_of(chains, kind), records_of(chains, kind)
-    show, built = [PROGRAM, "show", *files], files[0].parent / "built"
-    found = []
-    for _ in range(runs):
-        shown = seconds_of(show) * 1e3
-        read, made, tree, search, sides, checked = steps_of([PARTS, "check", records])
-        reread = steps_of([PARTS, "check", records, built])[1]
-        points = max(0, checked - tree - search - sides)
-        found.append((shown, read, made - checked, tree, search, sides, points, checked, reread))
-    shown, *parts = (statistics.median(column) for column in zip(*found))
-    search, sides, points = parts[3:6]
-    yield (f"{chains:,} {NAMES[kind]}", f"{shown:.1f}", *(f"{part:.1f}" for part in parts), f"{search / shown:.2f}",
-           f"{sides / shown:.2f}", f"{points / shown:.2f}")
-
-
 def seen_of(kind):
     """How maps of long segments are seen, of one kind."""
     return [seen for seen in SEEN if kind in SIDED or seen not in OF_SIDES]
@@ -209,15 +181,6 @@ def long_rows(chains, kind, runs):
         found = statistics.median(seconds_of(words, 0 if seen in SOUND else 1) for _ in range(runs))
         yield (f"{chains:,} {LONG[kind]}{SEEN[seen]}", "a meet" if answer.startswith("map fault G1") else answer.split()[0],
                f"{found * 1e3:.1f}", f"{found * 1e6 / chains:.2f}", f"{peak:.1f}" if peak >= 0.1 else "-")
-
-
-def swept_rows(maps, runs):
-    """What a sweep says of maps and how long it takes."""
-    for chains, kind, name in maps:
-        words = [PARTS, "sweep", records_of(chains, kind)]
-        said = subprocess.run(words, capture_output=True, text=True, check=True).stdout.strip()
-        read, swept = (statistics.median(column) for column in zip(*(steps_of(words) for _ in range(runs))))
-        yield f"{chains:,} {name}", said, f"{read:.1f}", f"{swept:.1f}"
 
 
 def searched(segments):
@@ -301,29 +264,18 @@ def main():
     parts = [(kind, sizes) for kind, sizes in parts if kind in kinds]
     decided = [(chains, kind) for kind in ("county", "shuffled", "grid", "nested") for chains in numbers(words.decided)]
     decided = [(chains, kind) for chains, kind in decided if kind in kinds]
-    swept = [(chains, kind, NAMES[kind]) for chains, kind in decided]
-    swept += [(chains, f"{kind}-{seen}", f"{LONG[kind]}{SEEN[seen]}")
-              for kind in LONG if kind in kinds for chains in numbers(words.long) for seen in seen_of(kind)]
     print_table(
         ("Chains", "Lines", "MB", "Program", "ms", "times `wc -l`", "million lines a second", "peak MB"),
         (row for kind, sizes in parts for chains in numbers(sizes) for row in rows(chains, kind, words.runs)))
     print_table(
-        ("Chains", "`show`, ms", "`check`, ms", "times `show`", "records read, ms", "certificate read, ms", "tree checked, ms",
-         "conflicts searched, ms", "rounds and walks taken, ms", "all checked in memory, ms", "search, times `show`", "peak MB",
-         "bytes a chain"),
+        ("Chains", "`show`, ms", "`check`, ms", "times `show`", "peak MB", "bytes a chain"),
         (row for chains in numbers(words.counties) for row in check_rows(chains, words.runs)))
     print_table(
         ("Chains", "Command", "ms", "times `show`", "us a chain", "peak MB", "bytes a chain"),
         (row for chains, kind in decided for row in decided_rows(chains, kind, words.runs)))
     print_table(
-        ("Chains", "`show`, ms", "records read, ms", "proposed, ms", "tree checked, ms", "conflicts searched, ms",
-         "rounds and walks taken, ms", "points looked at, ms", "all checked in memory, ms", "certificate read, ms",
-         "search, times `show`", "rounds and walks, times `show`", "points, times `show`"),
-        (row for chains, kind in decided for row in part_rows(chains, kind, words.runs)))
-    print_table(
         ("Chains", "Answer", "`audit`, ms", "us a chain", "peak MB"),
         (row for kind in LONG if kind in kinds for chains in numbers(words.long) for row in long_rows(chains, kind, words.runs)))
-    print_table(("Chains", "Sweep", "records read, ms", "swept, ms"), swept_rows(swept, words.runs))
     print_table(
         ("Segments", "Tree", "rectangles made and sorted, ms", "tree packed, ms", "search, ms", "times", "tests a segment",
          "check, ns an item"),

@@ -1,7 +1,6 @@
 //! What was found, and how it is printed.
 
 use std::fmt;
-use tl_check::Report;
 
 /// What was found.
 #[derive(Clone, Copy)]
@@ -23,10 +22,6 @@ pub enum Answer {
         rounds: usize,
         walks: usize,
     },
-    /// The map is sound.
-    Sound(Report),
-    /// What a sweep says.
-    Swept(&'static str),
 }
 
 impl fmt::Display for Answer {
@@ -48,8 +43,6 @@ impl fmt::Display for Answer {
                 rounds,
                 walks,
             } => write!(f, "nodes={nodes} rounds={rounds} walks={walks}"),
-            Answer::Sound(report) => report.fmt(f),
-            Answer::Swept(word) => f.write_str(word),
         }
     }
 }

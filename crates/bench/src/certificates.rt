@@ -43,7 +43,7 @@ pub fn make(rt: &HostRuntime, chains: u32, name: &str) -> Result<Answer, Failure
 }
 
 /// Reads a certificate.
-pub fn certificate_of(rt: &HostRuntime, name: &str) -> Result<Certificate, Failure> {
+fn certificate_of(rt: &HostRuntime, name: &str) -> Result<Certificate, Failure> {
     let mut source = open(rt, name)?;
     let begun = now(rt);
     let read = read_cert(rt.alloc(), &mut source);

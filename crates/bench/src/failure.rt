@@ -13,14 +13,12 @@ pub enum Failure {
     File,
     /// A write failed.
     Written,
-    /// A line of the records is refused, a read failed, or the records have no map.
+    /// A line of the records is refused, or a read failed.
     Records,
     /// No certificate is read or made.
     Certificate,
     /// A tree doesn't fit its items, or two of them conflict.
     Tree,
-    /// The map isn't sound, or not by the certificate.
-    Unsound,
 }
 
 impl Failure {
@@ -28,16 +26,15 @@ impl Failure {
     pub fn text(self) -> &'static str {
         match self {
             Failure::Usage => {
-                "usage: bench records FILES.. | tree SEGMENTS | cert make CHAINS FILE | cert read|parts FILE | check RECORDS [CERT] | sweep RECORDS"
+                "usage: bench records FILES.. | tree SEGMENTS | cert make CHAINS FILE | cert read|parts FILE"
             }
             Failure::Words => "a word is no text, or memory was refused",
             Failure::Memory => "memory was refused",
             Failure::File => "a file isn't opened or made",
             Failure::Written => "a write failed",
-            Failure::Records => "no records are read, or they have no map",
+            Failure::Records => "no records are read",
             Failure::Certificate => "no certificate is read or made",
             Failure::Tree => "the tree doesn't fit, or two of its items conflict",
-            Failure::Unsound => "not told to be sound",
         }
     }
 }

@@ -8,28 +8,20 @@
 //! - `cert make CHAINS FILE` makes the certificate of a county of so many chains, ten lines a chain, and writes it into FILE;
 //!   `cert read FILE` reads the one that stands in FILE, and `cert parts FILE` its parts one after the other, each of which
 //!   is let go before the next is read. Each tells how many nodes, rounds and walks there are.
-//! - `check RECORDS [CERT]` reads the records and the certificate, or builds one of their map where none is given. It checks
-//!   the tree, searches for two chains that meet where they may not, takes the rounds and walks, and checks the whole. It
-//!   tells the report.
-//! - `sweep RECORDS` sweeps over the records' map, and tells whether it found polygons' points to be placed, chains to be
-//!   planar alone, two that meet, or nothing.
 #![tactic(auto)]
 
 mod answer;
 mod certificates;
-mod checks;
 mod county;
 mod failure;
 mod files;
 mod made;
 mod records;
-mod sides;
 mod steps;
 mod streets;
 mod trees;
 
 use crate::answer::Answer;
-use crate::checks::Work;
 use crate::failure::Failure;
 use std::env;
 use std::process::ExitCode;
@@ -55,12 +47,10 @@ fn number(word: &str) -> Result<u32, Failure> {
 
 /// Does what a command asks of one word.
 fn answer_of_one(rt: &HostRuntime, command: &str, word: &str) -> Result<Answer, Failure> {
-    match command {
-        "tree" => trees::search(rt, number(word)?),
-        "check" => checks::measure(rt, word, Work::Check(None)),
-        "sweep" => checks::measure(rt, word, Work::Sweep),
-        _ => Err(Failure::Usage),
+    if command != "tree" {
+        return Err(Failure::Usage);
     }
+    trees::search(rt, number(word)?)
 }
 
 /// Does what a command asks of two words.
@@ -70,13 +60,12 @@ fn answer_of_two(
     first: &str,
     second: &str,
 ) -> Result<Answer, Failure> {
-    match command {
-        "check" => checks::measure(rt, first, Work::Check(Some(second))),
-        "cert" => match first {
-            "read" => certificates::read(rt, second),
-            "parts" => certificates::count(rt, second),
-            _ => Err(Failure::Usage),
-        },
+    if command != "cert" {
+        return Err(Failure::Usage);
+    }
+    match first {
+        "read" => certificates::read(rt, second),
+        "parts" => certificates::count(rt, second),
         _ => Err(Failure::Usage),
     }
 }
