@@ -45,8 +45,7 @@ DISAGREE = "star-exchanged"
 # Words by which a command lists all faults.
 LISTS = {"--all", "--faults"}
 CHAINS = 300
-# Words of each command that decides a map; and where one is seen in a mirror or turned, or a sweep finds that chains meet, those of which the
-# others make the same sweep.
+# Words of each command that decides a map; and of those that stand for all where a map is seen in a mirror or turned, or its chains meet.
 COMMANDS = [["audit"], ["audit", "--faces"], ["audit", "--all"], ["audit", "--all", "--faces"], ["build"], ["build", "--faces"], ["check"],
             ["check", "--faces"], ["draw", "--faults"]]
 DECIDES = [["audit"], ["check"]]

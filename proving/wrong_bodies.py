@@ -16,7 +16,7 @@ from concurrent.futures import FIRST_COMPLETED, ThreadPoolExecutor, wait
 from pathlib import Path
 
 from gate import TOP, lanes
-from prove import proofs_of, prove_missing, ready, shares
+from prove import UNKNOWN_SHARE, proofs_of, prove_missing, ready, shares
 
 FLAGS = ["--jobs", "1"]
 # What a try costs of the crate's proof, as it is planned with: it begins with what was proved of the crate as it stands.
@@ -79,9 +79,11 @@ class Tries:
 def try_all(tries):
     """Tries all edits side by side, and gives how many aren't refused. Those of a crate that is begun come before the next crate."""
     failed, edits, running = 0, [], {}
-    with ThreadPoolExecutor(lanes()) as several:
+    # Asked once: what is at work later takes of the memory that this goes by.
+    width = lanes()
+    with ThreadPoolExecutor(width) as several:
         while tries or edits or running:
-            while (tries or edits) and len(running) < lanes():
+            while (tries or edits) and len(running) < width:
                 if edits:
                     it, edit = edits.pop()
                     running[several.submit(it.is_refused, edit)] = it, [edit]
@@ -108,7 +110,7 @@ def main():
     below = {it.name for name in names for it in proofs[name].crate.below()}
     prove_missing(rt, {name: proof for name, proof in proofs.items() if name in below})
     share = shares()
-    cost = lambda it: share.get(it.proof.crate.name, 60) * (1 + OF_PROOF * it.left)
+    cost = lambda it: share.get(it.proof.crate.name, UNKNOWN_SHARE) * (1 + OF_PROOF * it.left)
     tries = sorted((it for it in (Tries(rt, proofs[name]) for name in names) if it.edits), key=cost, reverse=True)
     failed = try_all(tries)
     print(f"{sum(len(edits_of(it)) for it in names) - failed} refused, {failed} not refused")
