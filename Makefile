@@ -1,4 +1,5 @@
 # make                     proves and builds the program
+# make try                 proves what decides a map, and a small program over it, and runs that over examples/county
 # make check               the merge gate: every proof, must-fail edit, test and stored run, from nothing
 # make wrong-bodies        tries the edits that the gate leaves out, those of crates that serve the proofs above them
 # make rows                plays the rows of tests/rows over the program, and over `bench`
@@ -32,10 +33,21 @@
 PREFIX = /usr/local
 PROGRAM = crates/tigertopo/out/tigertopo
 
-.PHONY: build check wrong-bodies rows certificates judge full-size limits memory devices examples counties bench ways speed geojson pictures pages real-maps promises install uninstall dist dist-check dist-anew
+.PHONY: build try check wrong-bodies rows certificates judge full-size limits memory devices examples counties bench ways speed geojson pictures pages real-maps promises install uninstall dist dist-check dist-anew
 
 build:
 	python3 proving/prove.py
+
+# All that proofs are made from.
+SOURCES = $(shell find crates.txt crates/*/src crates/*/specs crates/*/proofs -type f)
+
+try: crates/use_map/out/use_map
+	@$< < examples/county
+
+# A source that is newer but says the same builds nothing anew.
+crates/use_map/out/use_map: $(SOURCES)
+	@python3 proving/prove.py use_map
+	@touch $@
 
 check:
 	.ci/run

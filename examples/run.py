@@ -2,7 +2,7 @@
 """Runs the commands of the pages below as from the top of the repository, and compares what they print, each stream by
 itself: lines of refusals and stops, and of a file that isn't replaced, belong to standard error, all others to standard output, and of `audit --all`, which
 prints refusals as its answer, those of stops alone. Each page is played in a folder
-of its own, where the files that its commands make stay, with a `./tigertopo` that is the repository's and its `examples`."""
+of its own, where the files that its commands make stay, with a `./tigertopo` and a `make try` that are the repository's and its `examples`."""
 
 import re
 import subprocess
@@ -39,6 +39,7 @@ def play(page, folder):
     program = folder / "tigertopo"
     program.write_text(f"#!/bin/sh\nexec '{TOP}/tigertopo' \"$@\"\n")
     program.chmod(0o755)
+    (folder / "Makefile").write_text(f"try:\n\t@$(MAKE) --no-print-directory -C '{TOP}' try\n")
     status = count = failed = 0
     for command, wanted in steps((TOP / page).read_text()):
         # The shell keeps no status from one command to the next.

@@ -13,7 +13,6 @@ import folders  # noqa: F401, the modules below are found by it
 
 import certificates
 import cited
-import core
 import counties
 import devices
 import faced
@@ -52,7 +51,6 @@ def parts():
         ("counties that are joined", joined.play_all),
         ("certificates", certificates.play_all),
         ("rows", rows.play_all),
-        ("rows over the core", core.play_all),
         ("failed reads and writes", devices.play_all),
         ("examples", examples.play_all),
         ("many counties", counties.play_all),

@@ -31,4 +31,4 @@ def built(name):
     return TOP / "crates" / name / "out" / name
 
 
-PROGRAM, CORE, BENCH = map(built, ("tigertopo", "tigertopo_core", "bench"))
+PROGRAM, BENCH = map(built, ("tigertopo", "bench"))

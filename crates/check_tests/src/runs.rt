@@ -3,8 +3,8 @@
 use crate::keys::fixed_keys;
 use crate::maps::SQUARE;
 use std::alloc::{AllocError, Global};
-use tigertopo_command::plain::Plain;
 use tigertopo_memory_files::FilesInMemory;
+use tigertopo_program::Whole;
 use tigertopo_run::start::start;
 use tl_record::MeterOut;
 
@@ -76,7 +76,7 @@ fn comes_to(
     let mut printed = Vec::new(alloc);
     let mut told = Vec::new(alloc);
     let ended = start(
-        &Plain,
+        &Whole,
         files,
         alloc,
         hasher,

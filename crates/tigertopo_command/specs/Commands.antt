@@ -1,5 +1,5 @@
 -- What commands answer that make no list of faults, no export, no picture and no border.
-use Rattle.std.specs.Prelude.{ℕ, Bool, true, false, List, None, string_bytes, ⊤}
+use Rattle.std.specs.Prelude.{ℕ, Bool, true, false, List, None, string_bytes}
 use Rattle.tl_record.specs.declared.options.Options.{Options}
 use Rattle.tl_record.specs.Layout.{layout_with}
 use Rattle.tl_cert_output.specs.declared.stop.Stop.{Stop}
@@ -31,16 +31,7 @@ PlainStops (Check cert budget) options names w = StopsCheck options budget (text
 PlainStops (Convert cert made) options names w = StopsNever
 PlainStops other options names w = StopsRecords (layout_with options) (text_under w.before names)
 
--- one of these commands
-abbrev pub IsPlain : Asked → Type 0
-IsPlain (Audit One Lines None) = ⊤
-IsPlain (Audit told form made) = ⊥
-IsPlain (Export made layer) = ⊥
-IsPlain (Draw made view faults) = ⊥
-IsPlain (Border cenid made) = ⊥
-IsPlain other = ⊤
-
--- is it one of these
+-- whether it is one of these commands
 abbrev pub is_plain : Asked → Bool
 is_plain (Audit One Lines None) = true
 is_plain (Audit told form made) = false

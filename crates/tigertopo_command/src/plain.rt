@@ -1,14 +1,12 @@
 //! The commands that make no list of faults, no export, no picture and no border: `show`, `landmarks`, `locate`, `audit` for one line, `build`,
 //! `check` and `convert`.
 
-ghost use Rattle.std.specs.Prelude.{◌≡◌, map, string_bytes};
+ghost use Rattle.std.specs.Prelude.{◌≡◌, true, map, string_bytes};
 ghost use Rattle.tigertopo_words.specs.Asked.{made_of};
 ghost use Rattle.tigertopo_files.specs.World.{Does, MayMake, world};
 ghost use Rattle.tigertopo_outcome.specs.Answers.{IsSaid};
-ghost use Rattle.tl_cert_output.specs.Streams.{Tries, stream};
 ghost use Rattle.tigertopo_run.specs.Commands.{names_read, kind_of};
-ghost use Rattle.tigertopo_command.specs.Commands.{IsPlain, PlainAnswers, PlainStops, is_plain};
-ghost use Rattle.tigertopo_run.specs.Running.{not_here};
+ghost use Rattle.tigertopo_command.specs.Commands.{PlainAnswers, PlainStops, is_plain};
 
 use crate::decide::auditing::audit;
 use crate::decide::building::build;
@@ -19,55 +17,8 @@ use tigertopo_files::FileSystem;
 use tigertopo_outcome::convert::convert;
 use tigertopo_outcome::records::{landmarks, locate, show};
 use tigertopo_outcome::said::{Answer, Said};
-use tigertopo_outcome::stop::{USAGE, try_to_write};
-use tigertopo_run::run::{Outcome, Program, tell_answer};
 use tigertopo_words::{Asked, Command, Form, Told};
 use tl_cert_output::Stop;
-use tl_record::Sink;
-
-/// A program that has these commands alone.
-#[derive(Clone, Copy)]
-pub struct Plain;
-
-impl Program for Plain {
-    ghost answers = { λ command. PlainAnswers command.asked command.options (map string_bytes command.files.items) };
-
-    ghost stops = { λ command. PlainStops command.asked command.options (map string_bytes command.files.items) };
-
-    ghost lacks = { λ command. ¬ IsPlain command.asked };
-
-    fn perform<F: FileSystem, W: Sink, E: Sink>(
-        &self,
-        files: &mut F,
-        alloc: Global,
-        hasher: RandomState,
-        command: &Command,
-        out: &mut W,
-        err: &mut E,
-    ) -> Outcome {
-        if is_plain(&command.asked) {
-            let answer = answer(files, alloc, hasher, command);
-            tell_answer(alloc, answer, false, out, err)
-        } else {
-            say_not_here(err)
-        }
-    }
-}
-
-// Says that the program lacks what is asked for.
-fn say_not_here<E: Sink>(err: &mut E) -> Outcome
-    ensures told { Tries (stream E.contents E.failure_count err.old err.new) not_here }
-    ensures outcome { result ≡ record { status = 64; stop = None } }
-{
-    try_to_write(
-        b"error: the program that has this isn't built: run `make`\n",
-        err,
-    );
-    Outcome {
-        status: USAGE,
-        stop: None,
-    }
-}
 
 /// Whether the command is one of these.
 pub fn is_plain(asked: &Asked) -> bool
@@ -89,7 +40,7 @@ pub fn answer<F: FileSystem>(
     hasher: RandomState,
     command: &Command,
 ) -> Result<Answer<Said>, Stop>
-    requires plain { IsPlain command.now.asked }
+    requires plain { is_plain command.now.asked ≡ true }
     requires free { MayMake (F.under files.old) (made_of command.now.asked) (names_read command.now) (kind_of command.now.asked) }
     ensures { let w = world F.under F.log F.knows files.old files.new in
         let names = map string_bytes command.now.files.items in

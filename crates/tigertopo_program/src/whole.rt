@@ -24,8 +24,6 @@ impl Program for Whole {
 
     ghost stops = { λ command. AllStops command.asked command.options (map string_bytes command.files.items) };
 
-    ghost lacks = { λ command. ⊥ };
-
     fn perform<F: FileSystem, W: Sink, E: Sink>(
         &self,
         files: &mut F,

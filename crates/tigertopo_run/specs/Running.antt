@@ -1,5 +1,5 @@
 -- What becomes of a command: what is told, with which status, and what is done with files.
-use Rattle.std.specs.Prelude.{◌≡◌, ◌⊎◌, ℕ, ◌-◌, Bool, true, false, List, length, Option, Some, None, Result, Ok, Err, codes, option_map, slice_get, string_bytes}
+use Rattle.std.specs.Prelude.{◌≡◌, ◌⊎◌, ℕ, ◌-◌, Bool, true, false, List, length, Option, Some, None, Result, Ok, Err, option_map, slice_get, string_bytes}
 use Rattle.tl_cert_output.specs.declared.stop.Stop.{Stop}
 use Rattle.tl_cert_output.specs.Stops.{StopsFor}
 use Rattle.tl_cert_output.specs.Writing.{line_of}
@@ -28,15 +28,14 @@ pub record Streams : Type 1 where
 abbrev pub streams : Stream → Stream → Streams
 streams out err = record { out = out; err = err }
 
--- what a program promises of a command: what is answered, with which status; why nothing is, but for want of memory and for a device
--- that failed; and whether it lacks the command
+-- what a program promises of a command: what is answered, with which status; and why nothing is, but for want of memory and for a device
+-- that failed
 pub record Terms : Type 1 where
   pub answers : ℕ → List ℕ → Type 0
   pub stops : Stop → Type 0
-  pub lacks : Type 0
 
-abbrev pub terms : (ℕ → List ℕ → Type 0) → (Stop → Type 0) → Type 0 → Terms
-terms answers stops lacks = record { answers = answers; stops = stops; lacks = lacks }
+abbrev pub terms : (ℕ → List ℕ → Type 0) → (Stop → Type 0) → Terms
+terms answers stops = record { answers = answers; stops = stops }
 
 -- why there is no answer, where there is none
 abbrev pub stop_in : {T : Type 0} → Result T Stop → Option Stop
@@ -82,27 +81,10 @@ pub record Answered (t : Terms) (command : Command) (w : World) (s : Streams) (o
   pub told : IsTold s outcome result ⊎ (IsUnknown w.before command × IsToldAside s outcome result)
   pub free : MayMake w.before (made_of command.asked) (names_read command) (kind_of command.asked)
 
--- what is said of a command that a program doesn't have
-abbrev pub not_here : List ℕ
-not_here = line_of (codes "error: the program that has this isn't built: run `make`")
-
 -- nothing was done with files
 pub record Untouched (w : World) : Type 0 where
   pub stays : w.after ≡ w.before
   pub logged : w.knows ≡ true → w.logged ≡ w.log
-
--- the program doesn't have the command, and that was told
-pub record Lacks (t : Terms) (w : World) (s : Streams) (outcome : Outcome) : Type 0 where
-  pub so : t.lacks
-  pub is : outcome.status ≡ 64
-  pub told : Tries s.err not_here
-  pub same : s.out.same
-  pub none : outcome.stop ≡ None
-  pub untouched : Untouched w
-
--- what is done of a command whose file may be made
-abbrev pub Performs : Terms → Command → World → Streams → Outcome → Type 0
-Performs t command w s outcome = Answered t command w s outcome ⊎ Lacks t w s outcome
 
 -- the answer to whether the file that a command makes may be made
 abbrev pub IsRoomWith : Under → (made : Option (List ℕ)) → (read : List (List ℕ)) → FileKind → Room → Type 0
@@ -144,9 +126,9 @@ watch_with progress last log = log
 abbrev pub watched : Command → Log → Log
 watched command log = watch_with command.progress (last_of command) log
 
--- what becomes of a command: the file that is made may not be made, or it isn't known whether it may, or the command was performed
+-- what becomes of a command: the file that is made may not be made, or it isn't known whether it may, or the command was answered
 abbrev pub RunsWatched : Terms → Command → World → Streams → Outcome → Type 0
-RunsWatched t command w s outcome = Refused command w s outcome ⊎ (Unbegun command w s outcome ⊎ Performs t command w s outcome)
+RunsWatched t command w s outcome = Refused command w s outcome ⊎ (Unbegun command w s outcome ⊎ Answered t command w s outcome)
 
 -- behind this how far reading is is shown where that is asked for, and nothing else was done
 pub record Watches (command : Command) (w mid : World) : Type 0 where

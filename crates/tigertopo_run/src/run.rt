@@ -10,7 +10,7 @@ ghost use Rattle.tl_cert_output.specs.Writing.{line_of};
 ghost use Rattle.tigertopo_outcome.specs.Outcomes.{stop_status};
 ghost use Rattle.tl_cert_output.specs.Streams.{Tries, stream};
 ghost use Rattle.tigertopo_run.specs.Commands.{names_read, kind_of};
-ghost use Rattle.tigertopo_run.specs.Running.{IsUnknown, Performs, Runs, TellsAside, TellsOn, stop_in, streams, terms, last_of, watched};
+ghost use Rattle.tigertopo_run.specs.Running.{Answered, IsUnknown, Runs, TellsAside, TellsOn, stop_in, streams, terms, last_of, watched};
 
 use crate::room::{kind_of, room_of};
 use std::alloc::{AllocError, Global};
@@ -39,9 +39,6 @@ pub trait Program {
     // Why nothing is, but for want of memory and for a device that failed.
     ghost stops: { Command → World → Stop → Type 0 };
 
-    // Which commands it doesn't have.
-    ghost lacks: { Command → Type 0 };
-
     /// Does what a command asks, whose file may be made, and tells what came of it.
     fn perform<F: FileSystem, W: Sink, E: Sink>(
         &self,
@@ -55,7 +52,7 @@ pub trait Program {
         requires { MayMake (F.under files.old) (made_of command.now.asked) (names_read command.now) (kind_of command.now.asked) }
         ensures { let w = world F.under F.log F.knows files.old files.new in
             let s = streams (stream W.contents W.failure_count out.old out.new) (stream E.contents E.failure_count err.old err.new) in
-            Performs (terms (answers command.now w) (stops command.now w) (lacks command.now)) command.now w s result };
+            Answered (terms (answers command.now w) (stops command.now w)) command.now w s result };
 }
 
 /// Does what a command asks: nothing is done where the file that it makes may not be made. All files are opened before the first is read,
@@ -71,7 +68,7 @@ pub fn run<P: Program, F: FileSystem, W: Sink, E: Sink>(
 ) -> Outcome
     ensures { let w = world F.under F.log F.knows files.old files.new in
         let s = streams (stream W.contents W.failure_count out.old out.new) (stream E.contents E.failure_count err.old err.new) in
-        Runs (λ v. terms (P.answers command.now v) (P.stops command.now v) (P.lacks command.now)) command.now w s result }
+        Runs (λ v. terms (P.answers command.now v) (P.stops command.now v)) command.now w s result }
 {
     if watch(files, alloc, command).is_err() {
         return stop_by(Stop::Memory, err);

@@ -34,7 +34,7 @@ pub fn answer<P: Program, F: FileSystem, W: Sink, E: Sink>(
     requires { IfErr words IsUnread }
     // Files and the error output are, behind what is answered and before what helps, as `done` and `told` say.
     ensures { (done : F) × (told : E)
-        × AnswersWords words (λ command v. terms (P.answers command v) (P.stops command v) (P.lacks command))
+        × AnswersWords words (λ command v. terms (P.answers command v) (P.stops command v))
         (world F.under F.log F.knows files.old done)
         (streams (stream W.contents W.failure_count out.old out.new) (stream E.contents E.failure_count err.old told))
         (behind (world F.under F.log F.knows done files.new) (stream E.contents E.failure_count told err.new)) result }
@@ -60,7 +60,7 @@ pub fn start<P: Program, F: FileSystem, W: Sink, E: Sink>(
     err: &mut E,
 ) -> u8
     ensures { (done : F) × (told : E)
-        × Starts (map string_bytes words.now) (λ command v. terms (P.answers command v) (P.stops command v) (P.lacks command))
+        × Starts (map string_bytes words.now) (λ command v. terms (P.answers command v) (P.stops command v))
         (world F.under F.log F.knows files.old done)
         (streams (stream W.contents W.failure_count out.old out.new) (stream E.contents E.failure_count err.old told))
         (behind (world F.under F.log F.knows done files.new) (stream E.contents E.failure_count told err.new)) result }
@@ -82,7 +82,7 @@ fn run_and_hint<P: Program, F: FileSystem, W: Sink, E: Sink>(
     err: &mut E,
 ) -> u8
     ensures { (done : F) × (told : E)
-        × RunsAndHints (λ v. terms (P.answers command.now v) (P.stops command.now v) (P.lacks command.now)) command.now
+        × RunsAndHints (λ v. terms (P.answers command.now v) (P.stops command.now v)) command.now
         (world F.under F.log F.knows files.old done)
         (streams (stream W.contents W.failure_count out.old out.new) (stream E.contents E.failure_count err.old told))
         (behind (world F.under F.log F.knows done files.new) (stream E.contents E.failure_count told err.new)) result }

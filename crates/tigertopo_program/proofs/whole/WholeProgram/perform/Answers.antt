@@ -28,11 +28,11 @@ returns-then-is_plain g c =
     let w = world g.F.FileSystem.under g.F.FileSystem.log g.F.FileSystem.knows c.args.files.now c.answer-answer.new.files in
     let s = streams (stream g.W.Sink.contents g.W.Sink.failure_count c.args.out.now c.tell_answer.new.out) (stream g.E.Sink.contents g.E.Sink.failure_count c.args.err.now c.tell_answer.new.err) in
     let plain = sym c.is_plain.ensures ∙ c.if-is_plain.true in
-    inl (answered (terms (AllAnswers command.asked options names w) (AllStops command.asked options names w) ⊥) command w s c.tell_answer.result
+    answered (terms (AllAnswers command.asked options names w) (AllStops command.asked options names w)) command w s c.tell_answer.result
     (IsSaid (PlainAnswers command.asked options names w)) said_text c.answer-answer.result
     (does_so w (names_read command) (made_of command.asked) (IsSaid (PlainAnswers command.asked options names w)) (IsSaid (PlainAnswers command.asked options names w)) (PlainStops command.asked options names w)
     (AllStops command.asked options names w) (λ a so. so) (λ stop. plain_stops command.asked options names w stop plain) c.answer-answer.result c.answer-answer.ensures)
-    (λ a so. plain_answers command.asked options names w a.status (said_text a.text) plain so.0) false (λ e. absurd (cc e)) c.tell_answer.ensures.told c.tell_answer.ensures.stop c.requires)
+    (λ a so. plain_answers command.asked options names w a.status (said_text a.text) plain so.0) false (λ e. absurd (cc e)) c.tell_answer.ensures.told c.tell_answer.ensures.stop c.requires
 
 pub returns-in-Audit : goal.returns-in-Audit
 returns-in-Audit g c =
@@ -47,14 +47,14 @@ returns-in-Audit g c =
     let more : is_plain (Audit told form made) ≡ false = ap is_plain (sym c.in-Audit.is) ∙ (sym c.is_plain.ensures ∙ c.if-is_plain.false) in
     let asked : Asked = record { names = names; told = told; form = form; made = option_map string_bytes made } in
     let known = text_under w.before names in
-    inl (answered (terms (AllAnswers command.asked options names w) (AllStops command.asked options names w) ⊥) command w s c.tell_answer-in-Audit.result
+    answered (terms (AllAnswers command.asked options names w) (AllStops command.asked options names w)) command w s c.tell_answer-in-Audit.result
     (λ answer. ListAnswers w options known asked answer.status (listed_text answer.text)) listed_text c.list-answer.result
     (subst (λ a. Does w (names_with a names) (made_of a) (λ answer. ListAnswers w options known asked answer.status (listed_text answer.text))
     (AllStops a options names w) c.list-answer.result) (sym c.in-Audit.is)
     (does_so w names (option_map string_bytes made) (λ answer. ListAnswers w options known asked answer.status (listed_text answer.text)) (λ answer. ListAnswers w options known asked answer.status (listed_text answer.text))
     (StopsList w options known asked) (AllStops (Audit told form made) options names w) (λ t so. so) (λ stop. list_stops told form made options names w stop more) c.list-answer.result (rw c.as_slice-names.ensures.value at c.list-answer.ensures)))
     (λ a so. subst (λ q. AllAnswers q options names w a.status (listed_text a.text)) (sym c.in-Audit.is) (list_answers told form made options names w a.status (listed_text a.text) more so))
-    c.is_aside-aside.result c.is_aside-aside.ensures c.tell_answer-in-Audit.ensures.told c.tell_answer-in-Audit.ensures.stop c.requires)
+    c.is_aside-aside.result c.is_aside-aside.ensures c.tell_answer-in-Audit.ensures.told c.tell_answer-in-Audit.ensures.stop c.requires
 
 pub returns-in-Export : goal.returns-in-Export
 returns-in-Export g c =
@@ -65,12 +65,12 @@ returns-in-Export g c =
     let s = streams (stream g.W.Sink.contents g.W.Sink.failure_count c.args.out.now c.tell_answer-in-Export.new.out) (stream g.E.Sink.contents g.E.Sink.failure_count c.args.err.now c.tell_answer-in-Export.new.err) in
     let known = text_under w.before names in
     let answers = ExportAnswers w (layout_with options) known (asked_of names (string_bytes c.in-Export.made) c.in-Export.layer) in
-    inl (answered (terms (AllAnswers command.asked options names w) (AllStops command.asked options names w) ⊥) command w s c.tell_answer-in-Export.result
+    answered (terms (AllAnswers command.asked options names w) (AllStops command.asked options names w)) command w s c.tell_answer-in-Export.result
     (IsSaid answers) said_text c.export-answer.result
     (subst (λ a. Does w (names_with a names) (made_of a) (IsSaid answers) (AllStops a options names w) c.export-answer.result) (sym c.in-Export.is)
     (rw c.as_slice-names.ensures.value at c.export-answer.ensures))
     (λ a so. subst (λ q. AllAnswers q options names w a.status (said_text a.text)) (sym c.in-Export.is) so.0)
-    c.is_aside-aside.result c.is_aside-aside.ensures c.tell_answer-in-Export.ensures.told c.tell_answer-in-Export.ensures.stop c.requires)
+    c.is_aside-aside.result c.is_aside-aside.ensures c.tell_answer-in-Export.ensures.told c.tell_answer-in-Export.ensures.stop c.requires
 
 pub returns-in-Draw : goal.returns-in-Draw
 returns-in-Draw g c =
@@ -82,12 +82,12 @@ returns-in-Draw g c =
     let known = text_under w.before names in
     let wanted : Wanted = record { name = string_bytes c.in-Draw.made; view = c.in-Draw.view; shows = c.in-Draw.faults } in
     let answers = DrawAnswers w options known wanted in
-    inl (answered (terms (AllAnswers command.asked options names w) (AllStops command.asked options names w) ⊥) command w s c.tell_answer-in-Draw.result
+    answered (terms (AllAnswers command.asked options names w) (AllStops command.asked options names w)) command w s c.tell_answer-in-Draw.result
     (IsSaid answers) said_text c.draw-answer.result
     (subst (λ a. Does w (names_with a names) (made_of a) (IsSaid answers) (AllStops a options names w) c.draw-answer.result) (sym c.in-Draw.is)
     (rw c.as_slice-names.ensures.value at c.draw-answer.ensures))
     (λ a so. subst (λ q. AllAnswers q options names w a.status (said_text a.text)) (sym c.in-Draw.is) so.0)
-    c.is_aside-aside.result c.is_aside-aside.ensures c.tell_answer-in-Draw.ensures.told c.tell_answer-in-Draw.ensures.stop c.requires)
+    c.is_aside-aside.result c.is_aside-aside.ensures c.tell_answer-in-Draw.ensures.told c.tell_answer-in-Draw.ensures.stop c.requires
 
 pub returns-in-Border : goal.returns-in-Border
 returns-in-Border g c =
@@ -99,9 +99,9 @@ returns-in-Border g c =
     let known = text_under w.before names in
     let wanted : borders.Wanted = record { name = string_bytes c.in-Border.made; cenid = c.in-Border.name } in
     let answers = BorderAnswers w options known wanted in
-    inl (answered (terms (AllAnswers command.asked options names w) (AllStops command.asked options names w) ⊥) command w s c.tell_answer-in-Border.result
+    answered (terms (AllAnswers command.asked options names w) (AllStops command.asked options names w)) command w s c.tell_answer-in-Border.result
     (IsSaid answers) said_text c.border-answer.result
     (subst (λ a. Does w (names_with a names) (made_of a) (IsSaid answers) (AllStops a options names w) c.border-answer.result) (sym c.in-Border.is)
     (rw c.as_slice-names.ensures.value at c.border-answer.ensures))
     (λ a so. subst (λ q. AllAnswers q options names w a.status (said_text a.text)) (sym c.in-Border.is) so.0)
-    c.is_aside-aside.result c.is_aside-aside.ensures c.tell_answer-in-Border.ensures.told c.tell_answer-in-Border.ensures.stop c.requires)
+    c.is_aside-aside.result c.is_aside-aside.ensures c.tell_answer-in-Border.ensures.told c.tell_answer-in-Border.ensures.stop c.requires
