@@ -68,14 +68,15 @@ pub fn what_is_read_as_one_is_drawn_together()
 
 /// So a nation is decided by the texts of its counties one by one, and then by the texts of their borders alone: the map that all counties
 /// draw together, be they more than can be read as one, is sound and its faces are true exactly where this holds of the map of each county,
-/// and of the map that the texts of their borders draw.
+/// and of the map that the texts of their borders draw. It is said of counties in an order in which those without a polygon come last.
 pub fn counties_and_their_borders_are_enough()
     ensures { (options : Options) (texts names : List (List ℕ)) (parts : List TheMap) (drawn border : TheMap) →
         IsDrawnInParts options texts names parts drawn border → IsSoundWithFaces drawn ↔ (AreSoundWithFaces parts × IsSoundWithFaces border) }
 {}
 
 /// In steps, then: the map that all counties draw together is sound and its faces are true exactly where this holds of the map of each
-/// county, of the map of each state, which is read of its counties' borders as one, and of the map that the states' borders draw.
+/// county, of the map of each state, which is read of its counties' borders as one, and of the map that the states' borders draw. It is
+/// said of counties, and of states, in an order in which those without a polygon come last.
 pub fn counties_and_states_are_enough()
     ensures { (options : Options) (texts names state_names : List (List ℕ)) (groups : List (List (List ℕ))) (parts states : List TheMap)
         (drawn border nation : TheMap) →

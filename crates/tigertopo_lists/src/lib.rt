@@ -7,7 +7,7 @@
 //!
 //! Where one fault is asked for as a line, a refused line is a stop. Else all refused lines are answered, or
 //! so many from the front, with where they stand if that is asked for (`tigertopo_where::hint`), and the file is made of them. Where they
-//! are skipped, the files are read again without them, and the faults of what is left stand behind them. Beside a file that failed, a
+//! are skipped, what is left without them is listed in the same reading, and its faults stand behind them. Beside a file that failed, a
 //! device is said to have failed only where files are read again, and one of them may not be read.
 #![tactic(auto)]
 

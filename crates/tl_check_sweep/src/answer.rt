@@ -33,7 +33,7 @@ use tl_map_county::Map;
 pub enum Swept {
     /// The map's chains are planar, and the point of each polygon lies where it has to.
     Placed,
-    /// The map's chains are planar. Nothing is said of the points of its polygons.
+    /// The map's chains are planar. The points of some of its polygons may be misplaced: [`SweepReport::suspects`] has these.
     Planar,
     /// Two segments meet where they may not.
     Meet(Meet),

@@ -43,8 +43,8 @@ pub fn a_valid_text_has_no_fault()
 {}
 
 /// So where a certificate is valid for the map, [`crate::check_map`] decides: if it isn't stopped, it answers `Sound` exactly
-/// where the map keeps what is asked of it. It is said of each answer that keeps its clauses `planar` to `faces`, `map_fault` and
-/// `cert_fault`.
+/// where the map keeps what is asked of it. It is said of each answer that is `Sound` only of a map with each part of what its clause
+/// `sound` says, and keeps its clauses `map_fault` and `cert_fault`.
 pub fn a_valid_certificate_decides()
     ensures { (faces : Bool) (m : TheMap) (c : TheCertificate) (answer : Answer) → IsValid m c → OnSound answer (IsPlanar m.chains) →
         OnSound answer (SidesAgree m.chains) → OnSound answer (AreClosed m) → OnSound answer (ArePlaced m) →

@@ -34,9 +34,9 @@ pub struct Findings {
 }
 
 /// Lists all that is wrong with a county, from the text of its record files, with the columns that the options choose of
-/// type I, or says that its map is sound. Where they ask for faces, those that disagree are listed of a map with which nothing else is
-/// wrong: each two segments that face one another along a line of one height and name different sides, and each that faces the outside
-/// and names a polygon.
+/// type I, or says that its map is sound. Where they ask for faces, those that disagree are listed of a map in which no segments meet and
+/// whose sides agree about nodes: each two segments that face one another along a line of one height and name different sides, and each
+/// that faces the outside and names a polygon.
 ///
 /// The records are read once. Each of two segments that meet stands in the list with one point at which they do.
 pub fn list_faults<R: Source>(
