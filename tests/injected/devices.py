@@ -11,12 +11,13 @@ whole certificate; with one that takes a single byte it has to answer as ever. I
 glibc, whose calls it stands before.
 
 Behind these, over the small maps alone: each file that can't be opened or read, each certificate that can't be made or
-written, and outputs that are full or that nobody reads. And records that come through a pipe, which can't be read a second
+written, and outputs that are full or that nobody reads. More files than a process may open. And records that come through a pipe, which can't be read a second
 time for the lines that faults speak of.
 """
 
 import os
 import re
+import resource
 import subprocess
 import sys
 import tempfile
@@ -31,6 +32,8 @@ import placed
 from memory import answer_over_a_file, library_of, standing
 from small_maps import MADE, write_all
 
+# How many files may be open at a time.
+OPEN = 16
 # What is asked beside what is asked of the small maps.
 RUNS = [
     ["show", EXAMPLES / "square.RT1", EXAMPLES / "square.RT2"],
@@ -222,6 +225,19 @@ def play_streams(count, program, folder, runs):
     os.close(closed)
 
 
+def play_many(count, program, folder):
+    """Gives more files than may be open at a time. It is said which one couldn't be opened, and what to type."""
+    names = [f"{number}" for number in range(2 * OPEN)]
+    for name in names:
+        Path(folder, name).write_bytes((EXAMPLES / "square.RT1").read_bytes())
+    limit = {"preexec_fn": lambda: resource.setrlimit(resource.RLIMIT_NOFILE, (OPEN, OPEN))}
+    for words in (["audit"], ["audit", "--join"], ["build", "--out", MADE]):
+        done = subprocess.run([program, *words, *names], cwd=folder, capture_output=True, **limit)
+        told = re.fullmatch(rb"stopped Device\n  (\d+): Too many open files, which `ulimit -n 4096` may mend\n", done.stderr)
+        is_well = (done.returncode, done.stdout) == (4, b"") and told and int(told[1]) < OPEN
+        count.count(is_well, f"{' '.join(words)} with {len(names)} files: {done}")
+
+
 def play_pipes(count, program, folder):
     """Gives records through a pipe, by itself and behind a file. They are told as those of a file are, and so are the lines behind a
     refused one."""
@@ -273,6 +289,7 @@ def play_all(program=PROGRAM):
         play_calls(count, lambda words, which, kind: answer_over_a_file([program, *words], library, which, kind, folder), RUNS + small)
         play_names(count, program, folder, small)
         play_streams(count, program, folder, small)
+        play_many(count, program, folder)
         play_pipes(count, program, folder)
         play_pipes_behind(count, program, folder)
     return count.passed, count.failed

@@ -92,6 +92,13 @@ ssize_t write(int file, const void *bytes, size_t count) {
 """
 
 
+# Names under which no file can be made, with what the system says: of some only what would be written beside them can't.
+UNMADE = (
+    *(("none/made", errno.ENOENT), (".", errno.EISDIR), ("/proc/made", errno.ENOENT), ("/dev/full", errno.ENOSPC)),
+    *(("records/made", errno.ENOTDIR), ("loop", errno.ELOOP), ("n" * 250, errno.ENAMETOOLONG), ("n" * 300, errno.ENAMETOOLONG)),
+)
+
+
 class Play:
     def __init__(self, program, folder):
         self.program, self.folder = program, Path(folder)
@@ -99,6 +106,7 @@ class Play:
         (self.folder / "records").write_bytes(COUNTY.read_bytes())
         (self.folder / "cert").write_bytes((EXAMPLES / "county.CERT").read_bytes())
         (self.folder / "town").write_bytes(TOWN.read_bytes())
+        (self.folder / "loop").symlink_to("loop")
         self.made = self.folder / "made"
         self.beside = self.folder / "made.unfinished"
         self.done, self.whole = {}, {}
@@ -268,7 +276,7 @@ class Play:
             answer = self.ask(dict(self.commands("/dev/null"))[name])
             wanted = self.done[name] if is_behind else (status, b"", printed + told)
             self.count(answer == wanted, f"{name} to nowhere: {answer}")
-            for out, error in (("none/made", errno.ENOENT), (".", errno.EISDIR), ("/proc/made", errno.ENOENT), ("/dev/full", errno.ENOSPC)):
+            for out, error in UNMADE:
                 ran = self.run(dict(self.commands(out))[name])
                 why = f"stopped Device\n  {out}: {os.strerror(error)}\n".encode()
                 self.count((ran.returncode, ran.stdout, ran.stderr) == (4, b"", why), f"{name} to {out}: {ran}")

@@ -13,6 +13,7 @@ import shutil
 import subprocess
 import sys
 import tempfile
+import time
 from pathlib import Path
 
 sys.path.append(str(Path(__file__).resolve().parents[1]))
@@ -23,6 +24,9 @@ import skipped
 PAGE = TOP / "docs" / "many-counties.md"
 # The page tells first of counties, and then of states.
 STATES = "## A state, and a nation\n"
+# What is changed in a county: it tells a chain of its state's border by another TLID; one of its chains ends elsewhere.
+AT_ODDS = "        13", "        23"
+BAD = "+000000030+00000050+000000010", "+000000030+00000055+000000010"
 
 
 def blocks_of(text):
@@ -70,9 +74,36 @@ def play_nation(program):
     return passed, failed
 
 
+def play_mended(program):
+    """Makes the nation of the examples with two states at odds, twice; mended; with a bad county, twice; and mended again. How often `told`
+    stands there, and the status is 0, where all fits and nowhere else, and how often not. What doesn't fit is named each time."""
+    passed = failed = 0
+    with tempfile.TemporaryDirectory() as folder:
+        nation = Path(folder) / "nation"
+        shutil.copytree(TOP / "examples" / "nation", nation, ignore=shutil.ignore_patterns("*.border", "told"))
+        (nation / "tigertopo").symlink_to(program)
+        county = nation / "west" / "north.RT"
+        text = county.read_text()
+        for spoilt in (None, AT_ODDS, AT_ODDS, None, BAD, BAD, None):
+            wanted = text.replace(*spoilt) if spoilt else text
+            if county.read_text() != wanted:
+                # `make` goes by the files' times.
+                time.sleep(0.02)
+                county.write_text(wanted)
+            done = run("make -s PROGRAM=tigertopo", nation)
+            told = nation / "told"
+            is_fit = done.returncode == 0 and told.exists() and told.read_text().startswith("sound ")
+            is_unfit = done.returncode != 0 and not told.exists() and "map fault " in done.stdout
+            is_well = is_unfit if spoilt else is_fit
+            passed, failed = passed + is_well, failed + (not is_well)
+            if not is_well:
+                print(f"a nation with {spoilt}: {done}")
+    return passed, failed
+
+
 def play_all(program=PROGRAM):
     """How many ways give what the page prints, and how many don't."""
-    counts = [play_counties(program), play_nation(program)]
+    counts = [play_counties(program), play_nation(program), play_mended(program)]
     return sum(well for well, _ in counts), sum(ill for _, ill in counts)
 
 

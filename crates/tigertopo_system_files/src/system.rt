@@ -25,6 +25,9 @@ use tigertopo_files::{FileKind, FileSystem, Opener, Reading, Room, read_each, re
 use tl_cert_output::Stop;
 use tl_record::{Meter, Source};
 
+// What the system answers where a process has as many files open as it may have (EMFILE).
+const TOO_MANY_OPEN: i32 = 24;
+
 /// The files of the system. What stands under its names no contract knows.
 #[derive(Drop)]
 pub struct SystemFiles<'a, R> {
@@ -33,8 +36,10 @@ pub struct SystemFiles<'a, R> {
     is_seen: bool,
     // The name of the file that is read last, where it is to be shown how far reading is.
     last: Option<String>,
-    // What the system answered where the last new file wasn't made.
-    obstacle: Option<io::Error>,
+    // What the system answered where the last new file wasn't made, or it couldn't be seen whether its name is free.
+    obstacle: RefCell<Option<io::Error>>,
+    // Which file couldn't be opened last, and what the system answered: with other files open, which aren't when it is asked why.
+    unopened: RefCell<Option<(String, io::Error)>>,
     // Whether what is read of files that can be read but once is kept.
     keeps: bool,
     // What was kept of them, by their names.
@@ -48,7 +53,8 @@ impl<'a, R: Files<File = File> + Clock + Eprint> SystemFiles<'a, R> {
             rt,
             is_seen,
             last: None,
-            obstacle: None,
+            obstacle: RefCell::new(None),
+            unopened: RefCell::new(None),
             keeps: false,
             kept: RefCell::new(Vec::new(alloc)),
         }
@@ -128,12 +134,46 @@ impl<'a, R: Files<File = File> + Clock + Eprint> SystemFiles<'a, R> {
     }
 
     // What is told where the system answers an error of a new file.
-    fn stopped_by(&mut self, error: io::Error) -> Stop
+    fn stopped_by(&self, error: io::Error) -> Stop
         ensures { StopsFor ⊤ result }
     {
         let stop = stop_of(&error);
-        self.obstacle = Some(error);
+        self.set_obstacle(Some(error));
         stop
+    }
+
+    // Keeps what the system answered of a new file.
+    fn set_obstacle(&self, error: Option<io::Error>) {
+        if let Ok(mut obstacle) = self.obstacle.try_borrow_mut() {
+            *obstacle = error;
+        }
+    }
+
+    // What is told where the system doesn't open the file of a name.
+    fn unopened_by(&self, alloc: Global, name: &str, error: io::Error) -> Stop
+        ensures { StopsFor ⊤ result }
+    {
+        let stop = stop_of(&error);
+        let Ok(name) = String::from_str(alloc, name) else {
+            return stop;
+        };
+        if let Ok(mut unopened) = self.unopened.try_borrow_mut() {
+            *unopened = Some((name, error));
+        }
+        stop
+    }
+
+    // Why the file of a name couldn't be opened, if it is the last one that couldn't be.
+    fn words_of_unopened(&self, alloc: Global, name: &str) -> Result<Option<String>, AllocError> {
+        let Ok(unopened) = self.unopened.try_borrow() else {
+            return Ok(None);
+        };
+        match &*unopened {
+            Some((other, error)) if other.as_str() == name => Ok(Some(words_to_open(
+                alloc, error,
+            )?)),
+            _ => Ok(None),
+        }
     }
 
     // Reads the file of a name to its end. A pipe isn't opened: it may have no end.
@@ -144,6 +184,15 @@ impl<'a, R: Files<File = File> + Clock + Eprint> SystemFiles<'a, R> {
         }
         Ok(())
     }
+}
+
+// Why a file can't be opened, in the system's words, and what to type where too many are open.
+fn words_to_open(alloc: Global, error: &io::Error) -> Result<String, AllocError> {
+    let mut words = words_of(alloc, error)?;
+    if error.raw_os_error() == Some(TOO_MANY_OPEN) {
+        words.push_str(", which `ulimit -n 4096` may mend")?;
+    }
+    Ok(words)
 }
 
 // Whether a file can be read again from its beginning.
@@ -177,7 +226,10 @@ impl<'a, R: Files<File = File> + Clock + Eprint> Opener for SystemFiles<'a, R> {
         alloc: Global,
         name: &str,
     ) -> Result<Meter<ShownReader<'a, SystemReader, R>>, Stop> {
-        or_stop(self.opened(alloc, name))
+        match self.opened(alloc, name) {
+            Ok(file) => Ok(file),
+            Err(error) => Err(self.unopened_by(alloc, name, error)),
+        }
     }
 
     fn lasts(&self, name: &str) -> Result<bool, Stop> {
@@ -226,6 +278,9 @@ impl<'a, R: Files<File = File> + Clock + Eprint> FileSystem for SystemFiles<'a, 
     }
 
     fn trouble(&self, alloc: Global, name: &str) -> Result<Option<String>, AllocError> {
+        if let Some(words) = self.words_of_unopened(alloc, name)? {
+            return Ok(Some(words));
+        }
         match self.read_all(name) {
             Ok(()) => Ok(None),
             Err(error) => Ok(Some(words_of(alloc, &error)?)),
@@ -240,7 +295,10 @@ impl<'a, R: Files<File = File> + Clock + Eprint> FileSystem for SystemFiles<'a, 
     }
 
     fn obstacle(&self, alloc: Global) -> Result<Option<String>, AllocError> {
-        match &self.obstacle {
+        let Ok(obstacle) = self.obstacle.try_borrow() else {
+            return Ok(None);
+        };
+        match &*obstacle {
             Some(error) => Ok(Some(words_of(alloc, error)?)),
             None => Ok(None),
         }
@@ -263,7 +321,10 @@ impl<'a, R: Files<File = File> + Clock + Eprint> FileSystem for SystemFiles<'a, 
         read: &[String],
         kind: FileKind,
     ) -> Result<Room, Stop> {
-        or_stop(room_of(&Names { rt: self.rt }, alloc, name, read, kind))
+        match room_of(&Names { rt: self.rt }, alloc, name, read, kind) {
+            Ok(room) => Ok(room),
+            Err(error) => Err(self.stopped_by(error)),
+        }
     }
 
     fn draft(
@@ -292,6 +353,6 @@ impl<'a, R: Files<File = File> + Clock + Eprint> FileSystem for SystemFiles<'a, 
     }
 
     fn discard(&mut self, file: NewFile<SystemPlace<'a, R>, File>) {
-        self.obstacle = file.discard();
+        self.set_obstacle(file.discard());
     }
 }
