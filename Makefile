@@ -1,5 +1,5 @@
 # make                     proves and builds the program
-# make try                 proves what decides a map, and a small program over it, and runs that over examples/county
+# make try                 runs the program over examples/county, `show` and `audit`: without any proof, where it isn't proved yet
 # make check               the merge gate: every proof, must-fail edit, test and stored run, from nothing
 # make wrong-bodies        tries the edits that the gate leaves out, those of crates that serve the proofs above them
 # make rows                plays the rows of tests/rows over the program, and over `bench`
@@ -19,11 +19,11 @@
 # make speed               prints the tables of docs/speed.md, which has the rows of 100,000 and of 1,000,000 chains among these
 # make geojson             reads what `export` and `audit --geojson` make by GDAL
 # make pictures            reads what `draw` makes, and shows it by a browser where one is there
-# make pages               looks at the manual page and the completions, which are made of the program's help, and at what
-#                          `--progress` shows, and mends a broken county as docs/faults.md says
+# make pages               looks at the manual page and the completions, which are made of the program's help, at what
+#                          `--progress` shows, and at the program without its proof, and mends a broken county as docs/faults.md says
 # make real-maps           fetches Debian's r-cran-maps, audits its maps, and prints the table of docs/real-maps.md, with what GEOS
 #                          says of the same lines where python3-shapely is there
-# make promises            makes docs/promises.md anew behind its first page, from the contracts and their comments
+# make promises            makes out/promises.md, a page of each public call with its clauses and edits
 # make install PREFIX=..   installs the program as PREFIX/bin/tigertopo, its manual page and its completions
 # make uninstall PREFIX=.. takes these away
 # make dist                makes in dist/ an archive and a Debian package of the program with its documents, and their sums
@@ -38,19 +38,13 @@ PROGRAM = crates/tigertopo/out/tigertopo
 build:
 	python3 proving/prove.py
 
-# All that proofs are made from.
-SOURCES = $(shell find crates.txt crates/*/src crates/*/specs crates/*/proofs -type f)
-
-try: crates/use_map/out/use_map
-	@$< < examples/county
-
-# A source that is newer but says the same builds nothing anew.
-crates/use_map/out/use_map: $(SOURCES)
-	@python3 proving/prove.py use_map
-	@touch $@
+# That the program isn't proved yet is said once.
+try:
+	@./tigertopo show examples/county
+	@TIGERTOPO_SAID=yes ./tigertopo audit examples/county
 
 check:
-	.ci/run
+	@python3 proving/gate.py
 
 wrong-bodies:
 	python3 proving/wrong_bodies.py
@@ -120,6 +114,7 @@ real-maps: build
 pages: build
 	python3 tests/installed/installed.py
 	python3 tests/installed/progress.py
+	python3 tests/installed/unproved.py
 	python3 tests/pages/mended.py
 
 promises:

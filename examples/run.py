@@ -2,7 +2,8 @@
 """Runs the commands of the pages below as from the top of the repository, and compares what they print, each stream by
 itself: lines of refusals and stops, and of a file that isn't replaced, belong to standard error, all others to standard output, and of `audit --all`, which
 prints refusals as its answer, those of stops alone. Each page is played in a folder
-of its own, where the files that its commands make stay, with a `./tigertopo` and a `make try` that are the repository's and its `examples`."""
+of its own, where the files that its commands make stay, with a `./tigertopo` and a `make try` that are the repository's and its `examples`. A picture
+that is made there and stands in docs/pictures has to be that picture."""
 
 import re
 import subprocess
@@ -10,7 +11,9 @@ import sys
 import tempfile
 from pathlib import Path
 
-TOP = Path(__file__).resolve().parent.parent
+sys.path.append(str(Path(__file__).resolve().parents[1] / "tests"))
+from folders import TOP
+
 PAGES = ["README.md", "docs/commands.md", "examples/README.md", "docs/faults.md", "docs/many-counties.md"]
 
 
@@ -50,6 +53,11 @@ def play(page, folder):
         if (done.stdout, done.stderr) != streams_of(command, wanted):
             failed += 1
             print(f"{page}: $ {command}\n-- wanted\n{wanted}-- printed\n{done.stdout}{done.stderr}", end="")
+    for picture in sorted((TOP / "docs" / "pictures").iterdir()):
+        made = folder / picture.name
+        if made.exists():
+            count += 1
+            failed += made.read_bytes() != picture.read_bytes()
     return count - failed, failed
 
 

@@ -1,11 +1,12 @@
 #!/usr/bin/env python3
 """Makes what is taken away: an archive and a Debian package of the built program with its manual page, its completions and the
-documents that say what it prints, the SHA-256 sums of both, and the line of the kit that the program is proved with.
+documents; where the program's object stands beside it, the program as one static file; where the libraries stand that it was
+proved over, an archive of these; the SHA-256 sums of all; and the line of the kit that the program is proved with.
 
 usage: dist.py PROGRAM FOLDER
 
-The same program, documents and date give the same bytes, whenever and wherever. The date is SOURCE_DATE_EPOCH where that is set,
-and else the day of the newest version in CHANGELOG.md.
+The same program, libraries, documents and date give the same bytes, whenever and wherever. The date is SOURCE_DATE_EPOCH where that
+is set, and else the day of the newest version in CHANGELOG.md.
 """
 
 import gzip
@@ -16,14 +17,21 @@ import re
 import subprocess
 import sys
 import tarfile
+import tempfile
 from datetime import datetime, timezone
 from pathlib import Path
 
+sys.path.append(str(Path(__file__).resolve().parents[1] / "proving"))
 import pages
+import promises
+from prove import PROVED, TAKEN, TOP, kit
 
-TOP = Path(__file__).resolve().parent.parent
 CHANGES = TOP / "CHANGELOG.md"
-DOCUMENTS = ["docs/commands.md", "docs/faults.md", "docs/sound.md", "CHANGELOG.md"]
+DOCUMENTS = [*sorted(TOP.glob("docs/*.md")), CHANGES]
+# What whoever unpacks the libraries is told, there and by each later build.
+MAKER = """The libraries in crates/*/out were proved where this archive was made. `make` builds the program over them and proves nothing else.
+So its maker is trusted until `make check`, which proves all from nothing, has run here.
+"""
 # Debian's names of the machines that the program's first bytes name.
 MACHINES = {62: "amd64", 183: "arm64"}
 # Where completions and the manual page lie below share/.
@@ -56,26 +64,31 @@ def files(program):
     """The bytes of each file by its name below /usr, and which of them is run."""
     found = {"bin/tigertopo": Path(program).read_bytes()}
     found |= {f"share/{PLACES[name]}": text.encode() for name, text in pages.pages(program).items()}
-    found |= {f"share/doc/tigertopo/{Path(name).name}": (TOP / name).read_bytes() for name in DOCUMENTS}
+    found |= {f"share/doc/tigertopo/{it.name}": it.read_bytes() for it in DOCUMENTS}
+    found["share/doc/tigertopo/promises.md"] = promises.page().encode()
     return dict(sorted(found.items()))
 
 
+def tar(entries, when):
+    """An archive of these files, by their names, with the folders that they lie in; all belong to root."""
+    made = io.BytesIO()
+    with tarfile.open(fileobj=made, mode="w", format=tarfile.GNU_FORMAT) as archive:
+        folders = {str(it) for name in entries for it in Path(name).parents if str(it) != "."}
+        for name in sorted(folders | set(entries)):
+            entry = tarfile.TarInfo(f"./{name}")
+            entry.mtime, entry.uname, entry.gname = when, "root", "root"
+            if name in entries:
+                entry.size, entry.mode = len(entries[name]), 0o755 if "/bin/" in f"/{name}" else 0o644
+                archive.addfile(entry, io.BytesIO(entries[name]))
+            else:
+                entry.type, entry.mode = tarfile.DIRTYPE, 0o755
+                archive.addfile(entry)
+    return made.getvalue()
+
+
 def tar_gz(entries, when):
-    """A packed archive of these files, by their names, with the folders that they lie in; all belong to root."""
-    packed = io.BytesIO()
-    with gzip.GzipFile(fileobj=packed, mode="wb", compresslevel=9, mtime=when, filename="") as out:
-        with tarfile.open(fileobj=out, mode="w", format=tarfile.GNU_FORMAT) as archive:
-            folders = {str(it) for name in entries for it in Path(name).parents if str(it) != "."}
-            for name in sorted(folders | set(entries)):
-                entry = tarfile.TarInfo(f"./{name}")
-                entry.mtime, entry.uname, entry.gname = when, "root", "root"
-                if name in entries:
-                    entry.size, entry.mode = len(entries[name]), 0o755 if "/bin/" in f"/{name}" else 0o644
-                    archive.addfile(entry, io.BytesIO(entries[name]))
-                else:
-                    entry.type, entry.mode = tarfile.DIRTYPE, 0o755
-                    archive.addfile(entry)
-    return packed.getvalue()
+    """The same, packed."""
+    return gzip.compress(tar(entries, when), 9, mtime=when)
 
 
 def machine(program):
@@ -125,9 +138,32 @@ def package(version, found, when):
     return ar(members, when)
 
 
+def static_program(program):
+    """The bytes of the program as one file that needs no C library beside it, where its object stands."""
+    made, of_kit = Path(f"{program}.o"), f"{kit().KIT}/c"
+    if not made.exists():
+        return {}
+    with tempfile.TemporaryDirectory() as folder:
+        words = ["gcc", "-static", "-s", "-o", f"{folder}/static", made, f"{of_kit}/libos_c.a", f"{of_kit}/liblibc_c.a"]
+        subprocess.run(words, check=True)
+        return {"-static": Path(folder, "static").read_bytes()}
+
+
+def libraries(when):
+    """The bytes of the archive of the proved libraries, by their places in the repository, where they stand."""
+    folders = sorted(it for it in TOP.glob(f"crates/*/out/{PROVED}") if list(it.glob("*.rlib")))
+    found = {str(it.relative_to(TOP)): it.read_bytes() for folder in folders for it in folder.rglob("*") if it.is_file()}
+    if not found:
+        return {}
+    found[str(TAKEN.relative_to(TOP))] = MAKER.encode()
+    # The libraries repeat one another over long stretches.
+    words = ["zstd", "-q", "-c", "-T1", "-19", "--long=30"]
+    return {"-proved.tar.zst": subprocess.run(words, input=tar(found, when), capture_output=True, check=True).stdout}
+
+
 def made_of(program):
     """The bytes of each file that is made, by its name."""
-    version, kit = told(program)
+    version, line = told(program)
     if version != newest()[0]:
         sys.exit(f"the program is {version}, and CHANGELOG.md ends with {newest()[0]}")
     when, found = date(), files(program)
@@ -135,8 +171,9 @@ def made_of(program):
     made = {
         f"{name}.tar.gz": tar_gz({f"{name}/{it}": held for it, held in found.items()}, when),
         f"tigertopo_{version}_{machine(found['bin/tigertopo'])}.deb": package(version, found, when),
-        "KIT": f"{kit}\n".encode(),
+        "KIT": f"{line}\n".encode(),
     }
+    made |= {f"{name}{ending}": held for ending, held in (static_program(program) | libraries(when)).items()}
     sums = "".join(f"{hashlib.sha256(held).hexdigest()}  {it}\n" for it, held in sorted(made.items()))
     return made | {"SHA256SUMS": sums.encode()}
 
@@ -146,6 +183,7 @@ def make(program, folder):
     folder.mkdir(parents=True, exist_ok=True)
     for name, held in made_of(program).items():
         (folder / name).write_bytes(held)
+        (folder / name).chmod(0o755 if name.endswith("-static") else 0o644)
 
 
 if __name__ == "__main__":

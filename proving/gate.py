@@ -4,6 +4,7 @@
 import os
 import re
 import resource
+import shutil
 import subprocess
 import sys
 import tempfile
@@ -14,21 +15,12 @@ sys.path.append(str(Path(__file__).resolve().parents[1] / "tests"))
 from folders import TOP
 
 import times
-from prove import kit
+from prove import TAKEN, Progress, proofs_of, ready
 
-# More memory than any task of `rt ci` has been seen to take, in bytes.
-LANE = 5_000_000_000
 # What `rt ci` says of a crate once it is proved and built, or was by an earlier run.
-PROVED = re.compile(r"rt: (\w+) (?:proved|is kept: .*)\n")
+PROVED = re.compile(r"rt: (\w+) (proved|is kept: .*)\n")
 # The line that counts, the last one.
 COUNTS = re.compile(r"(\d+) passed, (\d+) failed(?:, (\d+) skipped)?\n")
-
-
-def lanes():
-    """How many of its tasks `rt ci` is to run side by side. By itself it plans with twice the memory that any of them has
-    been seen to take, and leaves processors idle."""
-    rt = kit()
-    return max(1, min(rt.processors(), rt.free() // LANE))
 
 
 def crates():
@@ -45,17 +37,24 @@ def counts_of(command, line):
     return passed, failed or int(command.wait() != 0), missing
 
 
-def prove(then):
-    """Runs `rt ci`, prints what it says, calls `then` as soon as all crates are proved and built, and gives its counts."""
+def prove(processors, then):
+    """Runs `rt ci` as proving/ci.py plans it, prints what it says, calls `then` as soon as all crates are proved and built, and gives
+    its counts."""
     left, line = crates(), ""
-    words = {"cwd": TOP, "env": {**os.environ, "RT_JOBS": str(lanes())}, "stdout": subprocess.PIPE}
-    with subprocess.Popen(["rt", "ci"], text=True, errors="replace", **words) as proofs:
+    progress = Progress(left, processors)
+    words = {"cwd": TOP, "stdout": subprocess.PIPE}
+    with subprocess.Popen([sys.executable, "-u", "proving/ci.py"], text=True, errors="replace", **words) as proofs:
         for line in proofs.stdout:
             if not COUNTS.fullmatch(line):
                 print(line, end="", flush=True)
             proved = PROVED.fullmatch(line)
-            if proved and left:
-                left.discard(proved[1])
+            if proved and proved[1] in left:
+                left.remove(proved[1])
+                if proved[2] == "proved":
+                    progress.begins(proved[1])
+                    progress.ends(proved[1])
+                else:
+                    progress.passes_over(proved[1])
                 if not left:
                     then()
     return counts_of(proofs, line)
@@ -69,6 +68,10 @@ class Play:
         self.command = None
 
     def begin(self):
+        # A program that `rt ci` took from an earlier run is as new as its sources, whatever their times say.
+        for program in TOP.glob("crates/*/out/*"):
+            if program.name == program.parent.parent.name:
+                os.utime(program)
         self.command = subprocess.Popen(["nice", sys.executable, "proving/played.py"], cwd=TOP, stdout=self.said)
 
     def end(self):
@@ -84,16 +87,27 @@ class Play:
 
 def main():
     begun = time.monotonic()
+    rt = ready()
+    proofs = proofs_of(rt, crates())
+    if TAKEN.exists():
+        # What an archive gave isn't trusted from here on.
+        for proof in proofs.values():
+            shutil.rmtree(proof.folder, ignore_errors=True)
+        TAKEN.unlink()
     with tempfile.TemporaryFile("w+", errors="replace") as said:
         play = Play(said)
         with times.Watch() as watch:
-            proved = prove(play.begin)
+            proved = prove(rt.processors(), play.begin)
         print(f"proofs, edits and tests: {time.monotonic() - begun:.0f} s")
         print(f"the proofs, in processor minutes:\n{times.table(watch.seconds())}", flush=True)
         played = play.end()
     used = resource.getrusage(resource.RUSAGE_CHILDREN)
     print(f"{(time.monotonic() - begun) / 60:.0f} minutes, {(used.ru_utime + used.ru_stime) / 60:.0f} processor minutes")
     passed, failed, missing = (sum(column) for column in zip(proved, played))
+    if not failed:
+        # All is proved here now: `make` has nothing left to prove.
+        for proof in proofs.values():
+            proof.adopt()
     print(f"{passed} passed, {failed} failed" + (f", {missing} skipped" if missing else ""))
     return failed > 0
 

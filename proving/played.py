@@ -34,6 +34,7 @@ import readings
 import rows
 import run as examples
 import skipped
+import unproved
 import ways
 
 
@@ -58,6 +59,7 @@ def parts():
         ("pictures", pictures.play_all),
         ("manual page, completions and programs of the libraries", installed.play_all),
         ("what is taken away", packaged.play_all),
+        ("the program without its proof", unproved.play_all),
         ("progress", progress.play_all),
         ("a county mended", mended.play_all),
         ("objects of JSON", objects.play_all),

@@ -1,6 +1,6 @@
 #!/usr/bin/env python3
-"""Makes docs/promises.md behind its first page: of each crate its story, its public calls with what their clauses promise, and the
-edits of its code that the prover refuses. It is made of the clauses and their comments, so no line of it is edited by hand.
+"""Makes out/promises.md: of each crate its story, its public calls with what their clauses promise, and the edits of its code that
+the prover refuses. It is made of the clauses and their comments.
 
 usage: promises.py
 """
@@ -13,8 +13,13 @@ from pathlib import Path
 
 TOP = Path(__file__).resolve().parents[1]
 CRATES = TOP / "crates"
-PAGE = TOP / "docs" / "promises.md"
-MARKER = "<!-- What follows is made by proving/promises.py. -->\n"
+PAGE = TOP / "out" / "promises.md"
+HEAD = """# What each public call promises
+
+Made from the public contracts and their comments. Which of these carry the promises of the whole program says docs/proof.md of the repository.
+
+The first row of a call has what its doc comment promises, and the clauses that have no comment of their own; each further row has one clause with its comment. Behind a clause's name stands the definition that it cites above all, in `crates/NAME/specs/`, or the clause itself where it cites none and is short. Left out are calls without a contract, calls that only hand out a part of their value, and what a crate hands on of another. Behind a crate's calls stand the edits of its code that the prover refuses.
+"""
 # A first paragraph that is longer than this many characters is cut behind a sentence.
 LONG = 400
 # A clause that cites no definition is printed itself where it is no longer than this.
@@ -650,52 +655,26 @@ def made():
                 yield crate, text
 
 
-def head_of(page):
-    """What stands in a page above the marker, and what stands below."""
-    head, marker, rest = page.partition(MARKER)
-    return head, marker, rest
-
-
-def page_of(page):
-    """The whole page: its first page as it is, and what is made behind it."""
-    return head_of(page)[0] + MARKER + "".join("\n" + text for _, text in made())
-
-
-def read_page(rest):
-    """The page's parts by crates, and its frame: the headings of floors and the crates below them, in their order."""
-    parts, frame, crate = {}, [], None
-    for line in rest.splitlines(True):
-        heading = re.match(r"### (\w+)", line)
-        if line.startswith("## "):
-            crate = None
-            frame.append(line)
-        elif heading and heading.group(1) != crate:
-            crate = heading.group(1)
-            frame.append(crate)
-        if crate:
-            parts[crate] = parts.get(crate, "") + line
-    return parts, frame
+def page():
+    """The whole page."""
+    return HEAD + "".join("\n" + text for _, text in made())
 
 
 def play_all():
-    """Compares each crate's part of the page, and the page's frame, with what is made; tells which are stale, and gives how many
-    aren't and how many are."""
-    _, marker, rest = head_of(PAGE.read_text())
-    parts, frame = read_page(rest)
-    should, frame_should = read_page("".join("\n" + text for _, text in made()))
-    stale = [crate for crate, text in should.items() if parts.get(crate, "").strip() != text.strip()]
-    if not marker or frame != frame_should:
-        stale.append("the page's frame")
-    for name in stale:
-        print(f"docs/promises.md is stale: {name}; `make promises` makes it anew")
-    return len(should) + 1 - len(stale), len(stale)
+    """Looks for each edit of code, and for its crate, in what is made; gives how many are there and how many aren't."""
+    told = page()
+    every = [it for kind in ("must-fail", "wrong-bodies") for it in CRATES.glob(f"*/{kind}/*.edit")]
+    edits = [it for it in every if "file: src/" in it.read_text()]
+    wanted = {f"### {it.parent.parent.name}\n" for it in edits} | {f"`{it.stem}`" for it in edits}
+    missing = sorted(it for it in wanted if it not in told)
+    for it in missing:
+        print(f"promises: {it.strip()} isn't there")
+    return len(wanted) - len(missing), len(missing)
 
 
 def main():
-    page = PAGE.read_text()
-    if MARKER not in page:
-        sys.exit(f"docs/promises.md has no line {MARKER.strip()}")
-    PAGE.write_text(page_of(page))
+    PAGE.parent.mkdir(exist_ok=True)
+    PAGE.write_text(page())
 
 
 if __name__ == "__main__":

@@ -1,8 +1,9 @@
 #!/usr/bin/env python3
 """Proves and builds programs of this repository: each crate that they stand on as soon as those below it are proved,
 side by side on as many processors as there are and as memory holds. Each is proved from nothing and held to what `rt ci`
-wants of it, but for the search for a contract that no call can meet. One that an earlier start proved, and of which
-nothing has changed since, is left as it stands.
+wants of it, but for the search for a contract that no call can meet. One that an earlier start proved is left as it stands
+while its own files and the libraries below it, as they are built, are the same. So a change that leaves what is built as it
+was, as of a comment or a test, proves one crate.
 
 usage: prove.py [CRATE..]     with no CRATE, tigertopo
 """
@@ -21,8 +22,17 @@ from concurrent.futures import FIRST_COMPLETED, ThreadPoolExecutor, wait
 from pathlib import Path
 
 TOP = Path(__file__).resolve().parent.parent
+# Where in a crate's out/ it stands what is proved of it: in the folder that `rt ci`, which empties out/, gives back.
+PROVED = "rlib/proved"
+# There where the libraries were unpacked from an archive of `make dist`.
+TAKEN = TOP / "out" / "taken"
 # Seconds of one processor that a crate of no known share is taken to need.
 UNKNOWN_SHARE = 60
+
+
+def program_of(name, *folders):
+    """Where the program of a crate is, once it is built."""
+    return TOP.joinpath("crates", name, "out", *folders, name)
 
 
 def stop(why):
@@ -43,14 +53,11 @@ def kit():
     return module
 
 
-def shares():
-    """What the proof of each crate takes on one processor, in seconds, as last seen."""
-    found = {}
-    for line in (TOP / "proving" / "seconds.txt").read_text().splitlines():
-        if line and not line.startswith("#"):
-            name, proof = line.split()[:2]
-            found[name] = float(proof)
-    return found
+def shares(column=1):
+    """What the proof of each crate takes on one processor, in seconds, as last seen; with column 2, what that of its tests does."""
+    lines = (TOP / "proving" / "seconds.txt").read_text().splitlines()
+    rows = [line.split() for line in lines if line and not line.startswith("#")]
+    return {row[0]: float(row[column]) for row in rows if column < len(row)}
 
 
 def in_minutes(seconds):
@@ -83,6 +90,11 @@ class Progress:
             del self.running[name], self.left[name]
             self.show(f"{name} proved, ")
 
+    def passes_over(self, name):
+        """One that needs no proof counts no more."""
+        with self.lock:
+            del self.share[name], self.left[name]
+
     def minutes_left(self):
         """The shares that are left, at the speed of those that are done; of one at work a second is taken as done for each second
         since it began. Before anything is done two processors are taken to be at work."""
@@ -110,34 +122,74 @@ class Progress:
             print(file=sys.stderr)
 
 
+def sum_of_folder(folder):
+    """The sum of all files below a folder, by their places."""
+    found = hashlib.sha256()
+    for at, folders, files in os.walk(folder):
+        folders.sort()
+        for name in sorted(files):
+            file = Path(at, name)
+            found.update(repr((str(file.relative_to(folder)), file.read_bytes())).encode())
+    return found.hexdigest()
+
+
 class Proof:
-    """A crate that is to be proved, with those below it. What stands of it is in the crate's folder out/proved, with the
-    sum of all that it was proved from."""
+    """A crate that is to be proved, with those below it. What stands of it: what was built, the sum of that, and the sum of all that
+    it was proved from."""
 
     def __init__(self, rt, crate, below):
         self.rt = rt
         self.crate = crate
-        self.folder = Path(crate.folder) / "out" / "proved"
-        self.sum_file = self.folder / "sum"
+        self.below = below
+        self.folder = Path(crate.folder) / "out" / PROVED
+        self.built = self.folder / "built"
+        self.proved_from = self.folder / "sum"
         crate.rlib = str(self.folder / f"{crate.name}.rlib")
-        self.program = Path(crate.folder) / "out" / crate.name
-        self.sum = self.sum_of_sources(below)
+        self.program = program_of(crate.name)
+        self.own = self.sum_of_files()
 
-    def sum_of_sources(self, below):
+    def sum_of_files(self):
+        """The sum of the crate's own files, and of the kit."""
         found = hashlib.sha256(Path(f"{self.rt.KIT}/KIT-ID").read_bytes())
         for file in self.rt.rtlib.files_of(self.crate.folder):
             found.update(repr((os.path.relpath(file, self.crate.folder), Path(file).read_bytes())).encode())
-        found.update(repr([it.sum for it in below]).encode())
         return found.hexdigest()
 
+    def sum(self):
+        """The sum of all that the crate is proved from: its own files, and the libraries below as they are built."""
+        below = [(it.crate.name, it.built.read_text()) for it in self.below]
+        return hashlib.sha256(repr((self.own, below)).encode()).hexdigest()
+
+    def made(self):
+        """What is built of it: a library or a program."""
+        return Path(self.crate.rlib) if self.crate.makes_rlib() else self.program
+
     def stands(self):
-        made = Path(self.crate.rlib) if self.crate.makes_rlib() else self.program
-        return made.exists() and self.sum_file.is_file() and self.sum_file.read_text() == self.sum
+        """Whether it is proved as it is now, where all below stand."""
+        kept = self.made().exists() and self.built.is_file() and self.proved_from.is_file()
+        return kept and self.proved_from.read_text() == self.sum()
+
+    def note(self, proved_from):
+        """Notes what was built, and what it was proved from."""
+        self.built.write_text(sum_of_folder(self.crate.rlib))
+        self.proved_from.write_text(proved_from)
+
+    def adopt(self):
+        """Takes over what `rt ci` has proved in this checkout, where nothing else stands and the crate's files are what they were."""
+        by_ci = self.folder.parent / f"{self.crate.name}.rlib" if self.crate.makes_rlib() else self.program
+        is_last = all(it.built.is_file() for it in self.below) and self.own == self.sum_of_files()
+        if self.folder.exists() or not by_ci.exists() or not is_last:
+            return
+        self.folder.mkdir(parents=True)
+        if self.crate.makes_rlib():
+            shutil.copytree(by_ci, self.crate.rlib, copy_function=os.link)
+        self.note(self.sum())
 
     def prove(self, jobs):
         """Proves the crate with so many jobs, and gives whether it is proved and what was said."""
         shutil.rmtree(self.folder, ignore_errors=True)
         self.folder.mkdir(parents=True)
+        proved_from = self.sum()
         with tempfile.TemporaryFile("w+", errors="replace") as self.crate.out:
             words = self.crate.words(["--jobs", str(jobs)], keeps=False)
             if self.crate.makes_rlib():
@@ -148,7 +200,7 @@ class Proof:
             said = self.crate.out.read()
         # What changed while it was proved is seen at the next start.
         if not status:
-            self.sum_file.write_text(self.sum)
+            self.note(proved_from)
         return not status, said
 
     def prove_and_build(self, words):
@@ -207,20 +259,25 @@ class Lanes:
 
 
 def prove_all(rt, proofs):
-    """Proves these crates, lowest first, and gives the name and the words of one that failed, if one did."""
+    """Proves those of these crates that don't stand, lowest first, and gives the name and the words of one that failed, if one
+    did."""
     progress = Progress([it.crate.name for it in proofs], rt.processors())
     failed = []
 
     def prove(proof, jobs):
-        progress.begins(proof.crate.name)
+        name = proof.crate.name
+        if proof.stands():
+            progress.passes_over(name)
+            return True
+        progress.begins(name)
         is_proved, said = proof.prove(jobs)
         if is_proved:
-            progress.ends(proof.crate.name)
+            progress.ends(name)
         else:
-            failed.append((proof.crate.name, said))
+            failed.append((name, said))
         return is_proved
 
-    Lanes(rt, proofs, progress.share).run(prove)
+    Lanes(rt, proofs, dict(progress.share)).run(prove)
     progress.finish()
     return failed[0] if failed else None
 
@@ -242,16 +299,19 @@ def ready():
     return rt
 
 
+def every_crate(rt):
+    """All crates of this repository."""
+    return rt.rtlib.crates_below(str(TOP))
+
+
 def proofs_of(rt, names):
-    """The proofs of these crates and of all below them, lowest first, by the crates' names. Until this process ends no other works there: one
-    that runs in another terminal is waited for."""
-    every = rt.rtlib.crates_below(str(TOP))
+    """The proofs of these crates and of all below them, lowest first, by the crates' names."""
+    every = every_crate(rt)
     wanted = [it for it in every if it.name in names]
     crates = [it for it in every if any(it is top or it in top.below() for top in wanted)]
     for crate in crates:
         rt.read_files(crate)
         os.makedirs(f"{crate.folder}/out", exist_ok=True)
-    rt.rtlib.lock(crates)
     proofs = {}
     for crate in sorted(crates, key=lambda it: len(it.below())):
         proofs[crate.name] = Proof(rt, crate, [proofs[it.name] for it in crate.below()])
@@ -259,19 +319,28 @@ def proofs_of(rt, names):
 
 
 def prove_missing(rt, proofs):
-    """Proves those of these crates that don't stand, and ends where one isn't proved. Those below each are among them."""
-    missing = {}
-    for proof in proofs.values():
-        if not proof.stands() or any(it.name in missing for it in proof.crate.below()):
-            missing[proof.crate.name] = proof
-    failure = prove_all(rt, list(missing.values())) if missing else None
+    """Proves those of these crates that don't stand, and ends where one isn't proved. Those below each are among them. Until this process
+    ends no other works there: one that runs in another terminal is waited for."""
+    rt.rtlib.lock([it.crate for it in proofs.values()])
+    # Of one above a crate that doesn't stand it shows once that is built whether it stands.
+    open_ones = {}
+    for name, proof in proofs.items():
+        if any(it.crate.name in open_ones for it in proof.below) or not proof.stands():
+            open_ones[name] = proof
+    failure = prove_all(rt, list(open_ones.values())) if open_ones else None
     if failure:
         stop(f"{failure[0]} isn't proved\n{failure[1]}")
 
 
 def main():
+    names = sys.argv[1:] or ["tigertopo"]
     rt = ready()
-    prove_missing(rt, proofs_of(rt, sys.argv[1:] or ["tigertopo"]))
+    if TAKEN.exists():
+        print(f"tigertopo: {TAKEN.read_text()}", end="", file=sys.stderr)
+    prove_missing(rt, proofs_of(rt, names))
+    # A program that stands is as new as its sources, whatever their times say.
+    for program in filter(Path.exists, map(program_of, names)):
+        os.utime(program)
     return 0
 
 

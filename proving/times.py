@@ -97,9 +97,11 @@ def main():
         status = subprocess.run(words).returncode
     print(f"in processor minutes, {(time.monotonic() - begun) / 60:.1f} minutes in all:\n{table(watch.seconds())}")
     if to:
-        proofs = sorted((name, spent) for (name, kind), spent in watch.seconds().items() if kind == "proof")
-        head = "# What each crate's proof takes of the processors, in seconds, as proving/times.py wrote it.\n"
-        Path(to).write_text(head + "".join(f"{name} {spent:.0f}\n" for name, spent in proofs))
+        seconds = watch.seconds()
+        head = "# What each crate's proof takes of the processors, in seconds, and that of its tests, as proving/times.py wrote it.\n"
+        rows = [(name, spent, seconds.get((name, "tests"))) for (name, kind), spent in sorted(seconds.items()) if kind == "proof"]
+        lines = [f"{name} {proof:.0f}" + (f" {tests:.0f}" if tests else "") for name, proof, tests in rows]
+        Path(to).write_text(head + "".join(f"{line}\n" for line in lines))
     return status
 
 

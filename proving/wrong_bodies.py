@@ -15,10 +15,11 @@ import sys
 from concurrent.futures import FIRST_COMPLETED, ThreadPoolExecutor, wait
 from pathlib import Path
 
-from gate import TOP, lanes
-from prove import UNKNOWN_SHARE, proofs_of, prove_missing, ready, shares
+from prove import TOP, UNKNOWN_SHARE, proofs_of, prove_missing, ready, shares
 
 FLAGS = ["--jobs", "1"]
+# More memory than any check has been seen to take, in bytes.
+LANE = 5_000_000_000
 # What a try costs of the crate's proof, as it is planned with: it begins with what was proved of the crate as it stands.
 OF_PROOF = 0.3
 
@@ -46,7 +47,7 @@ class Tries:
         return self.proof.folder.parent / "refused" / edit.stem
 
     def sum_of(self, edit):
-        return hashlib.sha256(self.proof.sum.encode() + edit.read_bytes()).hexdigest()
+        return hashlib.sha256(self.proof.sum().encode() + edit.read_bytes()).hexdigest()
 
     def was_refused(self, edit):
         note = self.note_of(edit)
@@ -76,11 +77,16 @@ class Tries:
         return True
 
 
-def try_all(tries):
+def lanes(rt):
+    """How many checks fit side by side."""
+    return max(1, min(rt.processors(), rt.free() // LANE))
+
+
+def try_all(rt, tries):
     """Tries all edits side by side, and gives how many aren't refused. Those of a crate that is begun come before the next crate."""
     failed, edits, running = 0, [], {}
     # Asked once: what is at work later takes of the memory that this goes by.
-    width = lanes()
+    width = lanes(rt)
     with ThreadPoolExecutor(width) as several:
         while tries or edits or running:
             while (tries or edits) and len(running) < width:
@@ -112,7 +118,7 @@ def main():
     share = shares()
     cost = lambda it: share.get(it.proof.crate.name, UNKNOWN_SHARE) * (1 + OF_PROOF * it.left)
     tries = sorted((it for it in (Tries(rt, proofs[name]) for name in names) if it.edits), key=cost, reverse=True)
-    failed = try_all(tries)
+    failed = try_all(rt, tries)
     print(f"{sum(len(edits_of(it)) for it in names) - failed} refused, {failed} not refused")
     return 1 if failed else 0
 

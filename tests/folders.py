@@ -5,6 +5,7 @@ path here. So a script of one of them begins its imports of modules of ours with
     from folders import ..
 """
 
+import os
 import sys
 from pathlib import Path
 
@@ -24,6 +25,10 @@ FOLDERS = [
     "bench",
 ]
 sys.path += [str(TOP / name) for name in FOLDERS]
+
+# What is run by a test runs as from a shell, whatever `make` the test itself is run by.
+for handed_down in ("MAKEFLAGS", "MFLAGS", "MAKELEVEL"):
+    os.environ.pop(handed_down, None)
 
 
 def built(name):

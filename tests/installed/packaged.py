@@ -1,7 +1,8 @@
 #!/usr/bin/env python3
 """Makes what `make dist` makes twice, in two folders, and looks at it: both times the bytes are the same; the sums are those of
-the files; the logic of the kit is that of `rt version`; the archive has the program and its documents. The package is installed by `dpkg` into
-a root of its own, runs there over a county with nothing beside it but the C library, and is taken away without leaving anything.
+the files; the logic of the kit is that of `rt version`; the archive has the program and its documents. The static program runs over a
+county in a root that has nothing else. The package is installed by `dpkg` into a root of its own, runs there with nothing beside it but the
+C library, and is taken away without leaving anything.
 
 usage: packaged.py [PROGRAM]
 """
@@ -68,6 +69,21 @@ def wrong_archive(program, folder, made):
     return f"archive lacks {lacks}" if lacks else None
 
 
+def wrong_answer(root, program):
+    """What is wrong with the answer of a program in a root."""
+    answer = run("chroot", root, program, "audit", "/county")
+    return None if (answer.returncode, answer.stdout, answer.stderr) == (0, ANSWER, "") else f"run: {answer}"
+
+
+def wrong_static(folder, made):
+    """What is wrong where the static program runs in a root with nothing else."""
+    root = Path(folder) / "empty"
+    root.mkdir()
+    shutil.copy(EXAMPLES / "county", root / "county")
+    shutil.copy(Path(folder) / one_of(made, "-static"), root / "tigertopo")
+    return wrong_answer(root, "/tigertopo")
+
+
 def take_libraries(program, root):
     """Puts the C library into a root, and what loads programs."""
     for library in re.findall(r"(/\S+) \(0x", run("ldd", program).stdout):
@@ -96,9 +112,9 @@ def wrong_package(program, folder, made):
     new = listed(root) - before
     if not {"usr/bin/tigertopo", "usr/share/man/man1/tigertopo.1", "usr/share/doc/tigertopo/faults.md"} <= new:
         return f"installed: {new}"
-    answer = run("chroot", root, "/usr/bin/tigertopo", "audit", "/county")
-    if (answer.returncode, answer.stdout, answer.stderr) != (0, ANSWER, ""):
-        return f"run: {answer}"
+    wrong = wrong_answer(root, "/usr/bin/tigertopo")
+    if wrong:
+        return wrong
     if run(*dpkg, "--verify", "tigertopo").stdout:
         return "its files aren't those of its sums"
     done = run(*dpkg, "--purge", "tigertopo")
@@ -123,6 +139,11 @@ def play_all(program=PROGRAM):
                 skipped.skip("the package, installed", "root's rights")
             elif skipped.has("the package, installed", "dpkg", "chroot", "ldd"):
                 wrong.append(("package", wrong_package(program, first, made)))
+            # `rt ci` keeps no object of a program that an earlier run proved.
+            if os.geteuid() or not any(it.endswith("-static") for it in made):
+                skipped.skip("the static program", "root's rights" if os.geteuid() else "object of the program")
+            else:
+                wrong.append(("static", wrong_static(first, made)))
     for title, what in wrong:
         if what:
             print(f"{title}: {what}")
