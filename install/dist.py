@@ -69,26 +69,28 @@ def files(program):
     return dict(sorted(found.items()))
 
 
-def tar(entries, when):
-    """An archive of these files, by their names, with the folders that they lie in; all belong to root."""
-    made = io.BytesIO()
-    with tarfile.open(fileobj=made, mode="w", format=tarfile.GNU_FORMAT) as archive:
+def write_tar(out, entries, when):
+    """Writes an archive of these files, by their names, with the folders that they lie in; all belong to root. A file is given as its bytes,
+    or as the place where it stands."""
+    with tarfile.open(fileobj=out, mode="w|", format=tarfile.GNU_FORMAT) as archive:
         folders = {str(it) for name in entries for it in Path(name).parents if str(it) != "."}
         for name in sorted(folders | set(entries)):
             entry = tarfile.TarInfo(f"./{name}")
             entry.mtime, entry.uname, entry.gname = when, "root", "root"
             if name in entries:
-                entry.size, entry.mode = len(entries[name]), 0o755 if "/bin/" in f"/{name}" else 0o644
-                archive.addfile(entry, io.BytesIO(entries[name]))
+                held = entries[name].read_bytes() if isinstance(entries[name], Path) else entries[name]
+                entry.size, entry.mode = len(held), 0o755 if "/bin/" in f"/{name}" else 0o644
+                archive.addfile(entry, io.BytesIO(held))
             else:
                 entry.type, entry.mode = tarfile.DIRTYPE, 0o755
                 archive.addfile(entry)
-    return made.getvalue()
 
 
 def tar_gz(entries, when):
     """The same, packed."""
-    return gzip.compress(tar(entries, when), 9, mtime=when)
+    made = io.BytesIO()
+    write_tar(made, entries, when)
+    return gzip.compress(made.getvalue(), 9, mtime=when)
 
 
 def machine(program):
@@ -152,13 +154,18 @@ def static_program(program):
 def libraries(when):
     """The bytes of the archive of the proved libraries, by their places in the repository, where they stand."""
     folders = sorted(it for it in TOP.glob(f"crates/*/out/{PROVED}") if list(it.glob("*.rlib")))
-    found = {str(it.relative_to(TOP)): it.read_bytes() for folder in folders for it in folder.rglob("*") if it.is_file()}
+    found = {str(it.relative_to(TOP)): it for folder in folders for it in folder.rglob("*") if it.is_file()}
     if not found:
         return {}
     found[str(TAKEN.relative_to(TOP))] = MAKER.encode()
     # The libraries repeat one another over long stretches.
-    words = ["zstd", "-q", "-c", "-T1", "-19", "--long=30"]
-    return {"-proved.tar.zst": subprocess.run(words, input=tar(found, when), capture_output=True, check=True).stdout}
+    with tempfile.TemporaryFile() as packed:
+        with subprocess.Popen(["zstd", "-q", "-c", "--long=30"], stdin=subprocess.PIPE, stdout=packed) as packing:
+            write_tar(packing.stdin, found, when)
+        if packing.returncode:
+            sys.exit("zstd packed no libraries")
+        packed.seek(0)
+        return {"-proved.tar.zst": packed.read()}
 
 
 def made_of(program):
