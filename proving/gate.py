@@ -105,7 +105,8 @@ def main():
     print(f"{(time.monotonic() - begun) / 60:.0f} minutes, {(used.ru_utime + used.ru_stime) / 60:.0f} processor minutes")
     passed, failed, missing = (sum(column) for column in zip(proved, played))
     if not failed:
-        # All is proved here now: `make` has nothing left to prove.
+        # All is proved here now: `make` has nothing left to prove. One that is begun meanwhile waits.
+        rt.rtlib.lock([it.crate for it in proofs.values()])
         for proof in proofs.values():
             proof.adopt()
     print(f"{passed} passed, {failed} failed" + (f", {missing} skipped" if missing else ""))
