@@ -19,8 +19,10 @@ from pathlib import Path
 sys.path.append(str(Path(__file__).resolve().parents[1]))
 from folders import EXAMPLES, PROGRAM, TOP
 
+import hints
+
 # What the counties of examples/faults are asked beside, where that is needed for their fault.
-SWITCHES = {"G6": ["--zero-cells"], "G7": ["--faces"]}
+SWITCHES = {"G6": ["--zero-cells"], "G7": ["--faces"], "M14": ["--complete"]}
 # How a county is asked for.
 WAYS = [[], ["--all"], ["--all", "--most", "1"], ["--all", "--most", "0"]]
 # A name of a file that JSON has to escape, and bytes of a field that are no text.
@@ -46,9 +48,9 @@ def need(holds, *told):
 
 
 def run(words, folder=TOP):
-    """The status and the lines of an answer; on the error output stands nothing."""
+    """The status and the two outputs of an answer, the error output without what helps."""
     done = subprocess.run([str(PROGRAM), "audit", *words], cwd=folder, capture_output=True)
-    return done.returncode, done.stdout.decode(), done.stderr.decode()
+    return done.returncode, done.stdout.decode(), hints.without(done.stderr, ["audit", *words], folder).decode()
 
 
 # ---- the schema

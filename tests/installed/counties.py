@@ -27,6 +27,8 @@ STATES = "## A state, and a nation\n"
 # What is changed in a county: it tells a chain of its state's border by another TLID; one of its chains ends elsewhere.
 AT_ODDS = "        13", "        23"
 BAD = "+000000030+00000050+000000010", "+000000030+00000055+000000010"
+# Nothing of it is left.
+EMPTIED = "emptied"
 
 
 def blocks_of(text):
@@ -75,7 +77,7 @@ def play_nation(program):
 
 
 def play_mended(program):
-    """Makes the nation of the examples with two states at odds, twice; mended; with a bad county, twice; and mended again. How often `told`
+    """Makes the nation of the examples with two states at odds, twice; mended; with a bad county, twice, which then is emptied, twice; and mended again. How often `told`
     stands there, and the status is 0, where all fits and nowhere else, and how often not. What doesn't fit is named each time."""
     passed = failed = 0
     with tempfile.TemporaryDirectory() as folder:
@@ -84,8 +86,8 @@ def play_mended(program):
         (nation / "tigertopo").symlink_to(program)
         county = nation / "west" / "north.RT"
         text = county.read_text()
-        for spoilt in (None, AT_ODDS, AT_ODDS, None, BAD, BAD, None):
-            wanted = text.replace(*spoilt) if spoilt else text
+        for spoilt in (None, AT_ODDS, AT_ODDS, None, BAD, BAD, EMPTIED, EMPTIED, None):
+            wanted = "" if spoilt == EMPTIED else text.replace(*spoilt) if spoilt else text
             if county.read_text() != wanted:
                 # `make` goes by the files' times.
                 time.sleep(0.02)
@@ -93,7 +95,8 @@ def play_mended(program):
             done = run("make -s PROGRAM=tigertopo", nation)
             told = nation / "told"
             is_fit = done.returncode == 0 and told.exists() and told.read_text().startswith("sound ")
-            is_unfit = done.returncode != 0 and not told.exists() and "map fault " in done.stdout
+            is_named = ("map fault M14 " if spoilt == EMPTIED else "map fault ") in done.stdout
+            is_unfit = done.returncode != 0 and not told.exists() and is_named
             is_well = is_unfit if spoilt else is_fit
             passed, failed = passed + is_well, failed + (not is_well)
             if not is_well:

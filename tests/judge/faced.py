@@ -75,6 +75,12 @@ WORKED = [
     ("a street east of all that names a town", TOWNS + street(3, "400,20", "410,90", "A0001/2"), False),
     ("a street west of all that names a town", TOWNS + street(3, "-90,20", "-80,90", "A0001/1"), False),
     ("a street far in the north that names a town", TOWNS + street(3, "20,400", "60,410", "A0001/1"), False),
+    ("a long street that names the other town, in lines of more than 256 bytes", [
+        "chain 9876543210 -179999999,-89999993 -179999999,-89999993", "shape 9876543210 1 -10000019,-79999981 -99999971,89999989",
+        "chain 9876543211 10000000,10000000 10000000,10000000", "shape 9876543211 1 20000000,10000000 15000000,20000000",
+        "chain 9876543212 -119999989,-59999987 -89999981,49999979", "sides 9876543210 A0001/9876543210 -", "sides 9876543211 A0001/9876543211 -",
+        "sides 9876543212 A0001/9876543211 A0001/9876543211", "point A0001/9876543210 -100000000,-70000000", "point A0001/9876543211 15000000,15000000",
+    ], False),
     ("two islands that face one another", TOWNS + island(3, (20, 20), "A0001/3", "A0001/1") + island(4, (60, 20), "A0001/4", "A0001/1"), True),
     ("two islands that name the other town", TOWNS + island(3, (20, 20), "A0001/3", "A0001/2") + island(4, (60, 20), "A0001/4", "A0001/2"), False),
     ("two islands of which one names the other town", TOWNS + island(3, (20, 20), "A0001/3", "A0001/1") + island(4, (60, 20), "A0001/4", "A0001/2"), False),

@@ -8,10 +8,13 @@ The maps are those of parts.py: drawn, some of them spoilt at random and at the 
 records of each part are a file, as a county's are. Asked are `border` of each part, whose file has to hold the part's border by
 judge.py's reading; `audit --join --faces` of these borders; the border of the borders; and `audit`, `audit --all`, `show` and
 `locate` with `--join` of all parts. Then a line of one part is spoilt at a seam: another point, other ends, another side, the
-same once more, none at all; or a part is given twice. No expected value comes from the program.
+same once more, none at all; or a part is given twice. And two counties are drawn whose common border is crossed, with so many pairs
+that several records hold them, in files that are laid out in any way: placed.py says the records behind each fault. No expected
+value comes from the program.
 """
 
 import argparse
+import json
 import random
 import sys
 import tempfile
@@ -26,6 +29,7 @@ import faces
 import judge
 import judged
 import parts
+import placed
 
 CASES = 300
 
@@ -146,6 +150,67 @@ def spoil(chance, texts):
 
 
 # ---------------------------------------------------------------------------------------------------------------------
+# Counties whose common border is crossed.
+
+# How many pairs the border has, and where it ends.
+PAIRS = (0, 1, 5, 9, 10, 11, 12, 25, 30)
+SOUTH, NORTH = judge.Point(1000, 1000), judge.Point(1000, 2000)
+
+
+def between(chance, many):
+    """So many points of a border, mostly by rising latitudes; at times it touches itself, and at times a point is told twice."""
+    heights = [chance.randrange(1010, 1990) for _ in range(many)]
+    points = [judge.Point(chance.randrange(900, 1100), y) for y in (sorted(heights) if chance.random() < 0.8 else heights)]
+    if many > 1 and chance.random() < 0.3:
+        place = chance.randrange(1, many)
+        points[place] = points[place - 1]
+    return points
+
+
+def crossing(chance, tlid, side):
+    """A street from the west to the east, or the other way, which has the one polygon on both sides."""
+    points = [judge.Point(x, chance.randrange(1000, 2000)) for x in (700, *sorted(chance.sample(range(750, 1250), chance.choice((0, 0, 3, 14)))), 1300)]
+    return judge.MapChain(tlid, tuple(points if chance.random() < 0.5 else points[::-1]), side, side, (None, None))
+
+
+def crossed_counties(chance):
+    """The chains and the polygon of each of two counties: a border that both tell, and streets over it, of which at times both tell one."""
+    west, east = judge.Key(b"A0001", 1), judge.Key(b"B0002", 1)
+    border = (SOUTH, *between(chance, chance.choice(PAIRS)), NORTH)
+    streets = [crossing(chance, tlid, west) for tlid in (7, 8)[: chance.choice((1, 1, 2))]]
+    is_shared = chance.random() < 0.2
+    chains = {}
+    for key, x, first in ((west, 500, 1), (east, 1500, 3)):
+        outer = (SOUTH, judge.Point(x, 1000), judge.Point(x, 2000), NORTH)
+        sides = (None, key) if key == west else (key, None)
+        chains[key] = [
+            judge.MapChain(first, outer, *sides, (None, None)),
+            judge.MapChain(2, border, *sides[::-1], (None, None)),
+            *(judge.replace(it, left=it.left if key == west else None, right=key if key == east else None) for it in streets if is_shared),
+            *(it for it in streets if not is_shared and key == west),
+        ]
+    return chains, [judge.Polygon(west, judge.Point(600, 1500)), judge.Polygon(east, judge.Point(1400, 1500))]
+
+
+def crossed_texts(chance):
+    """The lines of files of two such counties, in any order of these: a file a county, six files a county, or all in one."""
+    chains, polygons = crossed_counties(chance)
+    each = [[*(line for it in chains[point.key] for line in chain_lines(it)), polygon_line(point)] for point in polygons]
+    for lines in each:
+        if chance.random() < 0.5:
+            chance.shuffle(lines)
+    way = chance.choice(("a file a county", "six files a county", "one file"))
+    if way == "one file":
+        together = each[0] + each[1]
+        chance.shuffle(together)
+        return way, [together]
+    files = each if way == "a file a county" else [[it for it in lines if it[:1] == kind] for lines in each for kind in (b"1", b"2", b"I", b"P")]
+    if chance.random() < 0.7:
+        chance.shuffle(files)
+    return way, files
+
+
+# ---------------------------------------------------------------------------------------------------------------------
 # What is played.
 
 
@@ -233,6 +298,34 @@ class Player:
         plain = self.is_allowed(judge.County(held).audit(), "audit", *names)
         return listed or one or shown or found or plain
 
+    def crossed_complaint(self, number):
+        """What is wrong with the records that are told of counties whose common border is crossed, or None."""
+        chance = random.Random(f"crossed {number}")
+        way, texts = crossed_texts(chance)
+        names, held = self.lay(texts)
+        county = judge.County(held, join=True)
+
+        def wrong(opinion, *words):
+            complaint = self.is_allowed(opinion, *words)
+            return [f"{complaint}\n  the program: {self.table.printed.decode()}"] if complaint else []
+
+        complaints = wrong(county.audit_all(), "audit", "--all", "--join", *names)
+        listed = [it for it in self.table.printed.decode().split("\n") if it.startswith("map fault ")]
+        faults = county.drawn_faults(names, held)
+        complaints += judged.placed_complaints(self.table, chance, county, faults, listed, wrong, ["--join", *names])
+        told = [placed.Fault(it, faults.lines, faults.the_map) for it in listed]
+        self.seen[f"crossed, {way}"] += 1
+        self.seen["crossed segments"] += sum(it.code == "G1" for it in told)
+        return complaints[0] if complaints else self.objects_complaint(told, names)
+
+    def objects_complaint(self, faults, names):
+        """What is wrong with the records of these faults as objects, or None."""
+        answer = self.table.ask("audit", "--all", "--json", "--join", *names)
+        *objects, _ = map(json.loads, answer[1].splitlines())
+        made = [(it["fault"], it["records"]) for it in objects]
+        wanted = [(it.told, [record.made for record in it.records]) for it in faults]
+        return None if made == wanted else f"audit --all --json: {made}, and not {wanted}"
+
     def complaint_of(self, number):
         """What is wrong with a drawn map that is cut, or None; none where it can't be cut."""
         chance = random.Random(f"joined {number}")
@@ -255,10 +348,11 @@ def play(cases, program, seen):
     with tempfile.TemporaryDirectory() as folder:
         player = Player(judged.Table(program, Path(folder)), seen)
         for number in range(cases):
-            complaint = player.complaint_of(number)
-            if complaint:
-                print(f"joined: drawn {number}: {complaint}")
-            well, ill = well + (not complaint), ill + bool(complaint)
+            for sort, play_one in (("drawn", player.complaint_of), ("crossed", player.crossed_complaint)):
+                complaint = play_one(number)
+                if complaint:
+                    print(f"joined: {sort} {number}: {complaint}")
+                well, ill = well + (not complaint), ill + bool(complaint)
     return well, ill
 
 
@@ -266,7 +360,7 @@ def play_all(program=PROGRAM, cases=CASES):
     """How many maps are told in parts as they have to be, and how many aren't. Each sort of answer has to be among them."""
     seen = Counter()
     well, ill = play(cases, program, seen)
-    return well, ill + (len(seen) < 12)
+    return well, ill + (len(seen) < 16)
 
 
 def main():

@@ -407,6 +407,11 @@ def chain_faults(records):
     return faults
 
 
+# The types of which a complete county has records, and of which of them that is that a fault of each code misses.
+COMPLETE = (("1", Chain), ("I", Sides), ("P", Polygon))
+MISSED = {2: "1", 5: "I", 6: "1", 9: "P", 11: "P"}
+
+
 def join_faults(records):
     """Each fault of types I, P, 7 and 8 beside the others."""
     chains = {it.tlid for it in records.of(Chain)}
@@ -1117,8 +1122,8 @@ def status_of(answer):
 class County:
     """The texts of a county's files, and what is asked of them."""
 
-    def __init__(self, texts, zero_cells=False, released=False, join=False):
-        self.texts, self.released, self.join, self.zero_cells = texts, released, join, zero_cells
+    def __init__(self, texts, zero_cells=False, released=False, join=False, complete=False):
+        self.texts, self.released, self.join, self.zero_cells, self.complete = texts, released, join, zero_cells, complete
         self.records = read(texts, zero_cells, released, join)
 
     @cached_property
@@ -1126,18 +1131,29 @@ class County:
         """The county of what is left where each refused line is emptied."""
         refused = {int(it.split(" ")[2]) for it in self.records.refusals}
         lines = enumerate(raw_lines(self.texts), 1)
-        return County([b"".join((b"" if number in refused else it) + b"\n" for number, it in lines)], self.zero_cells, self.released, self.join)
+        return County([b"".join((b"" if number in refused else it) + b"\n" for number, it in lines)], self.zero_cells, self.released, self.join, self.complete)
+
+    @cached_property
+    def lacking(self):
+        """The types of which records are asked for and there is none."""
+        return [name for name, kind in COMPLETE if not self.records.of(kind)] if self.complete else []
+
+    @property
+    def lack(self):
+        """The line of that, where there are none of some."""
+        return [" ".join(["map fault M14 NoRecords types", *self.lacking])] if self.lacking else []
 
     @cached_property
     def record_faults(self):
-        """Each fault of the records once, by code and then by numbers."""
+        """Each fault of the records once, by code and then by numbers; where there are none of some type, that in place of the faults
+        that miss one of it."""
         faults = {*chain_faults(self.records), *join_faults(self.records)}
-        return [str(it) for it in sorted(faults, key=lambda it: it.place)]
+        return [str(it) for it in sorted(faults, key=lambda it: it.place) if MISSED.get(it.code) not in self.lacking] + self.lack
 
     @property
     def faults(self):
-        """The first refused line, or each fault of the records."""
-        return [self.records.refusal] if self.records.refusal else self.record_faults
+        """The first refused line, or that there are no records of some type, or each fault of the records."""
+        return [self.records.refusal] if self.records.refusal else self.lack or self.record_faults
 
     @cached_property
     def map(self):
@@ -1268,7 +1284,7 @@ def asked(words, text_of):
         word = rest.pop(0)
         if word in ("--cert", "--tests", "--out", "--most", "--geojson") and rest:
             values[word] = rest.pop(0)
-        elif word in ("--zero-cells", "--released", "--all", "--where", "--join", "--skip-refused"):
+        elif word in ("--zero-cells", "--released", "--all", "--where", "--join", "--skip-refused", "--complete"):
             switches.add(word)
         elif word != "--":
             names.append(word)
@@ -1285,7 +1301,7 @@ def asked(words, text_of):
     if (is_more and command != "audit") or (most is not None and not (is_all and most.isdigit())):
         return None
     texts = [text_of(name) for name in names]
-    county = County(texts, "--zero-cells" in switches, "--released" in switches, "--join" in switches)
+    county = County(texts, "--zero-cells" in switches, "--released" in switches, "--join" in switches, "--complete" in switches)
     if command == "check":
         return county.check(text_of(values["--cert"]), int(values["--tests"]) if "--tests" in values else None)
     if is_more:

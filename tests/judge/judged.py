@@ -39,7 +39,7 @@ import rows
 CASES = 3_000
 # How many cases a process plays before it says how they went.
 SHARE = 50
-ROWS = ("all", "audit", "check", "fields", "landmarks", "locate", "show")
+ROWS = ("all", "audit", "check", "complete", "fields", "join", "landmarks", "locate", "show")
 # The rows' files above this many bytes are left to the program alone: the judge goes over all pairs of segments.
 MOST_BYTES = 60_000
 
@@ -96,17 +96,23 @@ class Table:
 def complaints(table, case, chance):
     """What is wrong with the program's answers to the case, one after the other: each with its words."""
     chance = random.Random(chance)
-    text = b"".join(case.lines)
-    switches = case.switches
+    lines, switches = case.lines, case.switches
+    is_complete = chance.random() < 0.15
+    if is_complete:
+        switches = [*switches, "--complete"]
+        # At times all records of some types are left out.
+        left_out = b"".join(chance.sample((b"1", b"2", b"I", b"P"), chance.choice((0, 1, 1, 2))))
+        lines = [it for it in lines if it[:1] not in left_out or not it[:1]]
+    text = b"".join(lines)
     at = chance.randrange(len(text) + 1)
     # Two files are read as one text with a line feed between them.
     texts = [text[:at], text[at:]] if chance.random() < 0.1 else [text]
     names = [f"records{number}" for number in range(len(texts))]
     for name, part in zip(names, texts):
         table.lay(name, part)
-    county = judge.County(texts, "--zero-cells" in switches, "--released" in switches)
-    # The other commands read no zero-cell ids.
-    others = judge.County(texts, released="--released" in switches) if "--zero-cells" in switches else county
+    county = judge.County(texts, "--zero-cells" in switches, "--released" in switches, complete=is_complete)
+    # The other commands read no zero-cell ids, and ask for no records.
+    others = judge.County(texts, released="--released" in switches) if "--zero-cells" in switches or is_complete else county
     reading = [it for it in switches if it == "--released"]
 
     def wrong(opinion, *words):
@@ -130,7 +136,7 @@ def complaints(table, case, chance):
     faults = county.drawn_faults(names_of_parts, parts)
     if faults.are_clear:
         yield from placed_complaints(table, chance, county, faults, listed, wrong, [*switches, *names_of_parts])
-    if case.is_town and not county.report and len(texts) == 1:
+    if case.is_town and not is_complete and not county.report and len(texts) == 1:
         yield f"a town that was drawn to be sound isn't: {county.faults or county.map_faults}"
     made = table.folder / "made"
     made.unlink(missing_ok=True)

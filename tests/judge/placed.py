@@ -7,6 +7,7 @@ once more here, each file by itself; none of them is refused.
 """
 
 import json
+from collections import Counter
 from dataclasses import dataclass
 from fractions import Fraction
 from functools import cached_property
@@ -84,9 +85,10 @@ def shown(data):
 
 
 def shown_name(name):
-    """A file's name as it is shown: control characters and the backslash are escaped, and stand on one line."""
-    data = name.encode(errors="surrogateescape")
-    return b"".join(b"\\x%02x" % it if it < 32 or it in b"\x7f\\" else bytes([it]) for it in data)
+    """A file's name as it is shown: the bytes of control characters and of the backslash are escaped, and stand on one line."""
+    hidden = {*range(0x20), *range(0x7F, 0xA0), ord("\\")}
+    told = ((it.encode(errors="surrogateescape"), ord(it) in hidden) for it in name)
+    return b"".join(b"".join(b"\\x%02x" % byte for byte in data) if is_hidden else data for data, is_hidden in told)
 
 
 def columns_of(line, field, released):
@@ -161,15 +163,32 @@ class Spoken:
         return {"file": self.line.file, "line": self.line.number, "type": self.line.kind, **more}
 
 
-def of_segment(lines, tlid, segment):
-    """The lines that hold the ends of the chain's segment with this number, counted from 0, with these ends: in the order of the files."""
-    of_chain = [it for it in lines if it.kind in "12" and it.tlid == tlid]
-    ends = [(it, *held) for it in of_chain if it.kind == "1" for held in it.held]
-    shapes = sorted((it for it in of_chain if it.kind == "2"), key=lambda it: it.rtsq)
+def tellings_of(lines):
+    """The lines of a chain, apart by the county that tells them: of those of one type and RTSQ the first is one county's, and the
+    second the other's."""
+    told, seen = {}, Counter()
+    for it in lines:
+        told.setdefault(seen[it.kind, it.rtsq], []).append(it)
+        seen[it.kind, it.rtsq] += 1
+    return list(told.values())
+
+
+def in_telling(lines, segment):
+    """Of a chain's lines as one county tells it those that hold the ends of this segment, each with the ends that it holds."""
+    ends = [(it, *held) for it in lines if it.kind == "1" for held in it.held]
+    shapes = sorted((it for it in lines if it.kind == "2"), key=lambda it: it.rtsq)
     points = [ends[0], *[(it, *held) for it in shapes for held in it.held], ends[1]]
     joined = [it for it in zip(points, points[1:]) if it[0][2] != it[1][2]][segment]
-    found = sorted({(it[0].file, it[0].number): it[0] for it in joined}.values(), key=lambda line: lines.index(line))
-    return [Spoken(line, segment, tuple(end for at, end, _ in joined if at == line)) for line in found]
+    found = list({(it[0].file, it[0].number): it[0] for it in joined}.values())
+    return [Spoken(line, segment, tuple(end for at, end, _ in joined if at is line)) for line in found]
+
+
+def of_segment(lines, tlid, segment):
+    """The lines that hold the ends of the chain's segment with this number, counted from 0, with these ends, by each county that tells
+    the chain: in the order of the files."""
+    tellings = tellings_of(it for it in lines if it.kind in "12" and it.tlid == tlid)
+    places = {id(line): place for place, line in enumerate(lines)}
+    return sorted((it for told in tellings for it in in_telling(told, segment)), key=lambda it: places[id(it.line)])
 
 
 def degrees(value, places):

@@ -149,6 +149,7 @@ module _ (name : List ℕ) (m : TheMap) (named : IsName name) (readable : IsRead
   drawn_map = record {
     no_refusal = read.refusal;
     no_fault = none;
+    none_lacking = refl;
     map = subst (λ rs. IsMapOf rs (map_with name (told m.chains) m.polygons)) (sym read.entries) (is_map name (told m.chains) m.polygons rise tellable);
     skipped_lines = sym read.skipped;
   }

@@ -16,7 +16,7 @@ use Rattle.tigertopo_border.specs.Parts.{all_records, HaveNoFaultButMany}
 
 -- these options, with chains joined that two counties tell
 abbrev pub joining : Options → Options
-joining options = record { zero_cells = options.zero_cells; released = options.released; faces = options.faces; join = true }
+joining options = record options { join = true }
 
 -- the records of a text's lines, each as it stands
 abbrev pub line_records : Options → List ℕ → List Record

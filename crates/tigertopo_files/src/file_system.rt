@@ -98,6 +98,10 @@ pub trait FileSystem {
             (all_names (map string_bytes names.now) (option_map (λ name. string_bytes name.now) single.entry))
             (Q.answers reading.now known alone) (Q.stops reading.now known alone) result };
 
+    /// Whether it may be that no line that was read begins as a record of type 1 does. Where it isn't followed what is read, it may.
+    fn may_lack_chains(&self) -> bool
+        ensures { knows ≡ true → result ≡ true };
+
     /// Why the file of a name can't be opened or read, in the system's words, and `None` where it can be. The error is that
     /// memory was refused.
     fn trouble(&self, alloc: Global, name: &str) -> Result<Option<String>, AllocError>

@@ -4,7 +4,7 @@
 -- 111132.954 - 559.822 cos 2φ metres to the north, and 111412.84 cos φ - 93.5 cos 3φ metres to the east. With c = cos φ these are
 -- 111692.78 - 1119.64 c² and c (111693.34 - 374.00 c²). At that latitude a square degree is so right to two hundred-thousandths
 -- up to 72 degrees, and to two thousandths up to 89.
-use Rattle.std.specs.Prelude.{ℕ, ◌+◌, ◌-◌, ◌*◌, ◌/◌, min, ℤ, pos, unsigned_abs, int_lt, List, ◌++◌, decimal}
+use Rattle.std.specs.Prelude.{ℕ, ◌+◌, ◌-◌, ◌*◌, ◌/◌, ◌==◌, ◌&&◌, not, Bool, min, ℤ, pos, unsigned_abs, int_lt, List, ◌++◌, decimal}
 use Rattle.tigertopo_geojson.specs.Positions.{sign_text}
 
 -- so many thousand-millionths of a number
@@ -35,10 +35,14 @@ square_degree c = part_of c (north (part_of c c) * east (part_of c c))
 abbrev pub distance : ℤ → ℕ
 distance y = min (unsigned_abs y) 90000000
 
--- an area in square metres, to the nearest, of which this is twice the size in square millionths of a degree
+-- an area in square metres by that square degree, as a whole number, of which this is twice the size in square millionths of a degree
 abbrev pub metres : (size : ℕ) → (latitude : ℤ) → ℕ
 metres size y = (size * square_degree (cosine (squared (distance y))) + 10000000000000000) / 20000000000000000
 
--- the same with a sign
+-- is it told with a sign: it is below 0, and isn't told as 0
+abbrev pub has_sign : (doubled : ℤ) → (whole : ℕ) → Bool
+has_sign doubled whole = int_lt doubled (pos 0) && not (whole == 0)
+
+-- the same as it is told
 abbrev pub metres_text : (doubled latitude : ℤ) → List ℕ
-metres_text doubled y = sign_text (int_lt doubled (pos 0)) ++ decimal (metres (unsigned_abs doubled) y)
+metres_text doubled y = let whole = metres (unsigned_abs doubled) y in sign_text (has_sign doubled whole) ++ decimal whole

@@ -2,7 +2,7 @@
 
 ghost use Rattle.std.specs.Prelude.{◌≡◌, ◌*◌, ◌+◌, ◌/◌, ◌<◌, ◌≤◌, ◌^◌, unsigned_abs};
 ghost use Rattle.tl_cert_output.specs.Printing.{Prints};
-ghost use Rattle.tigertopo_geojson.specs.Metres.{part_of, squared, cosine, north, east, square_degree, distance, metres, metres_text};
+ghost use Rattle.tigertopo_geojson.specs.Metres.{part_of, squared, cosine, north, east, square_degree, distance, metres, has_sign, metres_text};
 
 use crate::positions::sign;
 use tl_cert_output::Printer;
@@ -15,13 +15,21 @@ const UNIT: u64 = 1_000_000_000;
 // So many square millionths of a degree, by ten-thousandths of a square metre, make two square metres.
 const TWO: u128 = 20_000_000_000_000_000;
 
-/// Prints an area in square metres, rounded, of which this is twice the size in square millionths of a degree, about this point.
+/// Prints an area in square metres, as a whole number, of which this is twice the size in square millionths of a degree, about this point.
 pub fn print_metres<S: Sink>(doubled: i128, about: Point, printer: &mut Printer, out: &mut S)
     requires { unsigned_abs doubled < 2 ^ 127 }
     ensures { Prints S.contents S.failure_count (out.old, printer.old) (out.new, printer.new) (metres_text doubled about.y) }
 {
-    printer.add(sign(doubled < 0), out);
-    printer.number(metres(doubled.unsigned_abs(), about), out);
+    let whole = metres(doubled.unsigned_abs(), about);
+    printer.add(sign(has_sign(doubled, whole)), out);
+    printer.number(whole, out);
+}
+
+// Whether an area is told with a sign: it is below 0, and isn't told as 0.
+fn has_sign(doubled: i128, whole: u128) -> bool
+    ensures { result ≡ has_sign doubled whole }
+{
+    doubled < 0 && whole != 0
 }
 
 // An area in square metres, rounded.

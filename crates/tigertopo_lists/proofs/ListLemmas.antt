@@ -64,7 +64,7 @@ use Rattle.tigertopo_lists.specs.declared.listed.Listed.TheVariants.{Listing, Li
 use Rattle.tigertopo_lists.specs.Listed.{Asked, ListAnswers, IsSoundList, IsFaultList, StopsList, StopsAgain, has_places, listed_text, most_of, told_text, featured, reads_again, refused_form, refusals_last, is_skipping, stops_refused}
 use Rattle.tigertopo_lists.specs.Listed.{AreRefused}
 use Rattle.tigertopo_lists.specs.Listed.{refused_text as refused_collection}
-use Rattle.tigertopo_lists.specs.Keeping.{AnswersFound, AreFeatures, ArePrepared, IsLeftPrepared, IsPrepared, IsRefusedList, first_stop, faults_answer, sought_lines}
+use Rattle.tigertopo_lists.specs.Keeping.{AnswersFound, AreFeatures, ArePrepared, IsLeftPrepared, IsPrepared, IsRefusedList, IsFirstStop, faults_answer, sought_lines}
 
 -- ---- what is done with files
 
@@ -294,21 +294,24 @@ module _ (options : Options) (known : Option (List ℕ)) (asked : Asked) where
 
   -- lines are refused
   module _ (w : World) (list : Vec Refusal Global) (are : IfSome known (λ text. IsListingOf options text (Refused list))) where
-    first_stops : (refusals : List Refusal) → stops_refused asked.told asked.form ≡ true → list.items ≡ refusals → MayStop (StopsList w options known asked) (first_stop refusals)
-    first_stops [] one is = tt
-    first_stops (refusal ∷ rest) one is = (
+    first_stops : (refusals : List Refusal) (stop : Stop) → stops_refused asked.told asked.form ≡ true → list.items ≡ refusals → IsFirstStop refusals stop
+        → MayStop (StopsList w options known asked) stop
+    first_stops [] stop one is first = absurd first
+    first_stops (refusal ∷ rest) stop one is first = subst (MayStop (StopsList w options known asked)) (sym first) (
       one,
       IfSome_then known are (λ text lists. sym (first_is (layout_with options) text) ∙ sym (ap (λ rs. slice_get rs 0) (ap (map pair_of) (sym is) ∙ lists.1))),
     )
 
-    no_device : (refusals : List Refusal) → first_stop refusals ≡ Device → StopsList w options known asked Device
-    no_device [] is = absurd (cc)
-    no_device (refusal ∷ rest) is = absurd (cc)
+    no_device : (refusals : List Refusal) (stop : Stop) → IsFirstStop refusals stop → stop ≡ Device → StopsList w options known asked Device
+    no_device [] stop first is = absurd first
+    no_device (refusal ∷ rest) stop first is = absurd (let wrong = sym first ∙ is in cc)
 
     -- one alone as a line is a stop
     pub first_refused : (same : w.after ≡ w.before) (logs : w.knows ≡ true → w.logged ≡ w.log) → stops_refused asked.told asked.form ≡ true
-        → Does {T = Answer Listed} w [] asked.made (λ answer. ListAnswers w options known asked answer.status (listed_text answer.text)) (StopsList w options known asked) (Err (first_stop list.items))
-    first_refused same logs one = stops_still w same logs asked.made _ (StopsList w options known asked) (first_stop list.items) (first_stops list.items one refl) (no_device list.items)
+        → (stop : Stop) → IsFirstStop list.items stop
+        → Does {T = Answer Listed} w [] asked.made (λ answer. ListAnswers w options known asked answer.status (listed_text answer.text)) (StopsList w options known asked) (Err stop)
+    first_refused same logs one stop first =
+        stops_still w same logs asked.made _ (StopsList w options known asked) stop (first_stops list.items stop one refl first) (no_device list.items stop first)
 
     -- they are told with where they stand
     told_where : (features told : List (List ℕ)) → (is_some asked.made ≡ true → TellsPlaces RefusedFeatures (layout_with options) w.before asked.names (featured asked.told list.items) features)

@@ -7,7 +7,7 @@ use Rattle.tigertopo_words.specs.declared.budget.Told.TheVariants.{One, All}
 use Rattle.tl_check_verdict.specs.declared.fault.MapFault.{MapFault}
 use Rattle.tl_record.specs.declared.refusal.Refusal.{Refusal}
 use Rattle.tl_cert_output.specs.declared.stop.Stop.{Stop}
-use Rattle.tl_cert_output.specs.declared.stop.Stop.TheVariants.{Record, Memory}
+use Rattle.tl_cert_output.specs.declared.stop.Stop.TheVariants.{Record}
 use Rattle.tl_list_text.specs.declared.listing.Listing.TheVariants as listing
 use Rattle.tigertopo_faults.specs.declared.lines.again.Spoken.{Spoken}
 use Rattle.tigertopo_outcome.specs.declared.said.Answer.{Answer}
@@ -43,9 +43,9 @@ IsPrepared names chains spoken form told faults touched (Some text) = text.items
 IsPrepared names chains spoken form told faults touched None = (form ≡ Lines) × ((most : Option ℕ) × (skips : Bool) × (told ≡ All most skips))
 
 -- why there is no answer, where these lines are refused: the first of them
-abbrev pub first_stop : List Refusal → Stop
-first_stop [] = Memory
-first_stop (refusal ∷ rest) = Record refusal.line refusal.cause
+abbrev pub IsFirstStop : List Refusal → Stop → Type 0
+IsFirstStop [] stop = ⊥
+IsFirstStop (refusal ∷ rest) stop = stop ≡ Record refusal.line refusal.cause
 
 -- what was prepared of faults, or the listing of them
 abbrev pub faults_answer : Option (Vec ℕ Global) → Vec MapFault Global → ℕ → Told → Answer Listed

@@ -3,7 +3,7 @@
 ghost use Rattle.std.specs.Prelude.{◌≡◌, [], ℕ, List, Option, None, true, IfOk, map as map_list, option_map, string_bytes};
 ghost use Rattle.tl_record.specs.declared.options.Options.{Options};
 ghost use Rattle.tl_record.specs.Layout.{layout_with};
-ghost use Rattle.tl_list.specs.Findings.{IsFoundIn};
+ghost use Rattle.tl_list.specs.Findings.{IsFoundIn, SaysWhy};
 ghost use Rattle.tigertopo_files.specs.World.{Does, MayMake, world};
 ghost use Rattle.tigertopo_files.specs.declared.beginning.FileKind.TheVariants.{Collection};
 ghost use Rattle.tigertopo_files.specs.Reading.{text_under};
@@ -104,7 +104,8 @@ fn tell_found<F: FileSystem>(
     wanted: Wanted<'_>,
     found: Found,
 ) -> Result<Answer<Listed>, Stop>
-    requires { MayMake (F.under files.old) (option_map string_bytes wanted.made.now) (map_list string_bytes names.now) Collection }
+    requires why { SaysWhy found.whole.map found.whole.listing }
+    requires made { MayMake (F.under files.old) (option_map string_bytes wanted.made.now) (map_list string_bytes names.now) Collection }
     ensures { (known : Option (List ℕ)) → IsFoundIn options (is_skipping wanted.entry.told) known found →
         let w = world F.under F.log F.knows files.old files.new in
         let asked = wanted_of (map_list string_bytes names.now) wanted.entry in

@@ -1,6 +1,6 @@
 //! Lines that are refused, as they are answered, and the file of them.
 
-ghost use Rattle.std.specs.Prelude.{◌≡◌, ◌++◌, [], ℕ, List, Option, None, true, false, IfOk, IfErr, IfSome};
+ghost use Rattle.std.specs.Prelude.{◌≡◌, ◌<◌, ◌++◌, [], ℕ, List, Option, None, true, false, IfOk, IfErr, IfSome};
 ghost use Rattle.std.specs.Prelude.{length, map as map_list, option_map, is_some, string_bytes};
 ghost use Rattle.tl_record.specs.Layout.{layout_with};
 ghost use Rattle.tl_cert_output.specs.Stops.{StopsFor};
@@ -16,7 +16,7 @@ ghost use Rattle.tigertopo_files.specs.declared.beginning.FileKind.TheVariants.{
 ghost use Rattle.tl_list.specs.Findings.{IsLeft};
 ghost use Rattle.tigertopo_lists.specs.Listed.{ListAnswers, StopsList, has_places, listed_text};
 ghost use Rattle.tigertopo_lists.specs.Listed.{is_skipping, reads_again, refusals_last, refused_form, stops_refused, wanted_of};
-ghost use Rattle.tigertopo_lists.specs.Keeping.{AnswersFound, ArePrepared, ArePreparedOf, first_stop};
+ghost use Rattle.tigertopo_lists.specs.Keeping.{AnswersFound, ArePrepared, ArePreparedOf, IsFirstStop};
 
 use crate::collection::make_without_faults;
 use crate::listed::Listed;
@@ -50,7 +50,8 @@ pub(crate) fn tell_refused<F: FileSystem>(
     list: Vec<Refusal>,
     left: Option<LeftFaults>,
 ) -> Result<Answer<Listed>, Stop>
-    requires { MayMake (F.under files.old) (option_map string_bytes wanted.made.now) (map_list string_bytes names.now) Collection }
+    requires some { 0 < length list.items }
+    requires made { MayMake (F.under files.old) (option_map string_bytes wanted.made.now) (map_list string_bytes names.now) Collection }
     ensures { (known : Option (List ℕ)) → IfSome known (λ text. IsListingOf options text (RefusedLines list))
         → IsLeft options (is_skipping wanted.entry.told) known (RefusedLines list) left →
         let w = world F.under F.log F.knows files.old files.new in
@@ -258,15 +259,16 @@ fn refusals_last(form: Form, most: Option<u64>, count: u64, printed: u64) -> Arr
     }
 }
 
-// Why there is no answer, where these lines are refused: the first of them. There is one.
+// Why there is no answer, where these lines are refused: the first of them.
 fn first_stop(list: &[Refusal]) -> Stop
-    ensures { result ≡ first_stop list.now }
+    requires { 0 < length list.now }
+    ensures { IsFirstStop list.now result }
 {
     match list {
         [refusal, ..] => Stop::Record {
             line: refusal.line,
             cause: refusal.cause,
         },
-        [] => Stop::Memory,
+        [] => unreachable!(),
     }
 }

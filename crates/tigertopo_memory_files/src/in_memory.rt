@@ -212,6 +212,11 @@ impl FileSystem for FilesInMemory {
         read_each_again(self, alloc, names, single, reading)
     }
 
+    // What is read isn't followed.
+    fn may_lack_chains(&self) -> bool {
+        true
+    }
+
     fn trouble(&self, alloc: Global, name: &str) -> Result<Option<String>, AllocError> {
         match self.bytes(name) {
             Some(_) => Ok(None),

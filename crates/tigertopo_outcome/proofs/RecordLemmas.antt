@@ -21,7 +21,8 @@ of_stop : (layout : Layout) (known : Option (List ℕ)) (sought : RecordFault �
 of_stop layout known sought map_stop.Device stops of = tt
 of_stop layout known sought map_stop.Memory stops of = tt
 of_stop layout known sought (map_stop.Refused line cause) stops of = tt
-of_stop layout known sought (map_stop.Fault fault) stops of = record { of_records = fault; is = refl; of = of; holds = stops }
+of_stop layout known sought (map_stop.Fault fault) stops of = (of, stops)
+of_stop layout known sought (map_stop.NoRecords lacking) stops of = stops
 
 -- the fault of records that have no map is theirs
 pub fault_of : (layout : Layout) (known : Option (List ℕ)) (sought : RecordFault → Type 0) (stop : MapStop) (fault : TheMapFault) → Ok fault ≡ unmapped stop
@@ -33,6 +34,7 @@ any_fault map_stop.Device = tt
 any_fault map_stop.Memory = tt
 any_fault (map_stop.Refused line cause) = tt
 any_fault (map_stop.Fault fault) = tt
+any_fault (map_stop.NoRecords lacking) = tt
 
 -- it is told by its line
 pub tells_fault : (layout : Layout) (known : Option (List ℕ)) (sought : RecordFault → Type 0) (fault : TheMapFault) → IsOfRecords layout known sought fault

@@ -12,7 +12,7 @@ use Rattle.tigertopo_outcome.specs.declared.outcome.Outcome.TheVariants.{Verdict
 
 -- the counts of a conversion
 abbrev pub counts_text : ℕ → ℕ → ℕ → List ℕ
-counts_text nodes rounds walks = codes "converted nodes=" ++ decimal nodes ++ codes " rounds=" ++ decimal rounds ++ codes " walks=" ++ decimal walks
+counts_text nodes rounds walks = codes "converted nodes=" ++ (decimal nodes ++ (codes " rounds=" ++ (decimal rounds ++ (codes " walks=" ++ decimal walks))))
 
 -- the numbers of chains and of polygons that were exported, and that of rings; where there is none, that the map isn't sound
 abbrev pub exported_text : ℕ → ℕ → Option ℕ → List ℕ

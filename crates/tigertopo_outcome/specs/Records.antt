@@ -2,7 +2,7 @@
 --
 -- `layout` is the column table that the records are read by, and `options` what is asked of them; `known` is the text of the record
 -- files, where it is known, and `spelt` that of the certificate.
-use Rattle.std.specs.Prelude.{◌≡◌, ◌↔◌, ◌≤◌, ℕ, Bool, List, Option, None, Some, IfSome, Ok}
+use Rattle.std.specs.Prelude.{◌≡◌, ◌↔◌, ◌≤◌, ℕ, Bool, true, List, Option, None, Some, IfSome, Ok}
 use Rattle.tl_record.specs.declared.stop.Cause.{Cause}
 use Rattle.tl_record.specs.declared.layout.Layout.{Layout}
 use Rattle.tl_record.specs.declared.options.Options.{Options}
@@ -10,14 +10,16 @@ use Rattle.tl_record.specs.Layout.{layout_with}
 use Rattle.tl_record.specs.Records.{records_of}
 use Rattle.tl_map_rules.specs.declared.fault.RecordFault.{RecordFault}
 use Rattle.tl_map_rules.specs.Faults.{IsTrueOf}
-use Rattle.tl_map_rules.specs.Reading.{IsReadFrom, records_in}
+use Rattle.tl_map_rules.specs.declared.lacking.Lacking.{Lacking}
+use Rattle.tl_map_rules.specs.Lacking.{lacks}
+use Rattle.tl_map_rules.specs.Reading.{IsReadFrom, records_in, lacking_of}
 use Rattle.tl_map_county.specs.TheMap.{TheMap}
 use Rattle.tl_cert_output.specs.declared.stop.Stop.{Stop}
 use Rattle.tl_cert_output.specs.declared.stop.Stop.TheVariants.{Record, Budget}
 use Rattle.tl_check_planar.specs.Planar.{IsPlanar}
 use Rattle.tl_check_planar.specs.Searching.{meeting_segments, AreBeyond}
 use Rattle.tl_check_verdict.specs.declared.fault.MapFault.{MapFault as TheMapFault}
-use Rattle.tl_check_verdict.specs.declared.fault.MapFault.TheVariants.{Records}
+use Rattle.tl_check_verdict.specs.declared.fault.MapFault.TheVariants.{Records, NoRecords, Meet, Side, PolygonPoint, Cell, Face}
 use Rattle.tl_check_verdict.specs.declared.fault.CertFault.{CertFault as TheCertFault}
 use Rattle.tl_check_verdict.specs.declared.verdict.Report.{Report}
 use Rattle.tl_check_verdict.specs.declared.verdict.Verdict.{Verdict}
@@ -36,12 +38,19 @@ HasFault layout text fault = ((records_of layout text).refusal ≡ None) × IsTr
 abbrev pub IsFirstRefusal : Layout → List ℕ → ℕ → Cause → Type 0
 IsFirstRefusal layout text line cause = (records_of layout text).refusal ≡ Some (line, cause)
 
--- the fault is one of the records, of those that are sought, and they have it
-pub record IsOfRecords (layout : Layout) (known : Option (List ℕ)) (sought : RecordFault → Type 0) (fault : TheMapFault) : Type 0 where
-  pub of_records : RecordFault
-  pub is : fault ≡ Records of_records
-  pub of : sought of_records
-  pub holds : IfSome known (λ text. HasFault layout text of_records)
+-- no line of the text is refused, and of these types it has no record, where records of each are asked for
+abbrev pub LacksRecords : Layout → List ℕ → Lacking → Type 0
+LacksRecords layout text lacking = ((records_of layout text).refusal ≡ None) × (lacking ≡ lacking_of (records_of layout text)) × (lacks lacking ≡ true)
+
+-- the fault is one of the records, of those that are sought, and they have it; or that there are none of some type
+abbrev pub IsOfRecords : Layout → Option (List ℕ) → (sought : RecordFault → Type 0) → TheMapFault → Type 0
+IsOfRecords layout known sought (Records fault) = sought fault × IfSome known (λ text. HasFault layout text fault)
+IsOfRecords layout known sought (NoRecords lacking) = IfSome known (λ text. LacksRecords layout text lacking)
+IsOfRecords layout known sought (Meet meet) = ⊥
+IsOfRecords layout known sought (Side node first next) = ⊥
+IsOfRecords layout known sought (PolygonPoint fault) = ⊥
+IsOfRecords layout known sought (Cell odds) = ⊥
+IsOfRecords layout known sought (Face fault) = ⊥
 
 -- why records aren't read, but for want of memory and for a device that failed: this line is the first that is refused
 abbrev pub StopsRecords : Layout → Option (List ℕ) → Stop → Type 0

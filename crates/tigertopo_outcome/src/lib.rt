@@ -8,6 +8,7 @@
 #![tactic(auto)]
 
 pub mod convert;
+mod line;
 pub mod outcome;
 pub mod reading;
 pub mod records;

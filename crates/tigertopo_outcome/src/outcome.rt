@@ -1,7 +1,6 @@
 //! Answers that are one line.
 
 use crate::stop::{CERT_FAULT, DONE, MAP_FAULT};
-use std::fmt;
 use tl_check_verdict::{MapFault, Report, Verdict};
 
 /// What came of a command, where that is told by one line.
@@ -75,100 +74,5 @@ impl Outcome {
             Outcome::Built(_) | Outcome::Converted(_) | Outcome::Exported(_) => DONE,
             Outcome::Drawn(_) | Outcome::Bordered(_) => DONE,
         }
-    }
-}
-
-impl fmt::Display for Outcome {
-    ghost use Rattle.std.specs.Prelude.{Some};
-    ghost use Rattle.tigertopo_outcome.specs.Outcomes.{outcome_text};
-
-    ghost output = { λ outcome. Some (outcome_text outcome) };
-
-    fn fmt<W: fmt::Write>(&self, f: &mut fmt::Formatter<W>) -> fmt::Result {
-        match self {
-            Outcome::Verdict(Verdict::Sound(report)) => write!(f, "sound {report}"),
-            Outcome::Verdict(Verdict::MapFault(fault)) => fault.fmt(f),
-            Outcome::Verdict(Verdict::CertFault(fault)) => fault.fmt(f),
-            Outcome::Built(report) => write!(f, "built {report}"),
-            Outcome::Converted(counts) => counts.fmt(f),
-            Outcome::Exported(exported) => exported.fmt(f),
-            Outcome::Drawn(drawn) => drawn.fmt(f),
-            Outcome::Bordered(bordered) => bordered.fmt(f),
-        }
-    }
-}
-
-impl fmt::Display for Converted {
-    ghost use Rattle.std.specs.Prelude.{Some};
-    ghost use Rattle.tigertopo_outcome.specs.Outcomes.{counts_text};
-
-    ghost output = { λ counts. Some (counts_text counts.nodes counts.rounds counts.walks) };
-
-    fn fmt<W: fmt::Write>(&self, f: &mut fmt::Formatter<W>) -> fmt::Result {
-        write!(
-            f,
-            "converted nodes={} rounds={} walks={}",
-            self.nodes, self.rounds, self.walks
-        )
-    }
-}
-
-impl fmt::Display for Exported {
-    ghost use Rattle.std.specs.Prelude.{Some};
-    ghost use Rattle.tigertopo_outcome.specs.Outcomes.{exported_text};
-
-    ghost output = { λ exported. Some (exported_text exported.chains exported.polygons exported.rings) };
-
-    fn fmt<W: fmt::Write>(&self, f: &mut fmt::Formatter<W>) -> fmt::Result {
-        match self.rings {
-            Some(rings) => write!(
-                f,
-                "exported chains={} polygons={} rings={rings}",
-                self.chains, self.polygons
-            ),
-            None => write!(
-                f,
-                "exported chains={} polygons={}\nnot sound",
-                self.chains, self.polygons
-            ),
-        }
-    }
-}
-
-impl fmt::Display for Drawn {
-    ghost use Rattle.std.specs.Prelude.{Some};
-    ghost use Rattle.tigertopo_outcome.specs.Outcomes.{drawn_text};
-
-    ghost output = { λ drawn. Some (drawn_text drawn.chains drawn.faults drawn.touched) };
-
-    fn fmt<W: fmt::Write>(&self, f: &mut fmt::Formatter<W>) -> fmt::Result {
-        match self.faults {
-            Some(faults) if self.touched == 0 => write!(
-                f,
-                "drawn chains={} faults={faults}",
-                self.chains
-            ),
-            Some(faults) => write!(
-                f,
-                "drawn chains={} faults={faults} touched polygons={} not looked at",
-                self.chains, self.touched
-            ),
-            None => write!(f, "drawn chains={}", self.chains),
-        }
-    }
-}
-
-impl fmt::Display for Bordered {
-    ghost use Rattle.std.specs.Prelude.{Some};
-    ghost use Rattle.tigertopo_outcome.specs.Outcomes.{bordered_text};
-
-    ghost output = { λ bordered. Some (bordered_text bordered.chains bordered.segments) };
-
-    fn fmt<W: fmt::Write>(&self, f: &mut fmt::Formatter<W>) -> fmt::Result {
-        write!(
-            f,
-            "bordered chains={} segments={}",
-            self.chains, self.segments
-        )
     }
 }

@@ -5,13 +5,16 @@ ghost use Rattle.tl_geom.specs.declared.point.Point.{Point};
 ghost use Rattle.tl_check_inside.specs.Places.{IsPlaceOf};
 ghost use Rattle.tl_cert_output.specs.Printing.{Prints};
 ghost use Rattle.tl_cert_output.specs.Texts.{PrintsText};
+ghost use Rattle.tl_cert_output.specs.Writing.{line_of};
 ghost use Rattle.tigertopo_text.specs.Printing.{shown_text, listing_text};
+ghost use Rattle.tigertopo_outcome.specs.Outcomes.{outcome_text};
 ghost use Rattle.tigertopo_outcome.specs.Places.{place_text};
 
+use crate::line::add_outcome;
 use crate::outcome::Outcome;
 use std::alloc::Global;
 use tigertopo_text::{print_chains, print_inside, print_landmarks, print_on_chain};
-use tl_cert_output::{Line, Printer, Stop, Text};
+use tl_cert_output::{Printer, Stop, Text};
 use tl_check_inside::Place;
 use tl_map_county::{Chains, Map};
 use tl_record::Sink;
@@ -57,12 +60,12 @@ impl Text for Said {
 
     ghost is_ready = { is_ready };
 
-    fn print<S: Sink>(&self, alloc: Global, out: &mut S) -> Result<(), Stop> {
+    fn print<S: Sink>(&self, _alloc: Global, out: &mut S) -> Result<(), Stop> {
         match self {
             Said::Chains(chains) => print_all_chains(chains, out),
             Said::Landmarks(map) => print_all_landmarks(map, out),
             Said::Place { map, place } => print_place(map, place, out),
-            Said::Outcome(outcome) => Line { value: *outcome }.print(alloc, out),
+            Said::Outcome(outcome) => print_outcome(outcome, out),
         }
     }
 }
@@ -80,6 +83,14 @@ fn print_all_landmarks<W: Sink>(map: &Map, out: &mut W) -> Result<(), Stop>
 {
     let mut printer = Printer::new();
     print_landmarks(map, &mut printer, out);
+    printer.finish(out)
+}
+
+fn print_outcome<W: Sink>(outcome: &Outcome, out: &mut W) -> Result<(), Stop>
+    ensures { PrintsText W.contents W.failure_count out.old out.new (line_of (outcome_text outcome.now)) result }
+{
+    let mut printer = Printer::new();
+    add_outcome(outcome, &mut printer, out);
     printer.finish(out)
 }
 

@@ -3,3 +3,5 @@ pub mod ReadingLemmas
 pub mod WalkLemmas
 pub mod WalkedLemmas
 pub mod SegmentLemmas
+pub mod TellingLemmas
+pub mod OrderLemmas

@@ -9,7 +9,7 @@ use Rattle.tigertopo_records.specs.declared.line.RecordLine.{RecordLine}
 use Rattle.tigertopo_records.specs.declared.walk.HeldPoint.{HeldPoint}
 use Rattle.tigertopo_records.specs.declared.walk.HeldSegment.{HeldSegment}
 use Rattle.tigertopo_records.specs.declared.walk.Walk.{Walk}
-use Rattle.tigertopo_records.specs.Ends.{pair_held, pairs_held, pairs_in, held_from, pairs_from, segments_from}
+use Rattle.tigertopo_records.specs.Ends.{told, pair_held, pairs_held, pairs_in, held_in, pairs_from, segments_from}
 use Rattle.tigertopo_records.specs.Walking.{going}
 
 -- the same is found in the end along these points, and others behind them
@@ -22,38 +22,27 @@ goes_on : (points more : List HeldPoint) (all : List HeldPoint) (first old new :
 goes_on points more all first old new before passes rest =
     passes (more ++ rest) ∙ ap (going old) (sym (append_assoc points more rest)) ∙ before rest
 
--- one line more
-pub goes_line : (points : ℕ → Record → List HeldPoint) (lines : List RecordLine) (i : ℕ) (line : RecordLine) (all : List HeldPoint) (first old new : Walk) → i < length lines → line ≡ get_or lines i line
-    → Goes old (held_from points i (drop i lines)) first all → ((rest : List HeldPoint) → going new rest ≡ going old (points i line.holds ++ rest))
-    → Goes new (held_from points (i + 1) (drop (i + 1) lines)) first all
-goes_line points lines i line all first old new within at before passes =
-    let here : drop i lines ≡ line ∷ drop (i + 1) lines = drop_more lines i line within ∙ ap (λ (l : RecordLine). l ∷ drop (i + 1) lines) (sym at) in
-    goes_on (points i line.holds) (held_from points (i + 1) (drop (i + 1) lines)) all first old new
-    (λ rest. ap (λ (ls : List RecordLine). going old (held_from points i ls ++ rest)) (sym here) ∙ before rest) passes
-
 past : {A : Type 0} (xs : List A) (i : ℕ) → length xs ≤ i → drop i xs ≡ []
 past [] zero out = refl
 past [] (suc i) out = refl
 past (x ∷ xs) zero out = absurd (omega arith)
 past (x ∷ xs) (suc i) out = past xs i (omega arith)
 
-pub goes_all : (points : ℕ → Record → List HeldPoint) (lines : List RecordLine) (i : ℕ) (all : List HeldPoint) (first last : Walk) → length lines ≤ i
-    → Goes last (held_from points i (drop i lines)) first all → (rest : List HeldPoint) → going last rest ≡ going first (all ++ rest)
-goes_all points lines i all first last out goes rest = ap (λ (ls : List RecordLine). going last (held_from points i ls ++ rest)) (sym (past lines i out)) ∙ goes rest
-
 -- one RTSQ more
-pub goes_number : (lines : List RecordLine) (count i : ℕ) (all : List HeldPoint) (first old new : Walk) → i < count → Goes old (pairs_from lines (count - i) (i + 1)) first all
-    → ((rest : List HeldPoint) → going new rest ≡ going old (held_from (pairs_in (i + 1)) 0 lines ++ rest)) → Goes new (pairs_from lines (count - (i + 1)) (i + 1 + 1)) first all
-goes_number lines count i all first old new within before passes =
+pub goes_number : (telling : ℕ) (lines : List RecordLine) (count i : ℕ) (shape : Option (ℕ × Record)) (all : List HeldPoint) (first old new : Walk) → i < count → shape ≡ told telling (Some (i + 1)) lines
+    → Goes old (pairs_from telling lines (count - i) (i + 1)) first all → ((rest : List HeldPoint) → going new rest ≡ going old (held_in pairs_in shape ++ rest))
+    → Goes new (pairs_from telling lines (count - (i + 1)) (i + 1 + 1)) first all
+goes_number telling lines count i shape all first old new within is before passes =
     let more : count - i ≡ suc (count - (i + 1)) = omega (arith, within) in
-    goes_on (held_from (pairs_in (i + 1)) 0 lines) (pairs_from lines (count - (i + 1)) (i + 1 + 1)) all first old new
-    (λ rest. ap (λ n. going old (pairs_from lines n (i + 1) ++ rest)) (sym more) ∙ before rest) passes
+    goes_on (held_in pairs_in (told telling (Some (i + 1)) lines)) (pairs_from telling lines (count - (i + 1)) (i + 1 + 1)) all first old new
+    (λ rest. ap (λ n. going old (pairs_from telling lines n (i + 1) ++ rest)) (sym more) ∙ before rest)
+    (λ rest. passes rest ∙ ap (λ (own : Option (ℕ × Record)). going old (held_in pairs_in own ++ rest)) is)
 
-pub goes_numbers : (lines : List RecordLine) (count i : ℕ) (all : List HeldPoint) (first last : Walk) → count ≤ i → Goes last (pairs_from lines (count - i) (i + 1)) first all
+pub goes_numbers : (telling : ℕ) (lines : List RecordLine) (count i : ℕ) (all : List HeldPoint) (first last : Walk) → count ≤ i → Goes last (pairs_from telling lines (count - i) (i + 1)) first all
     → (rest : List HeldPoint) → going last rest ≡ going first (all ++ rest)
-goes_numbers lines count i all first last out goes rest =
+goes_numbers telling lines count i all first last out goes rest =
     let none : 0 ≡ count - i = omega (arith, out) in
-    ap (λ n. going last (pairs_from lines n (i + 1) ++ rest)) none ∙ goes rest
+    ap (λ n. going last (pairs_from telling lines n (i + 1) ++ rest)) none ∙ goes rest
 
 -- one pair more
 pub goes_pair : (place : ℕ) (pairs : List (Option Point)) (i : ℕ) (pair : Option Point) (all : List HeldPoint) (first old new : Walk) → i < length pairs → pair ≡ get_or pairs i pair

@@ -1,5 +1,5 @@
 -- How lines are kept while the text is read.
-use Rattle.std.specs.Prelude.{◌≡◌, ℕ, Bool, true, List, [], ◌∷◌, ◌++◌, Option, is_some, slice_get, if◌then◌else◌, Vec}
+use Rattle.std.specs.Prelude.{◌≡◌, ℕ, Bool, true, List, [], ◌∷◌, ◌++◌, Option, None, is_some, map, slice_get, if◌then◌else◌, Vec}
 use Rattle.std.specs.Global.{Global}
 use Rattle.std.specs.Option.{option_map_or}
 use Rattle.indexmap.specs.IndexSet.{index_of}
@@ -36,13 +36,21 @@ pub record NotesAll (old new : KeptLines) (entries : List (ℕ × Record)) : Typ
   pub wanted : (s : Subject) → is_wanted new s ≡ is_wanted old s
   pub lines : (s : Subject) → is_wanted old s ≡ true → kept_of new s ≡ kept_of old s ++ lines_about entries s
 
--- the segments of the chain that a subject draws, if it is one that does
-abbrev pub walked : Subject → List RecordLine → List HeldSegment
-walked (Drawn tlid) lines = segments_held lines
-walked other lines = []
+-- the segments of the chain that a subject draws, in a telling, if it is one that does
+abbrev pub walked : ℕ → Subject → List RecordLine → List HeldSegment
+walked telling (Drawn tlid) lines = segments_held telling lines
+walked telling other lines = []
 
 -- those of all subjects, each with its lines
-abbrev pub all_walked : List Subject → List (Vec RecordLine Global) → List (List HeldSegment)
-all_walked [] lines = []
-all_walked (s ∷ more) [] = []
-all_walked (s ∷ more) (lines ∷ rest) = walked s lines.items ∷ all_walked more rest
+abbrev pub all_walked : ℕ → List Subject → List (Vec RecordLine Global) → List (List HeldSegment)
+all_walked telling [] lines = []
+all_walked telling (s ∷ more) [] = []
+all_walked telling (s ∷ more) (lines ∷ rest) = walked telling s lines.items ∷ all_walked telling more rest
+
+-- the segments, each list alone
+abbrev pub in_lists : List (Vec HeldSegment Global) → List (List HeldSegment)
+in_lists segments = map (λ its. its.items) segments
+
+-- the segment with this number, of the subject with this number, where there is one
+abbrev pub segment_of : List (List HeldSegment) → ℕ → ℕ → Option HeldSegment
+segment_of all number k = option_map_or (λ (its : List HeldSegment). slice_get its k) (slice_get all number) None

@@ -12,7 +12,7 @@ use Rattle.tl_check_faces.specs.declared.fault.FaceFault.TheVariants.{Facing, Ou
 use Rattle.tl_check_inside.specs.declared.misplaced.Misplaced.{Misplaced}
 use Rattle.tl_check_inside.specs.declared.misplaced.Misplaced.TheVariants.{OnChain, Outside, InOther}
 use Rattle.tl_check_verdict.specs.declared.fault.MapFault.{MapFault}
-use Rattle.tl_check_verdict.specs.declared.fault.MapFault.TheVariants.{Records, Meet, Side, PolygonPoint, Cell, Face}
+use Rattle.tl_check_verdict.specs.declared.fault.MapFault.TheVariants.{Records, NoRecords, Meet, Side, PolygonPoint, Cell, Face}
 use Rattle.tigertopo_records.specs.declared.subject.Subject.{Subject}
 use Rattle.tigertopo_records.specs.declared.subject.Subject.TheVariants as subject
 use Rattle.tigertopo_records.specs.declared.line.RecordLine.{RecordLine}
@@ -85,6 +85,7 @@ subjects_of_faces (Outward face way) = (Some (subject.Sides face.tlid), None)
 -- what a fault speaks of, where these are the map's chains
 abbrev pub subjects_of : List MapChain → MapFault → Subjects
 subjects_of chains (Records fault) = (subject_of fault, None)
+subjects_of chains (NoRecords lacking) = (None, None)
 subjects_of chains (Meet meet) = (Some (subject.Drawn meet.tlid), option_map subject.Drawn (other_tlid (Some meet.tlid) (Some meet.other)))
 subjects_of chains (Side node first next) = sides_of_darts (tlid_of chains first) (tlid_of chains next)
 subjects_of chains (PolygonPoint misplaced) = subjects_of_point misplaced

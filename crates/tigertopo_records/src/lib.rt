@@ -3,8 +3,8 @@
 //! [`subjects_of`] says what a fault speaks of: the records of a TLID and of some types, of a polygon's key, of a LAND. A
 //! county's files are read a second time for them, once for all faults: [`RecordsIn`] finds the records of one file that
 //! [`wanted_subjects`] name, [`KeptLines`] keeps each with its line's number, and [`RecordLines`] gives them. Of the text
-//! nothing is kept but what the faults speak of, and which of these records hold the ends of a chain's segments:
-//! [`RecordLines::ends_of`] gives those of one.
+//! nothing is kept but what the faults speak of, and which of these records hold the ends of a chain's segments, of each county
+//! that tells it: [`RecordLines::ends_of`] gives those of one.
 #![tactic(auto)]
 
 mod kept;
@@ -13,6 +13,7 @@ mod lines;
 mod read;
 mod segment;
 mod subject;
+mod telling;
 mod walk;
 mod wanted;
 

@@ -1,11 +1,11 @@
 //! The lines of the records that faults speak of.
 
-ghost use Rattle.std.specs.Prelude.{◌≡◌, IfOk, map, slice_get};
-ghost use Rattle.tigertopo_records.specs.Kept.{walked, all_walked};
+ghost use Rattle.std.specs.Prelude.{◌≡◌, IfOk};
+ghost use Rattle.tigertopo_records.specs.Kept.{walked, all_walked, in_lists, segment_of};
 
 use crate::kept::KeptLines;
 use crate::line::RecordLine;
-use crate::segment::ends_lines;
+use crate::segment::add_ends;
 use crate::subject::Subject;
 use crate::walk::{HeldSegment, held_segments};
 use arrayvec::ArrayVec;
@@ -17,9 +17,12 @@ use std::hash::RandomState;
 #[derive(Drop)]
 pub struct RecordLines {
     kept: KeptLines,
-    // The segments of the chain that each subject draws, in the order of the subjects.
-    segments: Vec<Vec<HeldSegment>>,
-    ghost walked: { map (λ its. its.items) segments.items ≡ all_walked kept.subjects.keys kept.lines.items },
+    // The segments of the chain that each subject draws, in the order of the subjects: as the first county tells it, and as the second
+    // does, where two tell it.
+    first: Vec<Vec<HeldSegment>>,
+    second: Vec<Vec<HeldSegment>>,
+    ghost first_walked: { in_lists first.items ≡ all_walked 0 kept.subjects.keys kept.lines.items },
+    ghost second_walked: { in_lists second.items ≡ all_walked 1 kept.subjects.keys kept.lines.items },
 }
 
 impl RecordLines {
@@ -33,12 +36,13 @@ impl RecordLines {
     pub fn of(alloc: Global, kept: KeptLines) -> Result<RecordLines, AllocError>
         ensures { IfOk result (λ lines. lines.kept ≡ kept) }
     {
-        let mut segments = Vec::with_capacity(alloc, kept.len())?;
-        for number in 0..kept.len() {
-            let its = drawn_segments(alloc, kept.subject(number), kept.at(number))?;
-            segments.push(its)?;
-        }
-        Ok(RecordLines { kept, segments })
+        let first = all_segments(alloc, &kept, 0)?;
+        let second = all_segments(alloc, &kept, 1)?;
+        Ok(RecordLines {
+            kept,
+            first,
+            second,
+        })
     }
 
     /// No line of any subject.
@@ -56,43 +60,63 @@ impl RecordLines {
         self.kept.about(subject)
     }
 
-    /// The records that hold the ends of a segment of the chain with this TLID, in the order of their lines, where there is one.
-    /// The segment's number counts from 0 within the chain.
-    pub fn ends_of(&self, tlid: u64, segment: Option<u32>) -> ArrayVec<RecordLine, 2>
+    /// The records that hold the ends of a segment of the chain with this TLID, of each county that tells it, in the order of their
+    /// lines, where there is one. The segment's number counts from 0 within the chain.
+    pub fn ends_of(&self, tlid: u64, segment: Option<u32>) -> ArrayVec<RecordLine, 4>
         ensures { result.items ≡ segment_lines (held self.now (DrawnOf tlid)) segment }
     {
+        let mut found = ArrayVec::new();
         let Some(segment) = segment else {
-            return ArrayVec::new();
+            return found;
         };
-        match self.kept.number_of(&Subject::Drawn(tlid)) {
-            Some(number) if number < self.segments.len() => ends_lines(
-                self.kept.at(number),
-                segment,
-                segment_at(self.segments[number].as_slice(), segment),
-            ),
-            _ => ArrayVec::new(),
-        }
+        let Some(number) = self.kept.number_of(&Subject::Drawn(tlid)) else {
+            return found;
+        };
+        let lines = self.kept.at(number);
+        let first = segment_of(self.first.as_slice(), number, segment);
+        let second = segment_of(self.second.as_slice(), number, segment);
+        add_ends(&mut found, lines, segment, first);
+        add_ends(&mut found, lines, segment, second);
+        found
     }
 }
 
-// The segments of the chain that a subject draws, if it is one that does; these are its lines.
+// The segments of the chain that each subject draws, as one county tells it.
+fn all_segments(
+    alloc: Global,
+    kept: &KeptLines,
+    telling: usize,
+) -> Result<Vec<Vec<HeldSegment>>, AllocError>
+    ensures { IfOk result (λ segments. in_lists segments.items ≡ all_walked telling kept.now.subjects.keys kept.now.lines.items) }
+{
+    let mut segments = Vec::with_capacity(alloc, kept.len())?;
+    for number in 0..kept.len() {
+        let its = drawn_segments(alloc, kept.subject(number), kept.at(number), telling)?;
+        segments.push(its)?;
+    }
+    Ok(segments)
+}
+
+// The segments of the chain that a subject draws, if it is one that does, as one county tells it; these are its lines.
 fn drawn_segments(
     alloc: Global,
     subject: Subject,
     lines: &[RecordLine],
+    telling: usize,
 ) -> Result<Vec<HeldSegment>, AllocError>
-    ensures { IfOk result (λ segments. segments.items ≡ walked subject lines.now) }
+    ensures { IfOk result (λ segments. segments.items ≡ walked telling subject lines.now) }
 {
     match subject {
-        Subject::Drawn(_) => held_segments(alloc, lines),
+        Subject::Drawn(_) => held_segments(alloc, lines, telling),
         _ => Ok(Vec::new(alloc)),
     }
 }
 
-// The segment with this number, counted from 0, where there is one.
-fn segment_at(segments: &[HeldSegment], number: u32) -> Option<HeldSegment>
-    ensures { result ≡ slice_get segments.now number }
+// The segment with this number of the subject with this number, where there is one.
+fn segment_of(segments: &[Vec<HeldSegment>], number: usize, segment: u32) -> Option<HeldSegment>
+    ensures { result ≡ segment_of (in_lists segments.now) number segment }
 {
-    let segment = segments.get(number as usize)?;
-    Some(*segment)
+    let its = segments.get(number)?;
+    let found = its.as_slice().get(segment as usize)?;
+    Some(*found)
 }

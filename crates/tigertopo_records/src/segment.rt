@@ -1,51 +1,53 @@
 //! The records that hold the ends of a segment.
 
-ghost use Rattle.std.specs.Prelude.{◌≡◌, ◌<◌, ℕ, option_copied, length};
+ghost use Rattle.std.specs.Prelude.{◌≡◌, ◌<◌, ◌≤◌, ◌+◌, ℕ, option_copied, length};
+ghost use Rattle.arrayvec.specs.ArrayVec.{array_vec_len};
 ghost use Rattle.tl_map_county.specs.Segments.{segments_before};
 ghost use Rattle.tigertopo_records.specs.SpokenOf.{chains_of};
-ghost use Rattle.tigertopo_records.specs.Ends.{segment_within, holding, in_order, ends_lines};
+ghost use Rattle.tigertopo_records.specs.Ends.{segment_within, holding, with_line, with_ends};
 
 use crate::line::{Part, RecordLine, SegmentEnds};
 use crate::walk::{HeldPoint, HeldSegment};
 use arrayvec::ArrayVec;
 use tl_map_county::Map;
 
-/// The records of a segment's ends, in their order, where there is one: of the records of types 1 and 2 of its chain. The
-/// segment's number counts from 0 within the chain.
-pub(crate) fn ends_lines(
+/// Adds the records of a segment's ends, where there is one, to others in the order of their lines: of the records of types 1 and 2
+/// of its chain. The segment's number counts from 0 within the chain.
+pub(crate) fn add_ends(
+    found: &mut ArrayVec<RecordLine, 4>,
     lines: &[RecordLine],
     number: u32,
     segment: Option<HeldSegment>,
-) -> ArrayVec<RecordLine, 2>
-    ensures { result.items ≡ ends_lines lines.now number segment }
+)
+    requires room { array_vec_len found.old ≤ 2 }
+    ensures lines { found.new.items ≡ with_ends found.old.items lines.now number segment }
+    ensures few { array_vec_len found.new ≤ array_vec_len found.old + 2 }
 {
     let Some(HeldSegment { from, to }) = segment else {
-        return ArrayVec::new();
+        return;
     };
     if from.place == to.place {
-        return in_order(holding(lines, number, from, Some(to.part)), None);
+        add_line(found, holding(lines, number, from, Some(to.part)));
+        return;
     }
-    let first = holding(lines, number, from, None);
-    let last = holding(lines, number, to, None);
-    if from.place < to.place {
-        in_order(first, last)
-    } else {
-        in_order(last, first)
-    }
+    add_line(found, holding(lines, number, from, None));
+    add_line(found, holding(lines, number, to, None));
 }
 
-// Those of two records that there are.
-fn in_order(first: Option<RecordLine>, second: Option<RecordLine>) -> ArrayVec<RecordLine, 2>
-    ensures { result.items ≡ in_order first second }
+// Adds a line, where there is one, before those with greater numbers.
+fn add_line(found: &mut ArrayVec<RecordLine, 4>, line: Option<RecordLine>)
+    requires room { array_vec_len found.old < 4 }
+    ensures lines { found.new.items ≡ with_line found.old.items line }
+    ensures few { array_vec_len found.new ≤ array_vec_len found.old + 1 }
 {
-    let mut lines = ArrayVec::new();
-    if let Some(line) = first {
-        lines.push(line);
+    let Some(line) = line else {
+        return;
+    };
+    let mut place = 0;
+    while place < found.len() && found[place].line <= line.line {
+        place += 1;
     }
-    if let Some(line) = second {
-        lines.push(line);
-    }
-    lines
+    found.insert(place, line);
 }
 
 // The record that holds one end of a segment, as one that does; or both, where the other end is given.

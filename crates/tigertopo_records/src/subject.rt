@@ -40,6 +40,7 @@ pub fn subjects_of(map: Option<&Map>, fault: &MapFault) -> Subjects
 {
     match fault {
         MapFault::Records(fault) => (subject_of(fault), None),
+        MapFault::NoRecords(_) => (None, None),
         MapFault::Meet(meet) => subjects_of_meet(meet.tlid, meet.other),
         MapFault::Side { first, next, .. } => {
             sides_of_darts(tlid_of(map, *first), tlid_of(map, *next))

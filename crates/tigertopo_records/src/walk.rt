@@ -4,6 +4,7 @@ ghost use Rattle.std.specs.Prelude.{◌≡◌, IfOk};
 ghost use Rattle.tigertopo_records.specs.Ends.{segments_held};
 
 use crate::line::{Part, RecordLine};
+use crate::telling::told;
 use std::alloc::{AllocError, Global};
 use tl_geom::Point;
 use tl_record::{PAIRS, Record};
@@ -27,20 +28,22 @@ pub struct HeldSegment {
 // The last number that a type 2 record may have: its RTSQ has three digits.
 const LAST_NUMBER: usize = 999;
 
-/// The segments of the chain that these records of types 1 and 2 draw, from its start to its end.
+/// The segments of the chain that these records of types 1 and 2 draw, from its start to its end, as one county tells it.
 pub(crate) fn held_segments(
     alloc: Global,
     lines: &[RecordLine],
+    telling: usize,
 ) -> Result<Vec<HeldSegment>, AllocError>
-    ensures { IfOk result (λ segments. segments.items ≡ segments_held lines.now) }
+    ensures { IfOk result (λ segments. segments.items ≡ segments_held telling lines.now) }
 {
     let mut walk = Walk {
         before: None,
         segments: Vec::new(alloc),
     };
-    walk.pass_starts(lines)?;
-    walk.pass_pairs(lines)?;
-    walk.pass_ends(lines)?;
+    let chain = told(lines, telling, None);
+    walk.pass_start(chain)?;
+    walk.pass_pairs(lines, telling)?;
+    walk.pass_end(chain)?;
     Ok(walk.segments)
 }
 
@@ -56,7 +59,7 @@ struct Walk {
 impl Walk {
     ghost use Rattle.std.specs.Prelude.{◌≡◌, ◌++◌, ◌∷◌, List, OnOk, length, min};
     ghost use Rattle.tigertopo_records.specs.declared.walk.HeldPoint.{HeldPoint as HeldPointOf};
-    ghost use Rattle.tigertopo_records.specs.Ends.{held_from, start_in, pair_held, pairs_held, pairs_in, pairs_from, end_in};
+    ghost use Rattle.tigertopo_records.specs.Ends.{held_in, told, start_in, pair_held, pairs_held, pairs_in, pairs_from, end_in};
     ghost use Rattle.tigertopo_records.specs.Walking.{going};
 
     // Goes on to a point.
@@ -75,21 +78,11 @@ impl Walk {
         Ok(())
     }
 
-    // Goes on to where the chain starts.
-    fn pass_starts(&mut self, lines: &[RecordLine]) -> Result<(), AllocError>
-        ensures { OnOk result ((rest : List HeldPointOf) → going self.new rest ≡ going self.old (held_from start_in 0 lines.now ++ rest)) }
+    // Goes on to where a record has its chain start, if there is one of type 1.
+    fn pass_start(&mut self, chain: Option<(usize, Record)>) -> Result<(), AllocError>
+        ensures { OnOk result ((rest : List HeldPointOf) → going self.new rest ≡ going self.old (held_in start_in chain ++ rest)) }
     {
-        for place in 0..lines.len() {
-            self.pass_start(place, &lines[place])?;
-        }
-        Ok(())
-    }
-
-    // Goes on to where a record has its chain start, if it is of type 1.
-    fn pass_start(&mut self, place: usize, line: &RecordLine) -> Result<(), AllocError>
-        ensures { OnOk result ((rest : List HeldPointOf) → going self.new rest ≡ going self.old (start_in place line.now.holds ++ rest)) }
-    {
-        if let Record::Chain { from, .. } = line.holds {
+        if let Some((place, Record::Chain { from, .. })) = chain {
             self.pass(HeldPoint {
                 place,
                 part: Part::Start,
@@ -99,39 +92,23 @@ impl Walk {
         Ok(())
     }
 
-    // Goes on along all pairs, by rising RTSQ.
-    fn pass_pairs(&mut self, lines: &[RecordLine]) -> Result<(), AllocError>
-        ensures { OnOk result ((rest : List HeldPointOf) → going self.new rest ≡ going self.old (pairs_from lines.now (min (length lines.now) 999) 1 ++ rest)) }
+    // Goes on along all pairs that a county tells, by rising RTSQ.
+    fn pass_pairs(&mut self, lines: &[RecordLine], telling: usize) -> Result<(), AllocError>
+        ensures { OnOk result ((rest : List HeldPointOf) → going self.new rest
+            ≡ going self.old (pairs_from telling lines.now (min (length lines.now) 999) 1 ++ rest)) }
     {
         for number in 0..lines.len().min(LAST_NUMBER) {
-            self.pass_pairs_at(lines, number + 1)?;
+            self.pass_pairs_in(told(lines, telling, Some(number + 1)))?;
         }
         Ok(())
     }
 
-    // Goes on along the pairs with this RTSQ.
-    fn pass_pairs_at(&mut self, lines: &[RecordLine], number: usize) -> Result<(), AllocError>
-        ensures { OnOk result ((rest : List HeldPointOf) → going self.new rest ≡ going self.old (held_from (pairs_in number) 0 lines.now ++ rest)) }
+    // Goes on along the pairs of a record, if there is one of type 2.
+    fn pass_pairs_in(&mut self, shape: Option<(usize, Record)>) -> Result<(), AllocError>
+        ensures { OnOk result ((rest : List HeldPointOf) → going self.new rest ≡ going self.old (held_in pairs_in shape ++ rest)) }
     {
-        for place in 0..lines.len() {
-            self.pass_pairs_in(place, &lines[place], number)?;
-        }
-        Ok(())
-    }
-
-    // Goes on along the pairs of a record, if it is of type 2 and has this RTSQ.
-    fn pass_pairs_in(
-        &mut self,
-        place: usize,
-        line: &RecordLine,
-        number: usize,
-    ) -> Result<(), AllocError>
-        ensures { OnOk result ((rest : List HeldPointOf) → going self.new rest ≡ going self.old (pairs_in number place line.now.holds ++ rest)) }
-    {
-        if let Record::Shape { rtsq, pairs, .. } = &line.holds {
-            if usize::from(*rtsq) == number {
-                self.pass_each(place, pairs)?;
-            }
+        if let Some((place, Record::Shape { pairs, .. })) = &shape {
+            self.pass_each(*place, pairs)?;
         }
         Ok(())
     }
@@ -160,21 +137,11 @@ impl Walk {
         Ok(())
     }
 
-    // Goes on to where the chain ends.
-    fn pass_ends(&mut self, lines: &[RecordLine]) -> Result<(), AllocError>
-        ensures { OnOk result ((rest : List HeldPointOf) → going self.new rest ≡ going self.old (held_from end_in 0 lines.now ++ rest)) }
+    // Goes on to where a record has its chain end, if there is one of type 1.
+    fn pass_end(&mut self, chain: Option<(usize, Record)>) -> Result<(), AllocError>
+        ensures { OnOk result ((rest : List HeldPointOf) → going self.new rest ≡ going self.old (held_in end_in chain ++ rest)) }
     {
-        for place in 0..lines.len() {
-            self.pass_end(place, &lines[place])?;
-        }
-        Ok(())
-    }
-
-    // Goes on to where a record has its chain end, if it is of type 1.
-    fn pass_end(&mut self, place: usize, line: &RecordLine) -> Result<(), AllocError>
-        ensures { OnOk result ((rest : List HeldPointOf) → going self.new rest ≡ going self.old (end_in place line.now.holds ++ rest)) }
-    {
-        if let Record::Chain { to, .. } = line.holds {
+        if let Some((place, Record::Chain { to, .. })) = chain {
             self.pass(HeldPoint {
                 place,
                 part: Part::End,

@@ -1,17 +1,17 @@
--- What is said behind a stop of a command.
-use Rattle.std.specs.Prelude.{◌≡◌, ◌⊎◌, ℕ, List, true, Option, Some, None, Result, Ok, Err}
+-- What is said behind the outcome of a command.
+use Rattle.std.specs.Prelude.{◌≡◌, ◌⊎◌, ℕ, nat_lt, List, map, string_bytes, Bool, true, false, Option, Some, None, Result, Ok, Err}
 use Rattle.tl_cert_output.specs.declared.stop.Stop.{Stop}
 use Rattle.tl_cert_output.specs.declared.stop.Stop.TheVariants.{Device}
 use Rattle.tl_cert_output.specs.Writing.{line_of}
 use Rattle.tl_cert_output.specs.Stops.{StopsFor}
 use Rattle.tigertopo_words.specs.declared.asked.Command.{Command}
-use Rattle.tigertopo_words.specs.Commands.{name_of}
-use Rattle.tigertopo_words.specs.Asked.{named_of, made_of}
+use Rattle.tigertopo_words.specs.Asked.{made_of}
 use Rattle.tigertopo_files.specs.Log.{LogsAgain}
 use Rattle.tigertopo_files.specs.World.{World}
 use Rattle.tigertopo_where.specs.Hint.Again.{FailsAgain}
-use Rattle.tigertopo_where.specs.Hint.Hints.{Asker, asker, trouble_text}
-use Rattle.tigertopo_where.specs.Hint.Telling.{TellsHint}
+use Rattle.tigertopo_where.specs.Hint.Advice.{Asker, asker}
+use Rattle.tigertopo_where.specs.Hint.Hints.{trouble_text}
+use Rattle.tigertopo_where.specs.Hint.Telling.{TellsHint, TellsUnread}
 use Rattle.tl_cert_output.specs.Streams.{Stream, Tries}
 use Rattle.tigertopo_run.specs.declared.run.Outcome.{Outcome}
 use Rattle.tigertopo_run.specs.Commands.{names_read}
@@ -30,9 +30,13 @@ pub record NothingBehind (b : Behind) : Type 0 where
   pub same : b.err.same
   pub untouched : Untouched b.files
 
--- who asks: the command's name, and how it reads records
-abbrev pub asker_of : Command → Asker
-asker_of command = asker (name_of (named_of command.asked)) command.options
+-- who asks: the words that were given, and how the command reads records
+abbrev pub asker_of : List (List ℕ) → Command → Asker
+asker_of words command = asker words command.options
+
+-- the names of the files of records
+abbrev pub record_names : Command → List (List ℕ)
+record_names command = map string_bytes command.files.items
 
 -- why the file that the command makes couldn't be made was said, where it isn't known what is done with files
 pub record TellsObstacle (b : Behind) (command : Command) (stop : Stop) : Type 0 where
@@ -44,20 +48,36 @@ pub record TellsObstacle (b : Behind) (command : Command) (stop : Stop) : Type 0
   pub told : Tries b.err (line_of (trouble_text name words))
 
 -- what helps was said behind a stop, of the files as they stand; or nothing was, since memory was refused for it or a file can't be read
--- again. Where there is no stop nothing is said
-abbrev pub Says : Behind → Command → Option Stop → Result (Unit {0}) Stop → Type 0
-Says b command None (Ok done) = b.err.same
-Says b command None (Err why) = ⊥
-Says b command (Some stop) (Ok done) =
-    TellsHint stop (asker_of command) b.files.before (names_read command) (Tries b.err) ⊎ TellsObstacle b command stop
-Says b command (Some stop) (Err why) = b.err.same × StopsFor (FailsAgain b.files (names_read command)) why
+-- again
+abbrev pub SaysBehindStop : Behind → List (List ℕ) → Command → Stop → Result (Unit {0}) Stop → Type 0
+SaysBehindStop b words command stop (Ok done) =
+    TellsHint stop (asker_of words command) b.files.before (names_read command) (Tries b.err) ⊎ TellsObstacle b command stop
+SaysBehindStop b words command stop (Err why) = b.err.same × StopsFor (FailsAgain b.files (names_read command)) why
 
--- the same, and files were read for it at most
-pub record Hints (b : Behind) (command : Command) (stop : Option Stop) (result : Result (Unit {0}) Stop) : Type 0 where
-  pub says : Says b command stop result
+-- is this the status of an answer
+abbrev pub is_answer : ℕ → Bool
+is_answer status = nat_lt status 4
+
+-- where an answer was told it was said what files of records hold that hold none of type 1; nothing is behind another outcome
+abbrev pub SaysUnread : (told : Bool) → Behind → Asker → List (List ℕ) → Type 0
+SaysUnread true b by names = b.files.knows ≡ true → TellsUnread by b.files.before names (Tries b.err)
+SaysUnread false b by names = b.err.same
+
+-- what helps was said where nothing stopped the command; or nothing was, for such a reason
+abbrev pub SaysBehindStatus : Behind → List (List ℕ) → Command → ℕ → Result (Unit {0}) Stop → Type 0
+SaysBehindStatus b words command status (Ok done) = SaysUnread (is_answer status) b (asker_of words command) (record_names command)
+SaysBehindStatus b words command status (Err why) = b.err.same × StopsFor (FailsAgain b.files (record_names command)) why
+
+abbrev pub SaysBehind : Behind → List (List ℕ) → Command → ℕ → Option Stop → Result (Unit {0}) Stop → Type 0
+SaysBehind b words command status None = SaysBehindStatus b words command status
+SaysBehind b words command status (Some stop) = SaysBehindStop b words command stop
+
+-- that was said, and files were read for it at most
+pub record Hints (b : Behind) (says : Result (Unit {0}) Stop → Type 0) (result : Result (Unit {0}) Stop) : Type 0 where
+  pub said : says result
   pub stays : b.files.after ≡ b.files.before
   pub logged : b.files.knows ≡ true → LogsAgain b.files.log b.files.logged result
 
--- the same of an outcome, whatever came of the hint
-abbrev pub HintsBy : Behind → Command → Outcome → Type 0
-HintsBy b command outcome = (result : Result (Unit {0}) Stop) × Hints b command outcome.stop result
+-- so it is behind the outcome of a command that these words ask for, whatever came of the hint
+abbrev pub HintsBy : Behind → List (List ℕ) → Command → Outcome → Type 0
+HintsBy b words command outcome = (result : Result (Unit {0}) Stop) × Hints b (SaysBehind b words command outcome.status outcome.stop) result

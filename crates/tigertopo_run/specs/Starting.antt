@@ -22,10 +22,10 @@ IsUnread (Help text) = ⊥
 IsUnread Memory = ⊤
 
 -- a command was run, and what helps was said behind it
-pub record RunsAndHints (t : World → Terms) (command : Command) (w : World) (s : Streams) (b : Behind) (status : ℕ) : Type 0 where
+pub record RunsAndHints (words : List Text) (t : World → Terms) (command : Command) (w : World) (s : Streams) (b : Behind) (status : ℕ) : Type 0 where
   pub outcome : Outcome
   pub runs : Runs t command w s outcome
-  pub hinted : HintsBy b command outcome
+  pub hinted : HintsBy b words command outcome
   pub is : status ≡ outcome.status
 
 -- the words are no command, and why was told, or the help that they wish for
@@ -39,7 +39,7 @@ pub record Misses (words : List Text) (w : World) (s : Streams) (status : ℕ) :
 -- what is answered to words: they ask for a command, which was run; or they are none, and nothing more is done
 abbrev pub Starts : List Text → (Command → World → Terms) → World → Streams → Behind → ℕ → Type 0
 Starts words t w s b status =
-    ((command : Command) × AskFor words command × RunsAndHints (t command) command w s b status) ⊎ (Misses words w s status × NothingBehind b)
+    ((command : Command) × AskFor words command × RunsAndHints words (t command) command w s b status) ⊎ (Misses words w s status × NothingBehind b)
 
 -- the same where the words can't be read, or there are no keys for hashers: why was told
 abbrev pub AnswersWords : Result (Vec (String Global) Global) WordsStop → (Command → World → Terms) → World → Streams → Behind → ℕ → Type 0

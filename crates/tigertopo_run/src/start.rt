@@ -20,8 +20,8 @@ use tl_cert_output::Stop;
 use tl_record::Sink;
 
 /// Does what the words of the command line ask, and gives the program's exit status: the words behind the program's name or why they
-/// can't be read, and the keys of hashers or that there are none, are what the system gave. Behind a refused line and behind a device
-/// that failed it is said what helps to find them, of the files as they stand then.
+/// can't be read, and the keys of hashers or that there are none, are what the system gave. Behind a refused line, a device that
+/// failed, and an answer to files without chains it is said what helps, of the files as they stand then.
 pub fn answer<P: Program, F: FileSystem, W: Sink, E: Sink>(
     program: &P,
     files: &mut F,
@@ -66,28 +66,29 @@ pub fn start<P: Program, F: FileSystem, W: Sink, E: Sink>(
         (behind (world F.under F.log F.knows done files.new) (stream E.contents E.failure_count told err.new)) result }
 {
     match words::command(alloc, words) {
-        Ok(command) => run_and_hint(program, files, alloc, hasher, &command, out, err),
+        Ok(command) => run_and_hint(program, files, alloc, hasher, words, &command, out, err),
         Err(stop) => say_stop(alloc, &stop, out, err),
     }
 }
 
-// Does what a command asks, and says what helps behind a stop.
+// Does what the command of these words asks, and says what helps behind it.
 fn run_and_hint<P: Program, F: FileSystem, W: Sink, E: Sink>(
     program: &P,
     files: &mut F,
     alloc: Global,
     hasher: RandomState,
+    words: &[String],
     command: &Command,
     out: &mut W,
     err: &mut E,
 ) -> u8
     ensures { (done : F) × (told : E)
-        × RunsAndHints (λ v. terms (P.answers command.now v) (P.stops command.now v)) command.now
+        × RunsAndHints (map string_bytes words.now) (λ v. terms (P.answers command.now v) (P.stops command.now v)) command.now
         (world F.under F.log F.knows files.old done)
         (streams (stream W.contents W.failure_count out.old out.new) (stream E.contents E.failure_count err.old told))
         (behind (world F.under F.log F.knows done files.new) (stream E.contents E.failure_count told err.new)) result }
 {
     let outcome = run(program, files, alloc, hasher, command, out, err);
-    let _ = hint(files, alloc, command, &outcome.stop, err);
+    let _ = hint(files, alloc, words, command, &outcome, err);
     outcome.status
 }

@@ -1,4 +1,5 @@
 -- How things are shown and spelt.
 pub mod Names
+pub mod Shell
 pub mod Json
 pub mod Points

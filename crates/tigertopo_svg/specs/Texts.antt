@@ -77,8 +77,8 @@ code_text fault = take 2 (said_of fault)
 unfoldable pub circle_head : Spot → List ℕ
 circle_head s = codes "<circle cx=\"" ++ signed_decimal s.x ++ codes "\" cy=\"" ++ signed_decimal s.y ++ codes "\" r=\"60\"><title>"
 
--- how wide a picture is that shows a place ten times closer: no less than two millionths of a degree, so that about the whole millionths
--- to the south-west of a fault it shows the fault
+-- how wide a picture is that shows a place closer: a tenth of the degrees that this one is wide or high, whichever are more, and no less
+-- than two millionths of a degree, so that about the whole millionths to the south-west of a fault it shows the fault
 abbrev pub closer : Frame → ℕ
 closer f = max (max f.wide f.high / 10) 2
 

@@ -84,7 +84,7 @@ pub fn closer_text(frame: Frame, p: Point) -> ArrayString<PART_ROOM>
     text
 }
 
-// How wide a picture is that shows a place ten times closer.
+// How wide a picture is that shows a place closer, in millionths of a degree.
 fn closer(frame: Frame) -> u32
     ensures { result ≡ closer frame }
 {

@@ -8,6 +8,7 @@ mod front;
 mod kept;
 mod looking;
 mod new_file;
+mod noted;
 mod place;
 mod progress;
 mod reading;

@@ -10,12 +10,13 @@ ghost use Rattle.tl_cert_output.specs.Stops.{StopsFor};
 use crate::kept::{KeptText, SystemReader, forget, is_kept, no_text};
 use crate::looking::room_of;
 use crate::new_file::NewFile;
+use crate::noted::{Note, NotedReader, no_chain};
 use crate::place::{Names, SystemPlace};
 use crate::progress::Progress;
 use crate::reading::{ShownReader, read_through};
 use crate::stops::{or_stop, stop_of, words_of};
 use std::alloc::{AllocError, Global};
-use std::cell::RefCell;
+use std::cell::{Cell, RefCell};
 use std::fs::File;
 use std::io::Eprint;
 use std::rt::Files;
@@ -44,6 +45,10 @@ pub struct SystemFiles<'a, R> {
     keeps: bool,
     // What was kept of them, by their names.
     kept: RefCell<Vec<(String, KeptText)>>,
+    // Whether a line of records began as one of type 1 does.
+    note: Option<Note>,
+    // How many of the files that are opened next are of records.
+    to_note: Cell<usize>,
 }
 
 impl<'a, R: Files<File = File> + Clock + Eprint> SystemFiles<'a, R> {
@@ -57,6 +62,8 @@ impl<'a, R: Files<File = File> + Clock + Eprint> SystemFiles<'a, R> {
             unopened: RefCell::new(None),
             keeps: false,
             kept: RefCell::new(Vec::new(alloc)),
+            note: no_chain(alloc),
+            to_note: Cell::new(0),
         }
     }
 
@@ -65,18 +72,33 @@ impl<'a, R: Files<File = File> + Clock + Eprint> SystemFiles<'a, R> {
         &self,
         alloc: Global,
         name: &str,
-    ) -> io::Result<Meter<ShownReader<'a, SystemReader, R>>>
-        ensures { IfOk result (λ file. ⟦<Meter<ShownReader<'a, SystemReader, R>> as Source>⟧.failure_count file ≡ 0) }
+    ) -> io::Result<Meter<ShownReader<'a, NotedReader<SystemReader>, R>>>
+        ensures { IfOk result (λ file. ⟦<Meter<ShownReader<'a, NotedReader<SystemReader>, R>> as Source>⟧.failure_count file ≡ 0) }
     {
+        let note = self.next_note();
         if !self.keeps {
             if let Some(text) = self.kept_of(name) {
-                let reader = SystemReader::Kept { text, place: 0 };
+                let reader = NotedReader::new(SystemReader::Kept { text, place: 0 }, note);
                 return Ok(Meter::new(ShownReader::new(reader, None)));
             }
         }
         let file = File::open(self.rt, name)?;
         let progress = self.progress_of(alloc, name, &file);
-        Ok(Meter::new(ShownReader::new(self.reader_of(alloc, name, file), progress)))
+        let reader = NotedReader::new(self.reader_of(alloc, name, file), note);
+        Ok(Meter::new(ShownReader::new(reader, progress)))
+    }
+
+    // Where it is noted how lines of the next file begin, if it is one of records.
+    fn next_note(&self) -> Option<Note> {
+        let left = self.to_note.get();
+        if left == 0 {
+            return None;
+        }
+        self.to_note.set(left - 1);
+        match &self.note {
+            Some(note) => note.clone().ok(),
+            None => None,
+        }
     }
 
     // The reader of a file, which keeps what it reads where that is to be kept.
@@ -215,7 +237,7 @@ fn add_text(alloc: Global, kept: &mut Vec<(String, KeptText)>, name: &str) -> Op
 }
 
 impl<'a, R: Files<File = File> + Clock + Eprint> Opener for SystemFiles<'a, R> {
-    type Reader = Meter<ShownReader<'a, SystemReader, R>>;
+    type Reader = Meter<ShownReader<'a, NotedReader<SystemReader>, R>>;
 
     ghost use Rattle.std.specs.Prelude.{None};
 
@@ -225,7 +247,7 @@ impl<'a, R: Files<File = File> + Clock + Eprint> Opener for SystemFiles<'a, R> {
         &self,
         alloc: Global,
         name: &str,
-    ) -> Result<Meter<ShownReader<'a, SystemReader, R>>, Stop> {
+    ) -> Result<Meter<ShownReader<'a, NotedReader<SystemReader>, R>>, Stop> {
         match self.opened(alloc, name) {
             Ok(file) => Ok(file),
             Err(error) => Err(self.unopened_by(alloc, name, error)),
@@ -262,7 +284,9 @@ impl<'a, R: Files<File = File> + Clock + Eprint> FileSystem for SystemFiles<'a, 
         single: Option<&String>,
         reading: &Q,
     ) -> Result<Q::Answer, Stop> {
+        self.to_note.set(names.len());
         let answer = read_each(self, alloc, names, single, reading);
+        self.to_note.set(0);
         self.keeps = false;
         answer
     }
@@ -275,6 +299,13 @@ impl<'a, R: Files<File = File> + Clock + Eprint> FileSystem for SystemFiles<'a, 
         reading: &Q,
     ) -> Result<Option<Q::Answer>, Stop> {
         read_each_again(self, alloc, names, single, reading)
+    }
+
+    fn may_lack_chains(&self) -> bool {
+        match &self.note {
+            Some(note) => !note.get(),
+            None => true,
+        }
     }
 
     fn trouble(&self, alloc: Global, name: &str) -> Result<Option<String>, AllocError> {

@@ -8,3 +8,4 @@ pub mod Again
 pub mod Placed
 pub mod Found
 pub mod Placing
+pub mod Unread

@@ -52,13 +52,14 @@ told_the_same result all each most number skipped passed e f h told =
     (subst (λ (given : Option Text). MatchOption result (¬ AskForFaults each given skipped) (AskForTold each given skipped)) f
     (subst (λ (given : Option Text). MatchOption result (¬ AskForFaults given most skipped) (AskForTold given most skipped)) e told))
 
-pub chosen_the_same : (columns released zero_cells ids faces faced join joined : Option Text) (options : Options) → columns ≡ released → zero_cells ≡ ids → faces ≡ faced
-    → join ≡ joined → AreChosen columns zero_cells faces join options → AreChosen released ids faced joined options
-chosen_the_same columns released zero_cells ids faces faced join joined options d e f g chosen = record {
+pub chosen_the_same : (columns released zero_cells ids faces faced join joined complete whole : Option Text) (options : Options) → columns ≡ released → zero_cells ≡ ids → faces ≡ faced
+    → join ≡ joined → complete ≡ whole → AreChosen columns zero_cells faces join complete options → AreChosen released ids faced joined whole options
+chosen_the_same columns released zero_cells ids faces faced join joined complete whole options d e f g h chosen = record {
   columns = rw (← d) chosen.columns;
   cells = rw (← e) chosen.cells;
   faced = rw (← f) chosen.faced;
   joined = rw (← g) chosen.joined;
+  whole = rw (← h) chosen.whole;
 }
 
 pub seen_the_same : (view : Option View) (at center wide width : Option Text) → at ≡ center → wide ≡ width → IsView at wide view → IsView center width view

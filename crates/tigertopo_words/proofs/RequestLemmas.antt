@@ -12,20 +12,24 @@ module _ (named : Named) (rows : List Row) (options : Options) where
   options_under known is chosen = subst (λ (n : Named). AreOptions n (given_by n rows) options) (sym is) chosen
 
   -- those of a command that asks whether a map is sound
-  pub options_on_a_map : (named ≡ Audit) ⊎ ((named ≡ Build) ⊎ ((named ≡ Check) ⊎ (named ≡ Draw)))
-      → AreChosen (first_of (codes "released") rows) (first_of (codes "zero-cells") rows) (first_of (codes "faces") rows) (first_of (codes "join") rows) options
-      → AreOptions named (given_by named rows) options
+  pub options_on_a_map : (named ≡ Audit) ⊎ ((named ≡ Build) ⊎ (named ≡ Check))
+      → AreChosen (first_of (codes "released") rows) (first_of (codes "zero-cells") rows) (first_of (codes "faces") rows) (first_of (codes "join") rows)
+      (first_of (codes "complete") rows) options → AreOptions named (given_by named rows) options
   options_on_a_map (inl is) chosen = options_under Audit is chosen
   options_on_a_map (inr (inl is)) chosen = options_under Build is chosen
-  options_on_a_map (inr (inr (inl is))) chosen = options_under Check is chosen
-  options_on_a_map (inr (inr (inr is))) chosen = options_under Draw is chosen
+  options_on_a_map (inr (inr is)) chosen = options_under Check is chosen
+
+  pub options_of_drawing : named ≡ Draw
+      → AreChosen (first_of (codes "released") rows) (first_of (codes "zero-cells") rows) (first_of (codes "faces") rows) (first_of (codes "join") rows) None options
+      → AreOptions named (given_by named rows) options
+  options_of_drawing is chosen = options_under Draw is chosen
 
   -- and of one that doesn't
   pub options_of_records : (named ≡ Show) ⊎ ((named ≡ Locate) ⊎ (named ≡ Export))
-      → AreChosen (first_of (codes "released") rows) None None (first_of (codes "join") rows) options → AreOptions named (given_by named rows) options
+      → AreChosen (first_of (codes "released") rows) None None (first_of (codes "join") rows) None options → AreOptions named (given_by named rows) options
   options_of_records (inl is) chosen = options_under Show is chosen
   options_of_records (inr (inl is)) chosen = options_under Locate is chosen
   options_of_records (inr (inr is)) chosen = options_under Export is chosen
 
-  pub options_of_landmarks : named ≡ Landmarks → AreChosen (first_of (codes "released") rows) None None None options → AreOptions named (given_by named rows) options
+  pub options_of_landmarks : named ≡ Landmarks → AreChosen (first_of (codes "released") rows) None None None None options → AreOptions named (given_by named rows) options
   options_of_landmarks is chosen = options_under Landmarks is chosen

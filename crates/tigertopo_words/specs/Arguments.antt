@@ -26,12 +26,13 @@ AreSome given files = (given ≡ Some files) × (0 < length files)
 abbrev pub IsSwitch : Option Text → Bool → Type 0
 IsSwitch given on = IsTrue on ↔ (given ≡ Some (codes "true"))
 
--- the values of the four switches say what is asked of a county
-pub record AreChosen (released zero_cells faces join : Option Text) (options : Options) : Type 0 where
+-- the values of the five switches say what is asked of a county
+pub record AreChosen (released zero_cells faces join complete : Option Text) (options : Options) : Type 0 where
   pub columns : IsTrue options.released ↔ (released ≡ Some (codes "true"))
   pub cells : IsTrue options.zero_cells ↔ (zero_cells ≡ Some (codes "true"))
   pub faced : IsTrue options.faces ↔ (faces ≡ Some (codes "true"))
   pub joined : IsTrue options.join ↔ (join ≡ Some (codes "true"))
+  pub whole : IsTrue options.complete ↔ (complete ≡ Some (codes "true"))
 
 -- the greatest number that can be given, which is the budget where none is
 abbrev pub greatest_budget : ℕ

@@ -58,6 +58,10 @@ json_argument = switch (codes "json")
 abbrev pub faces_argument : Rule
 faces_argument = switch (codes "faces")
 
+-- --complete: there has to be a record of each of the types 1, I and P
+abbrev pub complete_argument : Rule
+complete_argument = switch (codes "complete")
+
 -- --most N, --tests N, --at @X,Y, --width W, --layer KIND, and --geojson OUT of an audit: one word
 abbrev pub value_argument : Text → Rule
 value_argument id = record (new_rule id) { long = Some id; value_names = 1 }
@@ -107,28 +111,28 @@ abbrev pub on_a_map : App → App
 on_a_map app =
     with_rule (with_rule (with_rule (with_rule (with_rule app faces_argument) zero_cells_argument) join_argument) released_argument) files_argument
 
--- audit [--all] [--most N] [--skip-refused] [--where] [--json] [--geojson OUT] [--progress] [--faces] [--zero-cells] [--join] [--released] FILES..
+-- audit [--all] [--most N] [--skip-refused] [--where] [--json] [--geojson OUT] [--progress] [--complete] [--faces] [--zero-cells] [--join] [--released] FILES..
 abbrev pub audit_name : Text
 audit_name = codes "audit"
 
 abbrev pub audit_app : App
 audit_app =
-    on_a_map (with_rule (with_rule (with_rule (with_rule (with_rule (with_rule (with_rule (new_app audit_name) all_argument) most_argument) skip_argument)
-    where_argument) json_argument) (value_argument (codes "geojson"))) progress_argument)
+    on_a_map (with_rule (with_rule (with_rule (with_rule (with_rule (with_rule (with_rule (with_rule (new_app audit_name) all_argument) most_argument) skip_argument)
+    where_argument) json_argument) (value_argument (codes "geojson"))) progress_argument) complete_argument)
 
--- build --out CERT [--progress] [--faces] [--zero-cells] [--join] [--released] FILES..
+-- build --out CERT [--progress] [--complete] [--faces] [--zero-cells] [--join] [--released] FILES..
 abbrev pub build_name : Text
 build_name = codes "build"
 
 abbrev pub build_app : App
-build_app = on_a_map (with_rule (with_rule (new_app build_name) (named_argument (codes "out"))) progress_argument)
+build_app = on_a_map (with_rule (with_rule (with_rule (new_app build_name) (named_argument (codes "out"))) progress_argument) complete_argument)
 
--- check --cert CERT [--tests N] [--progress] [--faces] [--zero-cells] [--join] [--released] FILES..
+-- check --cert CERT [--tests N] [--progress] [--complete] [--faces] [--zero-cells] [--join] [--released] FILES..
 abbrev pub check_name : Text
 check_name = codes "check"
 
 abbrev pub check_app : App
-check_app = on_a_map (with_rule (with_rule (with_rule (new_app check_name) (named_argument (codes "cert"))) tests_argument) progress_argument)
+check_app = on_a_map (with_rule (with_rule (with_rule (with_rule (new_app check_name) (named_argument (codes "cert"))) tests_argument) progress_argument) complete_argument)
 
 -- locate [--join] [--released] @X,Y FILES..
 abbrev pub locate_name : Text
@@ -156,14 +160,14 @@ draw_app =
     on_a_map (with_rule (with_rule (with_rule (with_rule (new_app draw_name) (named_argument (codes "out"))) (value_argument (codes "at")))
     (value_argument (codes "width"))) faults_argument)
 
--- border --name NAME --out OUT [--join] [--released] FILES..
+-- border --name NAME --out OUT [--complete] [--join] [--released] FILES..
 abbrev pub border_name : Text
 border_name = codes "border"
 
 abbrev pub border_app : App
 border_app =
-    with_rule (with_rule (with_rule (with_rule (with_rule (new_app border_name) (named_argument (codes "name"))) (named_argument (codes "out")))
-    join_argument) released_argument) files_argument
+    with_rule (with_rule (with_rule (with_rule (with_rule (with_rule (new_app border_name) (named_argument (codes "name"))) (named_argument (codes "out")))
+    complete_argument) join_argument) released_argument) files_argument
 
 -- the name of a command
 abbrev pub name_of : Named → Text

@@ -8,11 +8,11 @@ use Rattle.clap.specs.declared.builder.command.Command.TheViews.{out-Command}
 use Rattle.tigertopo_words.specs.declared.command_line.Named.{Named}
 use Rattle.tigertopo_words.specs.declared.command_line.Named.TheVariants.{Show, Landmarks, Locate, Audit, Build, Check, Convert, Export, Draw, Border}
 use Rattle.tigertopo_words.specs.declared.command_line.Argument.{Argument}
-use Rattle.tigertopo_words.specs.declared.command_line.Argument.TheVariants.{All, Most, SkipRefused, Progress, Where, Json, FacesOfDrawing, Faces, FaultsOption, ZeroCells, Join, Released, Files, Point}
+use Rattle.tigertopo_words.specs.declared.command_line.Argument.TheVariants.{All, Most, SkipRefused, Progress, Where, Json, FacesOfDrawing, Faces, Complete, FaultsOption, ZeroCells, Join, Released, Files, Point}
 use Rattle.tigertopo_words.specs.declared.command_line.Argument.TheVariants.{CertOption, OutOption, Tests, Cert, Out, LayerOption, CollectionOption, PictureOption, At, Width, Faults}
 use Rattle.tigertopo_words.specs.declared.command_line.Argument.TheVariants.{NameOption, BorderOption}
 use Rattle.tigertopo_words.specs.Commands.{all_argument, most_argument, skip_argument, zero_cells_argument, join_argument, released_argument, files_argument}
-use Rattle.tigertopo_words.specs.Commands.{progress_argument, where_argument, json_argument, faces_argument, faults_argument, value_argument}
+use Rattle.tigertopo_words.specs.Commands.{progress_argument, where_argument, json_argument, faces_argument, complete_argument, faults_argument, value_argument}
 use Rattle.tigertopo_words.specs.Commands.{name_argument, named_argument, tests_argument}
 use Rattle.tigertopo_words.specs.Commands.{command_on_files, show_app, landmarks_name}
 use Rattle.tigertopo_words.specs.Commands.{locate_app, audit_app, build_app, check_app, conversion_app, export_app, draw_app, border_app}
@@ -37,6 +37,7 @@ rule_for Where = where_argument
 rule_for Json = json_argument
 rule_for FacesOfDrawing = faces_argument
 rule_for Faces = faces_argument
+rule_for Complete = complete_argument
 rule_for FaultsOption = value_argument (codes "geojson")
 rule_for LayerOption = value_argument (codes "layer")
 rule_for CollectionOption = named_argument (codes "geojson")
@@ -89,13 +90,13 @@ abbrev pub arguments_for : Named → List Argument
 arguments_for Show = Join ∷ Released ∷ Files ∷ []
 arguments_for Landmarks = Released ∷ Files ∷ []
 arguments_for Locate = Join ∷ Released ∷ Point ∷ Files ∷ []
-arguments_for Audit = All ∷ Most ∷ SkipRefused ∷ Where ∷ Json ∷ FaultsOption ∷ Progress ∷ Faces ∷ ZeroCells ∷ Join ∷ Released ∷ Files ∷ []
-arguments_for Build = OutOption ∷ Progress ∷ Faces ∷ ZeroCells ∷ Join ∷ Released ∷ Files ∷ []
-arguments_for Check = CertOption ∷ Tests ∷ Progress ∷ Faces ∷ ZeroCells ∷ Join ∷ Released ∷ Files ∷ []
+arguments_for Audit = All ∷ Most ∷ SkipRefused ∷ Where ∷ Json ∷ FaultsOption ∷ Progress ∷ Complete ∷ Faces ∷ ZeroCells ∷ Join ∷ Released ∷ Files ∷ []
+arguments_for Build = OutOption ∷ Progress ∷ Complete ∷ Faces ∷ ZeroCells ∷ Join ∷ Released ∷ Files ∷ []
+arguments_for Check = CertOption ∷ Tests ∷ Progress ∷ Complete ∷ Faces ∷ ZeroCells ∷ Join ∷ Released ∷ Files ∷ []
 arguments_for Convert = Cert ∷ Out ∷ []
 arguments_for Export = CollectionOption ∷ LayerOption ∷ Join ∷ Released ∷ Files ∷ []
 arguments_for Draw = PictureOption ∷ At ∷ Width ∷ Faults ∷ FacesOfDrawing ∷ ZeroCells ∷ Join ∷ Released ∷ Files ∷ []
-arguments_for Border = NameOption ∷ BorderOption ∷ Join ∷ Released ∷ Files ∷ []
+arguments_for Border = NameOption ∷ BorderOption ∷ Complete ∷ Join ∷ Released ∷ Files ∷ []
 
 -- a command was made, and it is so
 abbrev pub OnMade : {E : Type 0} → Result Command E → (Command → Type 0) → Type 0

@@ -14,7 +14,7 @@ use Rattle.tigertopo_words.specs.Commands.{command_line, name_of}
 use Rattle.tigertopo_words.specs.Arguments.{IsGiven, AreSome, IsSwitch, AreChosen, IsBudget, AskForFaults, IsLayer, IsPlace, IsView, FacesNeedFaults, IsCenid}
 
 -- a command; what was given for its FILES, if anything was, and the values of its --released, its --zero-cells, its --faces, its
--- --join and its --all, each of which is the word true where the switch is given; and what was given for its @X,Y, its CERT or --cert, its OUT or
+-- --join, its --complete and its --all, each of which is the word true where the switch is given; and what was given for its @X,Y, its CERT or --cert, its OUT or
 -- --out, its --tests, and its --most; its --skip-refused, its --progress, its --faults, its --where and its --json, which are switches; its --geojson, its --layer, its --at,
 -- its --width and its --name
 pub record Request : Type 0 where
@@ -24,6 +24,7 @@ pub record Request : Type 0 where
   pub zero_cells : Option Text
   pub faces : Option Text
   pub join : Option Text
+  pub complete : Option Text
   pub point : Option Text
   pub cert : Option Text
   pub out : Option Text
@@ -50,6 +51,7 @@ request_in found = record {
   zero_cells = first_of (codes "zero-cells") found.1;
   faces = first_of (codes "faces") found.1;
   join = first_of (codes "join") found.1;
+  complete = first_of (codes "complete") found.1;
   point = first_of (codes "point") found.1;
   cert = first_of (codes "cert") found.1;
   out = first_of (codes "out") found.1;
@@ -87,13 +89,14 @@ AreFiles named given files = AreSome given.files files
 
 -- what its options are: what the switches say that it has; of a border faces are always asked
 abbrev pub AreOptions : Named → Request → Options → Type 0
-AreOptions Show given options = AreChosen given.released None None given.join options
-AreOptions Landmarks given options = AreChosen given.released None None None options
-AreOptions Locate given options = AreChosen given.released None None given.join options
-AreOptions Export given options = AreChosen given.released None None given.join options
-AreOptions Border given options = AreChosen given.released None (Some (codes "true")) given.join options
+AreOptions Show given options = AreChosen given.released None None given.join None options
+AreOptions Landmarks given options = AreChosen given.released None None None None options
+AreOptions Locate given options = AreChosen given.released None None given.join None options
+AreOptions Export given options = AreChosen given.released None None given.join None options
+AreOptions Draw given options = AreChosen given.released given.zero_cells given.faces given.join None options
+AreOptions Border given options = AreChosen given.released None (Some (codes "true")) given.join given.complete options
 AreOptions Convert given options = options ≡ PLAIN
-AreOptions named given options = AreChosen given.released given.zero_cells given.faces given.join options
+AreOptions named given options = AreChosen given.released given.zero_cells given.faces given.join given.complete options
 
 -- whether it is shown how far reading is: where the command has a switch for that and it is given
 abbrev pub IsWatched : Named → Request → Bool → Type 0

@@ -52,50 +52,62 @@ fn copied(alloc: Global, texts: &[&str]) -> Result<Vec<String>, AllocError>
     Ok(copies)
 }
 
-/// What the command's switches say of records and of their map: its --released, and its --join, its --zero-cells and its
-/// --faces, where it has them.
+/// What the command's switches say of records and of their map: its --released, and its --join, its --zero-cells, its --faces and its
+/// --complete, where it has them.
 pub fn options_of(named: &Named, found: &ArgMatches<'_>) -> Options
     ensures { AreOptions named.now (given_by named.now (rows_of (found_of found.now))) result }
 {
     match named {
         Named::Convert => PLAIN,
-        Named::Landmarks => chosen_by(found.get_str("released"), None, None, None),
+        Named::Landmarks => chosen_by(found.get_str("released"), None, None, None, None),
         Named::Show | Named::Locate | Named::Export => chosen_by(
             found.get_str("released"),
             None,
             None,
             found.get_str("join"),
+            None,
         ),
-        Named::Audit | Named::Build | Named::Check | Named::Draw => chosen_by(
+        Named::Audit | Named::Build | Named::Check => chosen_by(
             found.get_str("released"),
             found.get_str("zero-cells"),
             found.get_str("faces"),
             found.get_str("join"),
+            found.get_str("complete"),
+        ),
+        Named::Draw => chosen_by(
+            found.get_str("released"),
+            found.get_str("zero-cells"),
+            found.get_str("faces"),
+            found.get_str("join"),
+            None,
         ),
         Named::Border => chosen_by(
             found.get_str("released"),
             None,
             Some("true"),
             found.get_str("join"),
+            found.get_str("complete"),
         ),
     }
 }
 
-// What the values of the four switches choose.
+// What the values of the five switches choose.
 fn chosen_by(
     released: Option<&str>,
     zero_cells: Option<&str>,
     faces: Option<&str>,
     join: Option<&str>,
+    complete: Option<&str>,
 ) -> Options
     ensures { AreChosen (option_map (λ text. text.now) released.entry) (option_map (λ text. text.now) zero_cells.entry)
-        (option_map (λ text. text.now) faces.entry) (option_map (λ text. text.now) join.entry) result }
+        (option_map (λ text. text.now) faces.entry) (option_map (λ text. text.now) join.entry) (option_map (λ text. text.now) complete.entry) result }
 {
     Options {
         zero_cells: is_set(zero_cells),
         released: is_set(released),
         faces: is_set(faces),
         join: is_set(join),
+        complete: is_set(complete),
     }
 }
 

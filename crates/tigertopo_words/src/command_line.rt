@@ -13,9 +13,9 @@ ghost use Rattle.tigertopo_words.specs.declared.command_line.Named.{Named};
 
 use crate::help::{
     ABOUT, ALL, AT, AUDIT_ABOUT, AUDIT_EXAMPLE, BORDER_ABOUT, BORDER_EXAMPLE, BUILD_ABOUT,
-    BUILD_EXAMPLE, CHECK_ABOUT, CHECK_EXAMPLE, CONVERT_ABOUT, CONVERT_EXAMPLE, DRAW_ABOUT,
-    DRAW_EXAMPLE, EXAMPLES, EXPORT_ABOUT, EXPORT_EXAMPLE, FACES, FACES_OF_DRAWING, FAULTS,
-    FAULTS_COLLECTION, JOIN, JSON, LANDMARKS_ABOUT, LANDMARKS_EXAMPLE, LAYER, LOCATE_ABOUT,
+    BUILD_EXAMPLE, CHECK_ABOUT, CHECK_EXAMPLE, COMPLETE, CONVERT_ABOUT, CONVERT_EXAMPLE,
+    DRAW_ABOUT, DRAW_EXAMPLE, EXAMPLES, EXPORT_ABOUT, EXPORT_EXAMPLE, FACES, FACES_OF_DRAWING,
+    FAULTS, FAULTS_COLLECTION, JOIN, JSON, LANDMARKS_ABOUT, LANDMARKS_EXAMPLE, LAYER, LOCATE_ABOUT,
     LOCATE_EXAMPLE, MOST, NAME, PROGRESS, RELEASED, SHOW_ABOUT, SHOW_EXAMPLE, SKIP_REFUSED, TESTS,
     WHERE, WIDTH, ZERO_CELLS,
 };
@@ -76,6 +76,8 @@ enum Argument {
     Json,
     // --faces
     Faces,
+    // --complete
+    Complete,
     // --faces, of a picture
     FacesOfDrawing,
     // --geojson OUT, of an audit
@@ -249,6 +251,7 @@ fn arguments_of<'a>(named: &Named) -> &'a [Argument]
             Argument::Json,
             Argument::FaultsOption,
             Argument::Progress,
+            Argument::Complete,
             Argument::Faces,
             Argument::ZeroCells,
             Argument::Join,
@@ -258,6 +261,7 @@ fn arguments_of<'a>(named: &Named) -> &'a [Argument]
         Named::Build => &[
             Argument::OutOption,
             Argument::Progress,
+            Argument::Complete,
             Argument::Faces,
             Argument::ZeroCells,
             Argument::Join,
@@ -268,6 +272,7 @@ fn arguments_of<'a>(named: &Named) -> &'a [Argument]
             Argument::CertOption,
             Argument::Tests,
             Argument::Progress,
+            Argument::Complete,
             Argument::Faces,
             Argument::ZeroCells,
             Argument::Join,
@@ -296,6 +301,7 @@ fn arguments_of<'a>(named: &Named) -> &'a [Argument]
         Named::Border => &[
             Argument::NameOption,
             Argument::BorderOption,
+            Argument::Complete,
             Argument::Join,
             Argument::Released,
             Argument::Files,
@@ -356,6 +362,7 @@ fn arg_of<'a>(alloc: Global, argument: &Argument) -> Arg<'a>
         Argument::Where => switch(alloc, "where", WHERE),
         Argument::Json => switch(alloc, "json", JSON),
         Argument::Faces => switch(alloc, "faces", FACES),
+        Argument::Complete => switch(alloc, "complete", COMPLETE),
         Argument::FacesOfDrawing => switch(alloc, "faces", FACES_OF_DRAWING),
         Argument::FaultsOption => option(alloc, "geojson", "OUT", FAULTS_COLLECTION),
         Argument::LayerOption => option(alloc, "layer", "KIND", LAYER),

@@ -201,6 +201,8 @@ pub const FAULTS_COLLECTION: &str = "The file of GeoJSON that is made of faults 
 
 pub const FACES: &str = "Asks too that sides that face one another name one polygon";
 
+pub const COMPLETE: &str = "Asks too that there are records of each of the types 1, I and P";
+
 pub const FACES_OF_DRAWING: &str =
     "Draws too where sides that face one another don't name one polygon; needs --faults";
 

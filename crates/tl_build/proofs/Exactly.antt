@@ -13,6 +13,8 @@ use Rattle.tl_check_verdict.specs.Records.{HaveMap}
 use Rattle.tl_check_verdict.proofs.OneMap.{same_map}
 use Rattle.tl_build.specs.Auditing.{Auditing, SaysSound}
 use Rattle.tl_build.specs.Keeping.Refusing.{refusal_of}
+use Rattle.tl_check_verdict.specs.declared.fault.MapFault.TheVariants.{NoRecords}
+use Rattle.tl_check_verdict.proofs.Deciding.{not_sound_records}
 
 -- what is said of a map is said of the records that have it
 pub of_map : (faces : Bool) (of : List ℕ → AllRecords) (text : Option (List ℕ)) (m : TheMap) (answer : Auditing) → IfSome text (λ t. IsReadFrom (of t) m) → IfOk answer (λ a. SaysSound a ↔ IsSoundFor faces m)
@@ -27,6 +29,8 @@ of_map faces of text m (Err stop) is told = tt
 pub of_refusal : (faces : Bool) (of : List ℕ → AllRecords) (text : Option (List ℕ)) (stop : MapStop) → IfSome text (λ t. StopsReading (of t) stop)
     → IfOk (refusal_of stop) (λ a. IfSome text (λ t. SaysSound a ↔ HaveMap (of t) (IsSoundFor faces)))
 of_refusal faces of text (map.Fault f) is = IfSome_then text is (λ t true. ((λ said. absurd said), (λ have. absurd (have.is_read.no_fault f true.1))))
+of_refusal faces of text (map.NoRecords lacking) is =
+    IfSome_then text is (λ t true. ((λ said. absurd said), (λ have. absurd (not_sound_records faces (of t) (NoRecords lacking) true have))))
 of_refusal faces of text (map.Refused line cause) is = tt
 of_refusal faces of text map.Device is = tt
 of_refusal faces of text map.Memory is = tt

@@ -63,6 +63,7 @@ refused_sound (map.Refused line cause) P = tt
 refused_sound map.Device P = tt
 refused_sound map.Memory P = tt
 refused_sound (map.Fault fault) P = tt
+refused_sound (map.NoRecords lacking) P = tt
 
 refused_fault : (faces : Bool) (of : List ℕ → AllRecords) (text : Option (List ℕ)) (why : MapStop) → IfSome text (λ t. StopsReading (of t) why)
     → IfFaulty (refusal_of why) (λ f. IfSome text (λ t. IsTrueOfRecords faces (of t) f))
@@ -70,6 +71,7 @@ refused_fault faces of text (map.Refused line cause) stops = tt
 refused_fault faces of text map.Device stops = tt
 refused_fault faces of text map.Memory stops = tt
 refused_fault faces of text (map.Fault fault) stops = stops
+refused_fault faces of text (map.NoRecords lacking) stops = stops
 
 refused_stops : (of : List ℕ → AllRecords) (text : Option (List ℕ)) (why : MapStop) → IfSome text (λ t. StopsReading (of t) why)
     → IfErr (refusal_of why) (λ s. IfSome text (λ t. MayStopAudit (of t) s))
@@ -77,12 +79,14 @@ refused_stops of text (map.Refused line cause) stops = stops
 refused_stops of text map.Device stops = stops
 refused_stops of text map.Memory stops = stops
 refused_stops of text (map.Fault fault) stops = tt
+refused_stops of text (map.NoRecords lacking) stops = tt
 
 refused_tells : (old new : ℕ) (why : MapStop) → TellsReading {T = Map} old new (Err why) → TellsDevice old new (refusal_of why)
 refused_tells old new (map.Refused line cause) tells = tells
 refused_tells old new map.Device tells = tells
 refused_tells old new map.Memory tells = tells
 refused_tells old new (map.Fault fault) tells = tells
+refused_tells old new (map.NoRecords lacking) tells = tells
 
 -- ---- what was read of records
 
@@ -131,6 +135,7 @@ refused_unspent (map.Refused line cause) = tt
 refused_unspent map.Device = tt
 refused_unspent map.Memory = tt
 refused_unspent (map.Fault fault) = tt
+refused_unspent (map.NoRecords lacking) = tt
 
 pub unspent : (faces : Bool) (answer : Auditing) (read : Result Map MapStop) → AuditsRead faces read answer → IfErr answer IsNotBudget
 unspent faces answer (Ok m) says = map_unspent faces m answer says

@@ -1,5 +1,4 @@
 -- Lemmas on output.
-pub mod LineLemmas
 pub mod PrinterLemmas
 pub mod StopLemmas
 pub mod TextLemmas

@@ -5,10 +5,10 @@ use lib.Seq.{take-append_seam}
 use Rattle.std.specs.Io.KnownBytes.{Appends}
 use Rattle.std.proofs.KnownBytes.{Appends-trans}
 use Rattle.std.proofs.lemmas.Bool.Decides.{nat_tests}
-use Rattle.std.specs.Prelude.{◌==◌, ◌&&◌, ◌≢◌, not, if◌then◌else◌, Option, Some, None, IfSome, OnOk}
+use Rattle.std.specs.Prelude.{◌==◌, ◌&&◌, ◌≢◌, not, if◌then◌else◌, Option, OnOk}
 use Rattle.tl_record.specs.Failures.{one_more}
 use Rattle.std.specs.Result.{IsErr}
-use Rattle.tl_cert_output.specs.Writing.{PassesOn, PassesSome, TriesToPassOn, CountsFailure, FailsToWrite, WritesSome, line_of}
+use Rattle.tl_cert_output.specs.Writing.{PassesOn, PassesSome, TriesToPassOn, CountsFailure, FailsToWrite, WritesSome}
 
 -- a write that took some bytes has not failed
 pub no_failure : (taken count size : ℕ) → taken ≢ 0
@@ -68,12 +68,6 @@ writes_some contents failures old new text some failure =
           (sym (take-append_seam p.taken some.lost) ∙ ap (take (length p.taken)) p.whole) p.grown;
       failure = failure;
     }
-
--- the same of a value's line, where its text is known
-pub writes_some_line : {S : Type 0} (contents : S → Option (List ℕ)) (failures : S → ℕ) (old new : S) (line : List ℕ) (text : Option (List ℕ)) → IfSome text (λ t. line ≡ line_of t)
-    → PassesSome (contents old) (contents new) [] line → FailsToWrite failures old new → IfSome text (λ t. WritesSome contents failures old new (line_of t))
-writes_some_line contents failures old new line None is some failure = tt
-writes_some_line contents failures old new line (Some t) is some failure = subst (WritesSome contents failures old new) is (writes_some contents failures old new line some failure)
 
 -- ---- what an error says, in the form in which `?` passes it on
 

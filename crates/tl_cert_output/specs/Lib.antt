@@ -2,7 +2,6 @@
 pub mod Writing
 pub mod Printed
 pub mod Printing
-pub mod Lines
 pub mod Stops
 pub mod Streams
 pub mod Texts

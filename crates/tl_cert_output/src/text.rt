@@ -1,14 +1,11 @@
 //! Texts that can be printed.
 
-ghost use Rattle.std.specs.Prelude.{◌≡◌, ℕ, List, [], is_some, true, unwrap_or};
+ghost use Rattle.std.specs.Prelude.{◌≡◌, ℕ, List};
 ghost use Rattle.tl_cert_output.specs.Texts.{PrintsText, printed_by};
-ghost use Rattle.tl_cert_output.specs.Writing.{line_of};
 
-use crate::line::print_line;
 use crate::output::write_all;
 use crate::stop::Stop;
 use std::alloc::Global;
-use std::fmt::Display;
 use std::io;
 use tl_record::Sink;
 
@@ -25,22 +22,6 @@ pub trait Text {
     fn print<S: Sink>(&self, alloc: Global, out: &mut S) -> Result<(), Stop>
         requires { is_ready self.now }
         ensures { PrintsText S.contents S.failure_count out.old out.new (text self.now) result };
-}
-
-/// A line: the text of a value and a line feed, as [`print_line`] writes it.
-#[derive(Clone, Copy)]
-pub struct Line<D> {
-    pub value: D,
-}
-
-impl<D: Display> Text for Line<D> {
-    ghost text = { λ line. line_of (unwrap_or (D.output line.value) []) };
-
-    ghost is_ready = { λ line. is_some (D.output line.value) ≡ true };
-
-    fn print<S: Sink>(&self, _alloc: Global, out: &mut S) -> Result<(), Stop> {
-        print_line(&self.value, out)
-    }
 }
 
 /// Bytes that were put together before.

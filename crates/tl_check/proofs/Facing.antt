@@ -3,7 +3,7 @@ use Rattle.std.proofs.Common.{◌≡◌, ℕ, Bool, IsTrue, false, Ok, Err, Opti
 use Rattle.std.specs.Prelude.{IfErr}
 use Rattle.tl_map_county.specs.TheMap.{TheMap}
 use Rattle.tl_check_verdict.specs.declared.fault.MapFault.{MapFault}
-use Rattle.tl_check_verdict.specs.declared.fault.MapFault.TheVariants.{Records, Meet, Side, PolygonPoint, Cell, Face}
+use Rattle.tl_check_verdict.specs.declared.fault.MapFault.TheVariants.{Records, NoRecords, Meet, Side, PolygonPoint, Cell, Face}
 use Rattle.tl_check_verdict.specs.declared.fault.CertFault.{CertFault}
 use Rattle.tl_check_verdict.specs.declared.verdict.Report.{Report}
 use Rattle.tl_check_verdict.specs.declared.verdict.Verdict.{Verdict}
@@ -45,6 +45,7 @@ alone m sound = record { sound = sound; facing = λ asked. absurd (cc) }
 module _ (P : Type 0) (p : P) where
   of_faces_but : (fault : MapFault) → IsOfFaces fault → OnSoundButFaces (Ok (verdict.MapFault fault)) P
   of_faces_but (Records fault) is = absurd is
+  of_faces_but (NoRecords lacking) is = absurd is
   of_faces_but (Meet meet) is = absurd is
   of_faces_but (Side node first next) is = absurd is
   of_faces_but (PolygonPoint fault) is = absurd is
@@ -53,6 +54,7 @@ module _ (P : Type 0) (p : P) where
 
   of_faces_meets : (fault : MapFault) → IsOfFaces fault → UnlessMeet (Ok (verdict.MapFault fault)) P
   of_faces_meets (Records fault) is = absurd is
+  of_faces_meets (NoRecords lacking) is = absurd is
   of_faces_meets (Meet meet) is = absurd is
   of_faces_meets (Side node first next) is = absurd is
   of_faces_meets (PolygonPoint fault) is = absurd is
@@ -61,6 +63,7 @@ module _ (P : Type 0) (p : P) where
 
 of_faces_searched : (P : Type 0) (fault : MapFault) → IsOfFaces fault → OnSearched (Ok (verdict.MapFault fault)) P
 of_faces_searched P (Records fault) is = absurd is
+of_faces_searched P (NoRecords lacking) is = absurd is
 of_faces_searched P (Meet meet) is = absurd is
 of_faces_searched P (Side node first next) is = absurd is
 of_faces_searched P (PolygonPoint fault) is = absurd is
@@ -70,6 +73,7 @@ of_faces_searched P (Face fault) is = tt
 -- one that is true without faces isn't of faces
 not_of_faces : (P : Type 0) (m : TheMap) (fault : MapFault) → IsTrueOfMap false m fault → OnSoundButFaces (Ok (verdict.MapFault fault)) P
 not_of_faces P m (Records fault) true = tt
+not_of_faces P m (NoRecords lacking) true = tt
 not_of_faces P m (Meet meet) true = tt
 not_of_faces P m (Side node first next) true = tt
 not_of_faces P m (PolygonPoint fault) true = tt

@@ -11,7 +11,7 @@ use Rattle.tl_check.specs.declared.state.State.{State}
 use Rattle.tl_check.specs.declared.state.Halt.{Halt}
 use Rattle.tl_check.specs.declared.state.Halt.TheVariants as halt
 use Rattle.tl_check_verdict.specs.declared.fault.MapFault.{MapFault}
-use Rattle.tl_check_verdict.specs.declared.fault.MapFault.TheVariants.{Records, Meet, Side, PolygonPoint, Cell, Face}
+use Rattle.tl_check_verdict.specs.declared.fault.MapFault.TheVariants.{Records, NoRecords, Meet, Side, PolygonPoint, Cell, Face}
 use Rattle.tl_check_verdict.specs.declared.verdict.Report.{Report}
 use Rattle.tl_check_verdict.specs.declared.verdict.Verdict.TheVariants as verdict
 use Rattle.tl_cert_output.specs.declared.stop.Stop.TheVariants.{Record, Memory, Device, Budget}
@@ -39,6 +39,7 @@ ended m c budget halt.Budget may allows = absurd may
 -- what is concluded of a certificate in memory
 searched_true : (m : TheMap) (fault : MapFault) (P : Type 0) → IsTrueOfMap false m fault → OnSearched (Ok (verdict.MapFault fault)) P → P
 searched_true m (Records fault) P true so = absurd true
+searched_true m (NoRecords lacking) P true so = absurd true
 searched_true m (Meet meet) P true so = so
 searched_true m (Side node first next) P true so = so
 searched_true m (PolygonPoint fault) P true so = so

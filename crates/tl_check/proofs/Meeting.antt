@@ -19,7 +19,7 @@ use Rattle.tl_cert.proofs.Completing.{joined-append}
 use Rattle.tl_cert.proofs.CollectLemmas.{gives_here, breaks_all}
 use Rattle.tl_cert.proofs.Leading.{one_beginning}
 use Rattle.tl_check_verdict.specs.declared.fault.MapFault.{MapFault}
-use Rattle.tl_check_verdict.specs.declared.fault.MapFault.TheVariants.{Records, Meet, Side, PolygonPoint, Cell, Face}
+use Rattle.tl_check_verdict.specs.declared.fault.MapFault.TheVariants.{Records, NoRecords, Meet, Side, PolygonPoint, Cell, Face}
 use Rattle.tl_check_verdict.specs.declared.verdict.Verdict.TheVariants as verdict
 use Rattle.tl_check.specs.declared.state.Halt.{Halt}
 use Rattle.tl_check.specs.declared.state.Halt.TheVariants as halt
@@ -37,6 +37,7 @@ use Rattle.tl_check.proofs.Whole.{goes_on_with_nothing}
 -- what is so anyway
 fault_meets : (fault : MapFault) (P : Type 0) → P → UnlessMeet (Ok (verdict.MapFault fault)) P
 fault_meets (Records fault) P p = tt
+fault_meets (NoRecords lacking) P p = tt
 fault_meets (Meet meet) P p = tt
 fault_meets (Side node first next) P p = p
 fault_meets (PolygonPoint fault) P p = p
@@ -52,6 +53,7 @@ meets_so (Err why) P p = tt
 -- what is so of another thing
 fault_leads : (fault : MapFault) (P Q : Type 0) → UnlessMeet (Ok (verdict.MapFault fault)) P → (P → Q) → UnlessMeet (Ok (verdict.MapFault fault)) Q
 fault_leads (Records fault) P Q p so = tt
+fault_leads (NoRecords lacking) P Q p so = tt
 fault_leads (Meet meet) P Q p so = tt
 fault_leads (Side node first next) P Q p so = so p
 fault_leads (PolygonPoint fault) P Q p so = so p
@@ -67,6 +69,7 @@ meets_leads (Err why) P Q p so = tt
 -- where no further part is looked at
 met_fault : (fault : MapFault) (P : Type 0) → P → UnlessMet (halt.Fault fault) P
 met_fault (Records fault) P p = p
+met_fault (NoRecords lacking) P p = p
 met_fault (Meet meet) P p = tt
 met_fault (Side node first next) P p = p
 met_fault (PolygonPoint fault) P p = p
@@ -80,6 +83,7 @@ met_so halt.Budget P p = tt
 
 halted_fault : (fault : MapFault) (P Q : Type 0) → UnlessMet (halt.Fault fault) P → (P → Q) → UnlessMeet (Ok (verdict.MapFault fault)) Q
 halted_fault (Records fault) P Q p so = tt
+halted_fault (NoRecords lacking) P Q p so = tt
 halted_fault (Meet meet) P Q p so = tt
 halted_fault (Side node first next) P Q p so = so p
 halted_fault (PolygonPoint fault) P Q p so = so p
@@ -97,6 +101,7 @@ refused_meets (map.Refused line cause) P = tt
 refused_meets map.Device P = tt
 refused_meets map.Memory P = tt
 refused_meets (map.Fault fault) P = tt
+refused_meets (map.NoRecords lacking) P = tt
 
 -- chains are planar behind parts that were taken, where their certificate allows a search
 allowed_planar : (m : TheMap) (c : TheCertificate) (s : State) → Holds m c s → IsBehindSearch m s → AllowsSearch m c → IsPlanar m.chains

@@ -9,7 +9,7 @@ use Rattle.tl_map_rules.specs.declared.fault.MapStop.TheVariants as map
 use Rattle.tl_map_county.specs.TheMap.{TheMap}
 use Rattle.tl_check_planar.specs.Planar.{IsPlanar}
 use Rattle.tl_map_rules.specs.Reading.{IsReadFrom, StopsReading, TellsDevice as TellsReading}
-use Rattle.tl_check_verdict.specs.declared.fault.MapFault.TheVariants.{Records, Meet, Side, PolygonPoint, Cell, Face}
+use Rattle.tl_check_verdict.specs.declared.fault.MapFault.TheVariants.{Records, NoRecords, Meet, Side, PolygonPoint, Cell, Face}
 use Rattle.tl_check_verdict.specs.declared.verdict.Report.{Report}
 use Rattle.tl_check_verdict.specs.declared.verdict.Verdict.TheVariants as verdict
 use Rattle.tl_check_verdict.specs.declared.fault.CertFault.{CertFault}
@@ -30,6 +30,7 @@ pub but_faces_so : (answer : Answer) (P Q : Type 0) → OnSoundButFaces answer P
 but_faces_so (Ok (verdict.Sound report)) P Q p so = so p
 but_faces_so (Ok (verdict.CertFault fault)) P Q p so = tt
 but_faces_so (Ok (verdict.MapFault (Records fault))) P Q p so = tt
+but_faces_so (Ok (verdict.MapFault (NoRecords lacking))) P Q p so = tt
 but_faces_so (Ok (verdict.MapFault (Meet meet))) P Q p so = tt
 but_faces_so (Ok (verdict.MapFault (Side node first next))) P Q p so = tt
 but_faces_so (Ok (verdict.MapFault (PolygonPoint fault))) P Q p so = tt
@@ -98,6 +99,7 @@ pub unread : (faces : Bool) (m : TheMap) (budget : ℕ) (P : Type 0) (answer : A
 unread faces m budget P (Ok (verdict.Sound report)) true may = tt
 unread faces m budget P (Ok (verdict.CertFault f)) true may = tt
 unread faces m budget P (Ok (verdict.MapFault (Records fault))) true may = absurd true
+unread faces m budget P (Ok (verdict.MapFault (NoRecords lacking))) true may = absurd true
 unread faces m budget P (Ok (verdict.MapFault (Meet meet))) true may = tt
 unread faces m budget P (Ok (verdict.MapFault (Side node first next))) true may = tt
 unread faces m budget P (Ok (verdict.MapFault (PolygonPoint fault))) true may = tt
@@ -122,45 +124,53 @@ refused_sound (map.Refused line cause) P = tt
 refused_sound map.Device P = tt
 refused_sound map.Memory P = tt
 refused_sound (map.Fault fault) P = tt
+refused_sound (map.NoRecords lacking) P = tt
 
 pub refused_but_faces : (why : MapStop) (P : Type 0) → OnSoundButFaces (refusal_of why) P
 refused_but_faces (map.Refused line cause) P = tt
 refused_but_faces map.Device P = tt
 refused_but_faces map.Memory P = tt
 refused_but_faces (map.Fault fault) P = tt
+refused_but_faces (map.NoRecords lacking) P = tt
 
 pub refused_cert : (why : MapStop) (P : CertFault → Type 0) → IfCertFault (refusal_of why) P
 refused_cert (map.Refused line cause) P = tt
 refused_cert map.Device P = tt
 refused_cert map.Memory P = tt
 refused_cert (map.Fault fault) P = tt
+refused_cert (map.NoRecords lacking) P = tt
 
 pub refused_searched : (why : MapStop) (P : Type 0) → OnSearched (refusal_of why) P
 refused_searched (map.Refused line cause) P = tt
 refused_searched map.Device P = tt
 refused_searched map.Memory P = tt
 refused_searched (map.Fault fault) P = tt
+refused_searched (map.NoRecords lacking) P = tt
 
 pub refused_fault : (faces : Bool) (of : List ℕ → AllRecords) (text : Option (List ℕ)) (why : MapStop) → IfSome text (λ t. StopsReading (of t) why) → IfMapFault (refusal_of why) (λ f. IfSome text (λ t. IsTrueOfRecords faces (of t) f))
 refused_fault faces of text (map.Refused line cause) stops = tt
 refused_fault faces of text map.Device stops = tt
 refused_fault faces of text map.Memory stops = tt
 refused_fault faces of text (map.Fault fault) stops = stops
+refused_fault faces of text (map.NoRecords lacking) stops = stops
 
 pub refused_stops : (of : List ℕ → AllRecords) (text : Option (List ℕ)) (budget : ℕ) (why : MapStop) → IfSome text (λ t. StopsReading (of t) why) → IfErr (refusal_of why) (λ s. IfSome text (λ t. MayStopOn (of t) budget s))
 refused_stops of text budget (map.Refused line cause) stops = stops
 refused_stops of text budget map.Device stops = stops
 refused_stops of text budget map.Memory stops = stops
 refused_stops of text budget (map.Fault fault) stops = tt
+refused_stops of text budget (map.NoRecords lacking) stops = tt
 
 pub refused_unread : (why : MapStop) (P : Type 0) → P → LeavesUnread (refusal_of why) P
 refused_unread (map.Refused line cause) P p = p
 refused_unread map.Device P p = tt
 refused_unread map.Memory P p = tt
 refused_unread (map.Fault fault) P p = p
+refused_unread (map.NoRecords lacking) P p = p
 
 pub refused_tells : (T : Type 0) (old new cert : ℕ) (why : MapStop) → TellsReading {T = T} old new (Err why) → TellsEither old new cert cert (refusal_of why)
 refused_tells T old new cert (map.Refused line cause) tells = (tells, refl)
 refused_tells T old new cert map.Device tells = inl (tells, refl)
 refused_tells T old new cert map.Memory tells = (tells, refl)
 refused_tells T old new cert (map.Fault fault) tells = (tells, refl)
+refused_tells T old new cert (map.NoRecords lacking) tells = (tells, refl)

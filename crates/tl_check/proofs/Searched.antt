@@ -10,7 +10,7 @@ use Rattle.tl_cert.specs.Certificates.{TheCertificate, IsCertificate}
 use Rattle.tl_cert.specs.Reading.{unread}
 use Rattle.tl_cert.specs.Keeping.Collecting.{Collects, Follows}
 use Rattle.tl_check_verdict.specs.declared.fault.MapFault.{MapFault}
-use Rattle.tl_check_verdict.specs.declared.fault.MapFault.TheVariants.{Records, Meet, Side, PolygonPoint, Cell, Face}
+use Rattle.tl_check_verdict.specs.declared.fault.MapFault.TheVariants.{Records, NoRecords, Meet, Side, PolygonPoint, Cell, Face}
 use Rattle.tl_check_verdict.specs.declared.verdict.Verdict.TheVariants as verdict
 use Rattle.tl_cert_output.specs.declared.stop.Stop.TheVariants.{Record, Memory, Device, Budget}
 use Rattle.tl_check.specs.declared.state.Halt.{Halt}
@@ -51,6 +51,7 @@ answered_within halt.Budget P = tt
 
 pub fault_searched : (fault : MapFault) (P : Type 0) → P → OnSearched (Ok (verdict.MapFault fault)) P
 fault_searched (Records fault) P p = tt
+fault_searched (NoRecords lacking) P p = tt
 fault_searched (Meet meet) P p = p
 fault_searched (Side node first next) P p = p
 fault_searched (PolygonPoint fault) P p = p
@@ -72,6 +73,7 @@ pub searched_so : (answer : Answer) (P Q : Type 0) → OnSearched answer P → (
 searched_so (Ok (verdict.Sound report)) P Q p so = tt
 searched_so (Ok (verdict.CertFault fault)) P Q p so = tt
 searched_so (Ok (verdict.MapFault (Records fault))) P Q p so = tt
+searched_so (Ok (verdict.MapFault (NoRecords lacking))) P Q p so = tt
 searched_so (Ok (verdict.MapFault (Meet meet))) P Q p so = so p
 searched_so (Ok (verdict.MapFault (Side node first next))) P Q p so = so p
 searched_so (Ok (verdict.MapFault (PolygonPoint fault))) P Q p so = so p

@@ -13,7 +13,7 @@ use Rattle.tl_cert.specs.Certificates.{TheCertificate}
 use Rattle.tl_cert.specs.Beginnings.{IsTextOf}
 use Rattle.tl_cert.proofs.OneText.{one_by_text}
 use Rattle.tl_check_verdict.specs.declared.fault.MapFault.{MapFault}
-use Rattle.tl_check_verdict.specs.declared.fault.MapFault.TheVariants.{Records, Meet, Side, PolygonPoint, Cell, Face}
+use Rattle.tl_check_verdict.specs.declared.fault.MapFault.TheVariants.{Records, NoRecords, Meet, Side, PolygonPoint, Cell, Face}
 use Rattle.tl_check_verdict.specs.declared.fault.CertFault.{CertFault}
 use Rattle.tl_check_verdict.specs.declared.fault.CertFault.TheVariants.{Text, Counts, Tree, TooDeep, Round, Walk}
 use Rattle.tl_check_verdict.specs.declared.verdict.Verdict.TheVariants as verdict
@@ -36,6 +36,11 @@ not_sound_map faces all f true sound =
 
 pub not_sound_records : (faces : Bool) (all : AllRecords) (f : MapFault) → IsTrueOfRecords faces all f → ¬ HaveMap all (IsSoundFor faces)
 not_sound_records faces all (Records f) true sound = sound.is_read.no_fault f true.1
+not_sound_records faces all (NoRecords lacking) true sound =
+    let none = sound.is_read.none_lacking in
+    let same = true.1 in
+    let some = true.2 in
+    absurd (cc)
 not_sound_records faces all (Meet meet) true sound = not_sound_map faces all (Meet meet) true sound
 not_sound_records faces all (Side node first next) true sound = not_sound_map faces all (Side node first next) true sound
 not_sound_records faces all (PolygonPoint fault) true sound = not_sound_map faces all (PolygonPoint fault) true sound

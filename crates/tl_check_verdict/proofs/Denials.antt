@@ -24,7 +24,7 @@ use Rattle.tl_check_inside.specs.Placed.{ArePlaced, IsTrueMisplaced}
 use Rattle.tl_check_sides.specs.Cells.Cells.{CellsAgree, AreCellsAtOdds}
 use Rattle.tl_cert.specs.Certificates.{TheCertificate}
 use Rattle.tl_check_verdict.specs.declared.fault.MapFault.{MapFault}
-use Rattle.tl_check_verdict.specs.declared.fault.MapFault.TheVariants.{Records, Meet, Side, PolygonPoint, Cell, Face}
+use Rattle.tl_check_verdict.specs.declared.fault.MapFault.TheVariants.{Records, NoRecords, Meet, Side, PolygonPoint, Cell, Face}
 use Rattle.tl_check_verdict.specs.declared.fault.CertFault.{CertFault}
 use Rattle.tl_check_verdict.specs.declared.fault.CertFault.TheVariants as fault
 use Rattle.tl_check_verdict.specs.Sound.{IsSound, IsSoundFor}
@@ -49,6 +49,7 @@ misplaced_denies m (InOther polygon other) true placed =
 -- a fault that is true denies what is asked
 pub not_sound : (faces : Bool) (m : TheMap) (f : MapFault) → IsTrueOfMap faces m f → ¬ IsSoundFor faces m
 not_sound faces m (Records f) true sound = absurd true
+not_sound faces m (NoRecords lacking) true sound = absurd true
 not_sound faces m (Meet meet) true sound = meet_not_planar m.chains meet.s meet.t meet.at true.ordered true.told.meet sound.sound.planar
 not_sound faces m (Side node first next) true sound = true.differ (sound.sound.sides first next true.is_next)
 not_sound faces m (PolygonPoint fault) true sound = misplaced_denies m fault true sound.sound.points
@@ -62,6 +63,7 @@ not_sound_alone m f true sound = not_sound false m f true (record { sound = soun
 -- a fault that is true where faces aren't asked for is true where they are
 pub true_still : (faces : Bool) (m : TheMap) (f : MapFault) → IsTrueOfMap false m f → IsTrueOfMap faces m f
 true_still faces m (Records f) true = absurd true
+true_still faces m (NoRecords lacking) true = absurd true
 true_still faces m (Meet meet) true = true
 true_still faces m (Side node first next) true = true
 true_still faces m (PolygonPoint fault) true = true

@@ -3,7 +3,7 @@ use Rattle.std.specs.Prelude.{ℕ, List, ◌++◌, Option, None, Some, codes, de
 use Rattle.std.specs.Fmt.{signed_decimal}
 use Rattle.tl_geom.specs.declared.point.Point.{Point}
 use Rattle.tl_record_key.specs.KeyText.{key_text}
-use Rattle.tl_map_rules.specs.Messages.{fault_text}
+use Rattle.tl_map_rules.specs.Messages.{fault_text, lacking_text}
 use Rattle.tl_check_inside.specs.declared.misplaced.Misplaced.{Misplaced}
 use Rattle.tl_check_inside.specs.declared.misplaced.Misplaced.TheVariants.{OnChain, Outside, InOther}
 use Rattle.tl_check_faces.specs.FaultTexts.{rational_text, face_fault_text}
@@ -14,7 +14,7 @@ use Rattle.tl_check_sides.specs.declared.fault.RoundFault.TheVariants as round
 use Rattle.tl_check_sides.specs.declared.fault.WalkFault.{WalkFault}
 use Rattle.tl_check_sides.specs.declared.fault.WalkFault.TheVariants as walk
 use Rattle.tl_check_verdict.specs.declared.fault.MapFault.{MapFault}
-use Rattle.tl_check_verdict.specs.declared.fault.MapFault.TheVariants.{Records, Meet, Side, PolygonPoint, Cell, Face}
+use Rattle.tl_check_verdict.specs.declared.fault.MapFault.TheVariants.{Records, NoRecords, Meet, Side, PolygonPoint, Cell, Face}
 use Rattle.tl_check_verdict.specs.declared.fault.CertFault.{CertFault}
 use Rattle.tl_check_verdict.specs.declared.fault.CertFault.TheVariants.{Text, Counts, Tree, TooDeep, Round, Walk}
 use Rattle.tl_check_verdict.specs.declared.verdict.Report.{Report}
@@ -36,6 +36,7 @@ misplaced_text (InOther polygon other) = codes "G5 PointInOther polygon " ++ key
 -- the code and the name of a map's fault, with what it is about
 abbrev pub map_fault_text : MapFault → List ℕ
 map_fault_text (Records fault) = fault_text fault
+map_fault_text (NoRecords lacking) = lacking_text lacking
 map_fault_text (Meet meet) =
     codes "map fault G1 Meet " ++ segment_text meet.tlid meet.s ++ codes " " ++ segment_text meet.other meet.t
     ++ codes " at " ++ rational_text meet.at

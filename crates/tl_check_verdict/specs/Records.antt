@@ -1,13 +1,14 @@
 -- What is said of records beside the text of a certificate.
-use Rattle.std.specs.Prelude.{◌≡◌, ◌⊎◌, ℕ, Bool, Some, None, Ok, Err, ⊤}
+use Rattle.std.specs.Prelude.{◌≡◌, ◌⊎◌, ℕ, Bool, true, Some, None, Ok, Err, ⊤}
 use Rattle.tl_record.specs.Failures.{one_more}
 use Rattle.tl_record.specs.Records.{Records as AllRecords}
 use Rattle.tl_map_rules.specs.Faults.{IsTrueOf}
-use Rattle.tl_map_rules.specs.Reading.{records_in, IsReadFrom}
+use Rattle.tl_map_rules.specs.Lacking.{lacks}
+use Rattle.tl_map_rules.specs.Reading.{records_in, lacking_of, IsReadFrom}
 use Rattle.tl_map_county.specs.TheMap.{TheMap}
 use Rattle.tl_check_planar.specs.Searching.{AreBeyond}
 use Rattle.tl_check_verdict.specs.declared.fault.MapFault.{MapFault}
-use Rattle.tl_check_verdict.specs.declared.fault.MapFault.TheVariants.{Records}
+use Rattle.tl_check_verdict.specs.declared.fault.MapFault.TheVariants.{Records, NoRecords}
 use Rattle.tl_check_verdict.specs.declared.verdict.Verdict.TheVariants as verdict
 use Rattle.tl_cert_output.specs.declared.stop.Stop.{Stop}
 use Rattle.tl_cert_output.specs.declared.stop.Stop.TheVariants.{Record, Memory, Device, Budget}
@@ -20,10 +21,11 @@ pub record HaveMap (all : AllRecords) (P : TheMap → Type 0) : Type 0 where
   pub is_read : IsReadFrom all map
   pub so : P map
 
--- what a fault says of records: no line is refused and they have no map, for this reason; or they have one, and the fault is
--- true of it
+-- what a fault says of records: no line is refused and they have no map, for this reason; or none is refused, and there are none of some
+-- type that is asked for; or they have a map, and the fault is true of it
 abbrev pub IsTrueOfRecords : (faces : Bool) → AllRecords → MapFault → Type 0
 IsTrueOfRecords faces all (Records fault) = (all.refusal ≡ None) × IsTrueOf (records_in all) fault
+IsTrueOfRecords faces all (NoRecords lacking) = (all.refusal ≡ None) × (lacking ≡ lacking_of all) × (lacks lacking ≡ true)
 IsTrueOfRecords faces all fault = HaveMap all (λ m. IsTrueOfMap faces m fault)
 
 -- why records aren't decided: this line is the first that is refused, memory was refused, a read failed, or more pairs of
@@ -45,4 +47,5 @@ TellsEither records_old records_new cert_old cert_new other = (records_new ≡ r
 abbrev pub LeavesUnread : Answer → Type 0 → Type 0
 LeavesUnread (Err (Record line cause)) P = P
 LeavesUnread (Ok (verdict.MapFault (Records fault))) P = P
+LeavesUnread (Ok (verdict.MapFault (NoRecords lacking))) P = P
 LeavesUnread other P = ⊤

@@ -16,7 +16,7 @@ use Rattle.tl_check_faces.specs.Faults.{IsTrueFaceFault}
 use Rattle.tl_check_faces.specs.Truth.{AreFacesTrue}
 use Rattle.tl_cert.specs.Certificates.{TheCertificate}
 use Rattle.tl_check_verdict.specs.declared.fault.MapFault.{MapFault}
-use Rattle.tl_check_verdict.specs.declared.fault.MapFault.TheVariants.{Records, Meet, Side, PolygonPoint, Cell, Face}
+use Rattle.tl_check_verdict.specs.declared.fault.MapFault.TheVariants.{Records, NoRecords, Meet, Side, PolygonPoint, Cell, Face}
 use Rattle.tl_check_verdict.specs.declared.fault.CertFault.{CertFault}
 use Rattle.tl_check_verdict.specs.declared.fault.CertFault.TheVariants.{Text, Counts, Tree, TooDeep, Round, Walk}
 use Rattle.tl_check_verdict.specs.Sound.{IsSound}
@@ -31,9 +31,10 @@ pub record AreAtOdds (m : TheMap) (node : Point) (first next : ℕ) : Type 0 whe
 
 -- what a fault says of a map: two segments meet where they may not, sides don't agree, a polygon's point is misplaced, or
 -- zero-cell ids don't agree; or faces are asked for, nothing of this is so, and faces disagree, so that they aren't true. That its
--- records have a fault is never true of a map
+-- records have a fault, or that there are none of some type, is never true of a map
 abbrev pub IsTrueOfMap : (faces : Bool) → TheMap → MapFault → Type 0
 IsTrueOfMap faces m (Records fault) = ⊥
+IsTrueOfMap faces m (NoRecords lacking) = ⊥
 IsTrueOfMap faces m (Meet meet) = IsTrueMeet m.chains meet
 IsTrueOfMap faces m (Side node first next) = AreAtOdds m node first next
 IsTrueOfMap faces m (PolygonPoint fault) = IsTrueMisplaced m fault

@@ -6,7 +6,7 @@ use Rattle.tl_map_county.specs.Nodes.{AreNodes}
 use Rattle.tl_check_planar.specs.Searching.{AreBeyond}
 use Rattle.tl_check_sides.specs.Walks.{AreWalks}
 use Rattle.tl_check_verdict.specs.declared.fault.MapFault.{MapFault}
-use Rattle.tl_check_verdict.specs.declared.fault.MapFault.TheVariants.{Records, Meet, Face}
+use Rattle.tl_check_verdict.specs.declared.fault.MapFault.TheVariants.{Records, NoRecords, Meet, Face}
 use Rattle.tl_check_verdict.specs.declared.fault.CertFault.{CertFault}
 use Rattle.tl_check_verdict.specs.declared.verdict.Report.{Report}
 use Rattle.tl_check_verdict.specs.declared.verdict.Verdict.{Verdict}
@@ -47,6 +47,7 @@ IfCertFault other P = ⊤
 -- that disagree more is said
 abbrev pub OnSearched : Answer → Type 0 → Type 0
 OnSearched (Ok (verdict.MapFault (Records fault))) P = ⊤
+OnSearched (Ok (verdict.MapFault (NoRecords lacking))) P = ⊤
 OnSearched (Ok (verdict.MapFault (Face fault))) P = ⊤
 OnSearched (Ok (verdict.MapFault fault)) P = P
 OnSearched (Err Budget) P = P
@@ -56,6 +57,7 @@ OnSearched other P = ⊤
 abbrev pub UnlessMeet : Answer → Type 0 → Type 0
 UnlessMeet (Ok (verdict.Sound report)) P = P
 UnlessMeet (Ok (verdict.MapFault (Records fault))) P = ⊤
+UnlessMeet (Ok (verdict.MapFault (NoRecords lacking))) P = ⊤
 UnlessMeet (Ok (verdict.MapFault (Meet meet))) P = ⊤
 UnlessMeet (Ok (verdict.MapFault fault)) P = P
 UnlessMeet (Ok (verdict.CertFault fault)) P = P

@@ -10,6 +10,7 @@ use tl_check_planar::Meet;
 use tl_check_sides::cells::CellsAtOdds;
 use tl_check_sides::{RoundFault, WalkFault};
 use tl_geom::Point;
+use tl_map_rules::Lacking;
 use tl_tree_index::TreeFault;
 
 /// Why a map isn't sound, or why records have no map. It is printed as `map fault`, its code and name, and what it is
@@ -18,6 +19,9 @@ use tl_tree_index::TreeFault;
 pub enum MapFault {
     /// The records have no map: M1 to M13.
     Records(tl_map_rules::RecordFault),
+    /// M14: records of each of the types 1, I and P are asked for, and of these there is none. It is told only where they are asked for, and
+    /// before any other fault.
+    NoRecords(Lacking),
     /// G1: two segments share a point that they may not share.
     Meet(Meet),
     /// G2: about the node, the second dart is next after the first, and what lies on the left of the first isn't what
@@ -41,6 +45,7 @@ impl fmt::Display for MapFault {
     fn fmt<W: fmt::Write>(&self, f: &mut fmt::Formatter<W>) -> fmt::Result {
         match self {
             MapFault::Records(fault) => fault.fmt(f),
+            MapFault::NoRecords(lacking) => lacking.fmt(f),
             MapFault::Meet(meet) => MeetText(*meet).fmt(f),
             MapFault::Side { node, first, next } => {
                 let text = SideText {
@@ -199,8 +204,8 @@ impl fmt::Debug for CertFault {
 impl CertFault {
     ghost use Rattle.tl_check_verdict.specs.Messages.{cert_fault_text, numbered_text};
 
-    // What is printed of it: a text, and the number behind it, if one is.
-    fn cause(&self) -> (&'static str, Option<u128>)
+    /// What is printed of it: a text, and the number behind it, if one is.
+    pub fn cause(&self) -> (&'static str, Option<u128>)
         ensures { numbered_text result.0.now result.1 ≡ cert_fault_text self.now }
     {
         match *self {

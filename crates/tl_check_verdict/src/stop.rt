@@ -17,6 +17,7 @@ pub fn fault_of_records(stop: MapStop) -> Result<MapFault, Stop>
         MapStop::Device => Err(Stop::Device),
         MapStop::Memory => Err(Stop::Memory),
         MapStop::Fault(fault) => Ok(MapFault::Records(fault)),
+        MapStop::NoRecords(lacking) => Ok(MapFault::NoRecords(lacking)),
     }
 }
 

@@ -1,6 +1,6 @@
 -- What is told of a text, put together of what is told of its lines, its records and their map.
-use Rattle.std.proofs.Common.{◌≡◌, ◌≢◌, ℕ, inl, inr, List, [], ◌∷◌, map, Option, Some, None, Ok, Err, refl, sym, ap, ◌∙◌, subst, arith, Bool, true, false, length, Vec, Global}
-use Rattle.std.specs.Prelude.{IfSome, slice_get}
+use Rattle.std.proofs.Common.{◌≡◌, ◌≢◌, ◌<◌, ℕ, inl, inr, List, [], ◌∷◌, map, Option, Some, None, Ok, Err, refl, sym, ap, ◌∙◌, subst, arith, Bool, true, false, length, Vec, Global}
+use Rattle.std.specs.Prelude.{IfSome, slice_get, ⊤}
 use Rattle.std.proofs.lemmas.Option.{IfSome_then}
 use Rattle.std.specs.Option.{option_map}
 use Rattle.tl_record.specs.declared.record.Record.{Record}
@@ -10,14 +10,16 @@ use Rattle.tl_record.specs.Layout.{layout_with}
 use Rattle.tl_record.specs.declared.stop.Cause.{Cause}
 use Rattle.tl_record.specs.declared.refusal.Refusal.{Refusal}
 use Rattle.tl_record.specs.Left.{left_from, left_of}
-use Rattle.tl_record.specs.Records.{Records, lines_read, records_of, judgements, joined_where}
+use Rattle.tl_record.specs.Records.{Records, lines_read, records_of, judgements, joined_where, asked_where}
 use Rattle.tl_record.specs.Lines.{raw_lines}
 use Rattle.tl_record.specs.Refusals.{refusals_of}
 use Rattle.tl_record.specs.Searching.{pair_of}
 use Rattle.tl_record.proofs.RefusalLemmas.{first_refusal}
 use Rattle.tl_list_records.specs.Refusals.Listing.{ListsAll}
 use Rattle.tl_map_rules.specs.declared.fault.RecordFault.{RecordFault}
-use Rattle.tl_map_rules.specs.Reading.{IsReadFrom}
+use Rattle.tl_map_rules.specs.declared.lacking.Lacking.{Lacking}
+use Rattle.tl_map_rules.specs.Lacking.{lacks, lacking_where}
+use Rattle.tl_map_rules.specs.Reading.{IsReadFrom, lacking_of}
 use Rattle.tl_map_county.specs.TheMap.{TheMap}
 use Rattle.tl_list_records.specs.AllFaults.{AreAllFaults}
 use Rattle.tl_map.specs.Collecting.{IsMapOfRecords, StopsOn}
@@ -25,6 +27,7 @@ use Rattle.tl_map_rules.specs.declared.fault.MapStop.{MapStop}
 use Rattle.tl_map_rules.specs.declared.fault.MapStop.TheVariants as map_stop
 use Rattle.tl_check_verdict.specs.declared.fault.MapFault.{MapFault}
 use Rattle.tl_check_verdict.specs.Stops.{unmapped}
+use Rattle.tl_check_verdict.specs.Records.{HaveMap}
 use Rattle.tl_cert_output.specs.declared.stop.Stop.TheVariants.{Memory as MemoryStop}
 use Rattle.tl_check_verdict.specs.declared.fault.MapFault.TheVariants as fault
 use Rattle.tl_list_text.specs.declared.listing.Listing.{Listing}
@@ -32,51 +35,53 @@ use Rattle.tl_list_text.specs.declared.listing.Listing.TheVariants.{Sound, Refus
 use Rattle.tl_cert_output.specs.declared.stop.Stop.{Stop}
 use Rattle.tl_list.specs.declared.reading.BothKept.{BothKept}
 use Rattle.tl_list_map.specs.MapListings.{IsListingFor}
-use Rattle.tl_list.specs.Listings.{IsListingOf}
+use Rattle.tl_list.specs.Listings.{IsListingOf, told_with}
+use Rattle.tl_list.proofs.Lacked.{told_some, lack_some, begin_with_records}
 use Rattle.tl_list.specs.Keeping.Reading.{Keeps, AreWhole, KeepsAll, IsStopped}
 use Rattle.tl_list.specs.declared.of_records.Findings.{Findings}
 use Rattle.tl_list.specs.declared.left.LeftFaults.{LeftFaults}
-use Rattle.tl_list.specs.Findings.{AreFindingsOf, AreFaultsOf, IsLeft, IsFoundIn}
+use Rattle.tl_list.specs.Findings.{AreFindingsOf, AreFaultsOf, IsMapIfAny, BeginWithRecords, SaysWhy, IsLeft, IsFoundIn}
 use Rattle.tl_list.specs.Keeping.OfRecords.{IsListingOfRecords, AreFindingsOfRecords, IsListOf, AreTold, AreRead, AreLeftOf}
 use Rattle.tl_map_rules.specs.Faults.{IsTrueOf}
 use Rattle.tl_list_map.proofs.Emptiness.{map_empty, none_held}
 
-read_from : (all : Records) (rs : List Record) (skipped : ℕ) (m : TheMap) → AreWhole all skipped rs → IsMapOfRecords rs skipped m → IsReadFrom all m
-read_from all rs skipped m whole made = record {
+read_from : (all : Records) (rs : List Record) (skipped : ℕ) (m : TheMap) → AreWhole all skipped rs → lacks (lacking_of all) ≡ false → IsMapOfRecords rs skipped m → IsReadFrom all m
+read_from all rs skipped m whole none made = record {
   no_refusal = whole.no_refusal;
   no_fault = rw whole.records_are made.no_fault;
+  none_lacking = none;
   map = rw whole.records_are made.map;
   skipped_lines = made.skipped_lines ∙ sym whole.skipped_lines;
 }
 
 -- what is told of the map is told of the records
-pub drawn : (faces : Bool) (all : Records) (rs : List Record) (skipped : ℕ) (m : TheMap) (listing : Listing) → AreWhole all skipped rs
+pub drawn : (faces : Bool) (all : Records) (rs : List Record) (skipped : ℕ) (m : TheMap) (listing : Listing) → AreWhole all skipped rs → lacks (lacking_of all) ≡ false
     → IsMapOfRecords rs skipped m → IsListingFor faces m listing → IsListingOfRecords faces all listing
-drawn faces all rs skipped m (Sound report) whole made told = record { map = m; is_read = read_from all rs skipped m whole made; so = told }
-drawn faces all rs skipped m (Refused list) whole made told = absurd told
-drawn faces all rs skipped m (Faults faults touched) whole made told =
-    (told.0, whole.no_refusal, inr (record { map = m; is_read = read_from all rs skipped m whole made; so = told.1 }))
+drawn faces all rs skipped m (Sound report) whole none made told = record { map = m; is_read = read_from all rs skipped m whole none made; so = told }
+drawn faces all rs skipped m (Refused list) whole none made told = absurd told
+drawn faces all rs skipped m (Faults faults touched) whole none made told =
+    (told.0, whole.no_refusal, inr (record { map = m; is_read = read_from all rs skipped m whole none made; so = told.1 }))
 
 -- faults of records are told
-pub told_of_records : (faces : Bool) (all : Records) (rs : List Record) (skipped : ℕ) (told : List RecordFault) (listing : Listing) → AreWhole all skipped rs
-    → AreAllFaults rs told → told ≢ [] → IsListOf told listing
+pub told_of_records : (faces : Bool) (all : Records) (rs : List Record) (skipped : ℕ) (lacking : Lacking) (told : List RecordFault) (listing : Listing) → AreWhole all skipped rs
+    → lacking ≡ lacking_of all → AreAllFaults rs told → told_with lacking told ≢ [] → IsListOf lacking told listing
     → IsListingOfRecords faces all listing
-told_of_records faces all rs skipped told (Sound report) whole are some is = absurd is
-told_of_records faces all rs skipped told (Refused list) whole are some is = absurd is
-told_of_records faces all rs skipped told (Faults faults touched) whole are some is = (
-  (λ none. some (map_empty fault.Records told (sym is.0 ∙ none))),
+told_of_records faces all rs skipped lacking told (Sound report) whole same are some is = absurd is
+told_of_records faces all rs skipped lacking told (Refused list) whole same are some is = absurd is
+told_of_records faces all rs skipped lacking told (Faults faults touched) whole same are some is = (
+  (λ none. some (sym is.0 ∙ none)),
   whole.no_refusal,
-  inl (record { told = told; are_all = rw whole.records_are are; are = is.0 }, is.1),
+  inl (record { told = told; are_all = rw whole.records_are are; are = is.0 ∙ ap (λ (l : Lacking). told_with l told) same }, is.1),
 )
 
 -- ---- beside the map
 
 -- records that have a map are listed with it
-pub listed_with_map : (faces : Bool) (all : Records) (rs : List Record) (skipped : ℕ) (m : TheMap) (listed : Findings) → AreWhole all skipped rs
+pub listed_with_map : (faces : Bool) (all : Records) (rs : List Record) (skipped : ℕ) (m : TheMap) (listed : Findings) → AreWhole all skipped rs → lacks (lacking_of all) ≡ false
     → IsMapOfRecords rs skipped m → listed.map ≡ Some m → IsListingFor faces m listed.listing → AreFindingsOfRecords faces all listed
-listed_with_map faces all rs skipped m listed whole made is told = record {
-  told = drawn faces all rs skipped m listed.listing whole made told;
-  drawn = rw is (read_from all rs skipped m whole made);
+listed_with_map faces all rs skipped m listed whole none made is told = record {
+  told = drawn faces all rs skipped m listed.listing whole none made told;
+  drawn = rw is (read_from all rs skipped m whole none made);
 }
 
 -- of records of which a fault is true, some fault is told
@@ -84,12 +89,27 @@ some_told : (rs : List Record) (told : List RecordFault) (fault : RecordFault) �
 some_told rs told fault are true_one none = none_held fault (rw none at (are.every fault true_one))
 
 -- and they have no map
-pub listed_with_none : (faces : Bool) (all : Records) (rs : List Record) (skipped : ℕ) (fault : RecordFault) (listed : Findings) → AreWhole all skipped rs
-    → IsTrueOf rs fault → AreTold rs listed → AreFindingsOfRecords faces all listed
-listed_with_none faces all rs skipped fault listed whole true_one told = record {
-  told = told_of_records faces all rs skipped told.faults listed.listing whole told.are_all (some_told rs told.faults fault told.are_all true_one) told.told;
+pub listed_with_none : (faces : Bool) (all : Records) (rs : List Record) (skipped : ℕ) (lacking : Lacking) (fault : RecordFault) (listed : Findings) → AreWhole all skipped rs
+    → lacking ≡ lacking_of all → lacks lacking ≡ false → IsTrueOf rs fault → AreTold rs lacking listed → AreFindingsOfRecords faces all listed
+listed_with_none faces all rs skipped lacking fault listed whole same none true_one told = record {
+  told =
+      told_of_records faces all rs skipped lacking told.faults listed.listing whole same told.are_all
+      (told_some lacking told.faults none (some_told rs told.faults fault told.are_all true_one)) told.told;
   drawn = rw told.undrawn (λ have. have.is_read.no_fault fault (rw whole.records_are true_one));
 }
+
+-- nor have they where there are none of some type that is asked for
+pub listed_lacking : (faces : Bool) (all : Records) (rs : List Record) (skipped : ℕ) (lacking : Lacking) (listed : Findings) → AreWhole all skipped rs
+    → lacking ≡ lacking_of all → lacks lacking ≡ true → AreTold rs lacking listed → AreFindingsOfRecords faces all listed
+listed_lacking faces all rs skipped lacking listed whole same some told = record {
+  told = told_of_records faces all rs skipped lacking told.faults listed.listing whole same told.are_all (lack_some lacking told.faults some) told.told;
+  drawn = rw told.undrawn (λ have. let none = have.is_read.none_lacking in absurd (cc));
+}
+
+-- of which of the types there are none is the same of a text's records and of those that are kept
+pub same_lack : (all : Records) (rs : List Record) (skipped : ℕ) (asked : Bool) (lacking : Lacking) → AreWhole all skipped rs → all.complete ≡ asked
+    → lacking ≡ lacking_where asked rs → lacking ≡ lacking_of all
+same_lack all rs skipped asked lacking whole is same = rw (is, whole.records_are) same
 
 -- what is told of the records is told of their text
 pub of_text : (options : Options) (text : List ℕ) (listing : Listing) → IsListingOfRecords options.faces (records_of (layout_with options) text) listing
@@ -120,34 +140,62 @@ listed_refusals options text refused some told = record {
   drawn = λ have. some (map_empty pair_of refused.items (told ∙ no_first (refusals_of (layout_with options) text) (first_is (layout_with options) text ∙ have.is_read.no_refusal)));
 }
 
+-- ---- why there is no map
+
+some_length : {X : Type 0} (xs : List X) → xs ≢ [] → 0 < length xs
+some_length [] some = absurd (some refl)
+some_length (x ∷ xs) some = omega arith
+
+says_why : (faces : Bool) (all : Records) (listed : Findings) → AreFindingsOfRecords faces all listed → SaysWhy listed.map listed.listing
+says_why faces all listed are = go listed.listing are.told
+  where
+    no_map : listed.map ≡ None → ¬ HaveMap all (λ m. ⊤)
+    no_map none = subst (IsMapIfAny all) none are.drawn
+
+    go : (listing : Listing) → IsListingOfRecords faces all listing → SaysWhy listed.map listing
+    go (Sound report) have = λ none. no_map none (record { map = have.map; is_read = have.is_read; so = tt })
+    go (Refused list) told = absurd told
+    go (Faults faults touched) told = λ none. elim told.2 [
+      | inl records ↦ subst BeginWithRecords (sym records.0.are) (begin_with_records (lacking_of all) records.0.told (λ empty. told.0 (records.0.are ∙ empty)))
+      | inr have ↦ absurd (no_map none (record { map = have.map; is_read = have.is_read; so = tt }))
+    ]
+
 -- ---- of bytes that may be known
 
 known_as : {A B : Type 0} (f : A → B) (P : B → Type 0) (known : Option A) (all : Option B) → all ≡ option_map f known → IfSome all P → IfSome known (λ x. P (f x))
 known_as f P None all is holds = tt
 known_as f P (Some x) all is holds = rw is at holds
 
+-- the records of what is left of a text, before more is asked of them
+abbrev pub plain_left : Options → List ℕ → Records
+plain_left options text = joined_where options.join (lines_read (layout_with options) (left_of (layout_with options) text))
+
+-- the same records where more is asked of them
+asked_whole : (complete : Bool) (all : Records) (skipped : ℕ) (rs : List Record) → AreWhole all skipped rs → AreWhole (asked_where complete all) skipped rs
+asked_whole complete all skipped rs whole = record { records_are = whole.records_are; no_refusal = whole.no_refusal; skipped_lines = whole.skipped_lines }
+
 pub left_text : (options : Options) (known : Option (List ℕ)) (came : Option Records)
     → came ≡ option_map (λ text. lines_read (layout_with options) (left_of (layout_with options) text)) known
-    → option_map (joined_where options.join) came ≡ option_map (λ text. records_of (layout_with options) (left_of (layout_with options) text)) known
+    → option_map (joined_where options.join) came ≡ option_map (plain_left options) known
 left_text options None came is = rw is refl
 left_text options (Some text) came is = rw is refl
 
 module _ (options : Options) (skips : Bool) (known : Option (List ℕ)) where
   -- what is listed of records that are kept
   pub kept_told : (came : Option Records) (skipped : ℕ) (both : BothKept) (listed : Findings)
-      → came ≡ option_map (λ text. records_of (layout_with options) (left_of (layout_with options) text)) known → KeepsAll came skipped both
-      → ((all : Records) (rs : List Record) → AreWhole all skipped rs → Keeps rs both → AreFindingsOfRecords options.faces all listed)
+      → came ≡ option_map (plain_left options) known → KeepsAll came skipped both
+      → ((all : Records) (rs : List Record) → AreWhole all skipped rs → all.complete ≡ options.complete → Keeps rs both → AreFindingsOfRecords options.faces all listed)
       → IfSome known (λ text. AreFindingsOfRecords options.faces (records_of (layout_with options) (left_of (layout_with options) text)) listed)
   kept_told came skipped both listed is keeps told =
-      known_as (λ text. records_of (layout_with options) (left_of (layout_with options) text)) (λ all. AreFindingsOfRecords options.faces all listed) known came is
-      (IfSome_then came keeps.known (λ all whole. told all keeps.records whole keeps.keeps))
+      known_as (plain_left options) (λ all. AreFindingsOfRecords options.faces (asked_where options.complete all) listed) known came is
+      (IfSome_then came keeps.known (λ all whole. told (asked_where options.complete all) keeps.records (asked_whole options.complete all skipped keeps.records whole) refl keeps.keeps))
 
   pub told_of_some : (came : Option Records) (skipped : ℕ) (both : BothKept) (listed : Findings) → KeepsAll came skipped both
-      → ((all : Records) (rs : List Record) → AreWhole all skipped rs → Keeps rs both → AreFindingsOfRecords options.faces all listed)
+      → ((all : Records) (rs : List Record) → AreWhole all skipped rs → all.complete ≡ options.complete → Keeps rs both → AreFindingsOfRecords options.faces all listed)
       → (all : Records) × AreFindingsOfRecords options.faces all listed
   told_of_some came skipped both listed keeps told =
-      let all : Records = record { entries = map (λ (r : Record). (0, r)) keeps.records; refusal = None; skipped = skipped } in
-      (all, told all keeps.records (record { records_are = numbered keeps.records; no_refusal = refl; skipped_lines = refl }) keeps.keeps)
+      let all : Records = record { entries = map (λ (r : Record). (0, r)) keeps.records; refusal = None; skipped = skipped; complete = options.complete } in
+      (all, told all keeps.records (record { records_are = numbered keeps.records; no_refusal = refl; skipped_lines = refl }) refl keeps.keeps)
     where
       numbered : (rs : List Record) → map (λ (entry : ℕ × Record). entry.1) (map (λ (r : Record). (0, r)) rs) ≡ rs
       numbered [] = refl
@@ -162,6 +210,7 @@ module _ (options : Options) (skips : Bool) (known : Option (List ℕ)) where
       → IsStopped skips refusals refused.items → IsFoundIn options skips known (record { whole = record { listing = Refused refused; map = None }; left = None })
   found_refused refusals refused is stops = record {
     whole = IfSome_then known (refused_told refusals refused.items is stops.all) (λ text lists. listed_refusals options text refused stops.some lists);
+    why = some_length refused.items stops.some;
     left = stops.beyond;
   }
 
@@ -176,7 +225,7 @@ module _ (options : Options) (skips : Bool) (known : Option (List ℕ)) where
   -- no line is refused
   pub found_whole : (refused : List Refusal) (listed : Findings) → AreRead options skips known refused listed → refused ≡ []
       → IsFoundIn options skips known (record { whole = listed; left = None })
-  found_whole refused listed read none = record { whole = go known read.all read.told; left = no_left listed read.of_some.0 read.of_some.1 }
+  found_whole refused listed read none = record { whole = go known read.all read.told; why = says_why options.faces read.of_some.0 listed read.of_some.1; left = no_left listed read.of_some.0 read.of_some.1 }
     where
       go : (bytes : Option (List ℕ)) → IfSome bytes (λ text. ListsAll (refusals_of (layout_with options) text) refused)
           → IfSome bytes (λ text. AreFindingsOfRecords options.faces (records_of (layout_with options) (left_of (layout_with options) text)) listed)
@@ -193,6 +242,7 @@ module _ (options : Options) (skips : Bool) (known : Option (List ℕ)) where
       → IsFoundIn options skips known (record { whole = record { listing = Refused refused; map = None }; left = left })
   found_left refused listed left read some are_left = record {
     whole = IfSome_then known read.all (λ text lists. listed_refusals options text refused some lists);
+    why = some_length refused.items some;
     left = go left known (IfSome_then known read.told (λ text are. are_left options.faces (records_of (layout_with options) (left_of (layout_with options) text)) are))
         (are_left options.faces read.of_some.0 read.of_some.1);
   }
@@ -216,6 +266,7 @@ module _ (options : Options) (skips : Bool) (known : Option (List ℕ)) where
 pub fault_of : (rs : List Record) (stop : MapStop) (f : MapFault) → StopsOn rs stop → unmapped stop ≡ Ok f → (fault : RecordFault) × IsTrueOf rs fault
 fault_of rs (map_stop.Fault fault) f stops is = (fault, stops)
 fault_of rs (map_stop.Refused line cause) f stops is = absurd stops
+fault_of rs (map_stop.NoRecords lacking) f stops is = absurd stops
 fault_of rs map_stop.Memory f stops is = absurd (cc)
 fault_of rs map_stop.Device f stops is = absurd stops
 
@@ -223,5 +274,6 @@ fault_of rs map_stop.Device f stops is = absurd stops
 pub memory_of : (rs : List Record) (stop : MapStop) (other : Stop) → StopsOn rs stop → unmapped stop ≡ Err other → other ≡ MemoryStop
 memory_of rs (map_stop.Fault fault) other stops is = absurd (cc)
 memory_of rs (map_stop.Refused line cause) other stops is = absurd stops
+memory_of rs (map_stop.NoRecords lacking) other stops is = absurd stops
 memory_of rs map_stop.Memory other stops is = cc
 memory_of rs map_stop.Device other stops is = absurd stops

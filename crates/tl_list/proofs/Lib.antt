@@ -1,4 +1,5 @@
 mod Lists
+mod Lacked
 mod Truth
 mod Sounding
 mod Told

@@ -1,8 +1,8 @@
 -- What a listing says of the records of its text.
-use Rattle.std.proofs.Common.{◌≡◌, ◌≢◌, ◌↔◌, ℕ, inl, inr, Bool, List, [], None}
+use Rattle.std.proofs.Common.{◌≡◌, ◌≢◌, ◌↔◌, ℕ, zero, suc, inl, inr, Bool, true, false, List, [], ◌∷◌, ◌++◌, map, filter, None, refl, arith}
 use Rattle.std.proofs.Common.{subst, ◌∙◌}
 use Rattle.std.specs.List.{All, Contains}
-use Rattle.std.proofs.lemmas.List.Elements.{All-map}
+use Rattle.std.proofs.lemmas.List.Elements.{All-map, All-append, All-filter}
 use Rattle.tl_record.specs.declared.layout.Layout.{Layout}
 use Rattle.tl_record.specs.declared.options.Options.{Options}
 use Rattle.tl_record.specs.Layout.{layout_with}
@@ -11,7 +11,8 @@ use Rattle.tl_record.specs.Records.{Records, records_of}
 use Rattle.tl_record.specs.Refusals.{refusals_of}
 use Rattle.tl_record.specs.Searching.{pair_of}
 use Rattle.tl_map_rules.specs.Faults.{IsTrueOf}
-use Rattle.tl_map_rules.specs.Reading.{records_in}
+use Rattle.tl_map_rules.specs.Lacking.{lacks}
+use Rattle.tl_map_rules.specs.Reading.{records_in, lacking_of}
 use Rattle.tl_map_county.specs.TheMap.{TheMap}
 use Rattle.tl_check_verdict.specs.declared.fault.MapFault.{MapFault}
 use Rattle.tl_check_verdict.specs.declared.fault.MapFault.TheVariants as fault
@@ -24,13 +25,18 @@ use Rattle.tl_check_verdict.proofs.Deciding.{not_sound_records}
 use Rattle.tl_list_text.specs.declared.listing.Listing.{Listing}
 use Rattle.tl_list_text.specs.declared.listing.Listing.TheVariants.{Sound, Refused, Faults}
 use Rattle.tl_list_map.specs.MapFaults.{AreFaultsFor}
-use Rattle.tl_list.specs.Listings.{AreRecordFaults, AreFaults, IsListingOf}
+use Rattle.tl_list.specs.Listings.{AreRecordFaults, AreFaults, IsListingOf, stands_alone, lack_told, told_with}
 use Rattle.tl_list.specs.Telling.{IsTold, Tells, SaysSound, EachFault, IsTrueAmong, IsTrueAmongFaults}
 use Rattle.tl_list_map.proofs.Emptiness.{map_empty}
-use Rattle.tl_list.proofs.Lists.{held_map, some_first, none_first}
+use Rattle.tl_list.proofs.Lists.{some_first, none_first}
+use Rattle.tl_list.proofs.Lacked.{some_of, told_or_caused, lack_is_told}
 use Rattle.tl_list.proofs.Truth.{each_is_true_for, among_denies}
 use Rattle.tl_list.proofs.Told.{told_for}
 use Rattle.tl_list.proofs.Assembling.{first_is}
+
+one_held : {X : Type 0} (P : X → Type 0) (x : X) → P x → All P (x ∷ [])
+one_held P x p zero d lt = p
+one_held P x p (suc k) d lt = absurd (omega (arith, lt))
 
 pub held_so : {X : Type 0} (P : X → Type 0) (xs : List X) (x : X) → All P xs → Contains xs x → P x
 held_so P xs x each held = subst P held.2 (each held.0 x held.1)
@@ -39,6 +45,7 @@ held_so P xs x each held = subst P held.2 (each held.0 x held.1)
 
 map_fault_true : (faces : Bool) (all : Records) (f : MapFault) → HaveMap all (λ m. IsTrueAmong faces m f) → IsTrueAmongFaults faces all f
 map_fault_true faces all (fault.Records f) have = absurd have.so
+map_fault_true faces all (fault.NoRecords lacking) have = absurd have.so
 map_fault_true faces all (fault.Meet meet) have = have
 map_fault_true faces all (fault.Side node first next) have = have
 map_fault_true faces all (fault.PolygonPoint misplaced) have = have
@@ -48,6 +55,7 @@ map_fault_true faces all (fault.Face f) have = have
 -- a fault that is true alone is true among others
 pub among_others : (faces : Bool) (all : Records) (f : MapFault) → IsTrueOfRecords faces all f → IsTrueAmongFaults faces all f
 among_others faces all (fault.Records f) true_one = true_one
+among_others faces all (fault.NoRecords lacking) true_one = true_one
 among_others faces all (fault.Meet meet) true_one = true_one
 among_others faces all (fault.Side node first next) true_one = true_one
 among_others faces all (fault.PolygonPoint misplaced) true_one = true_one
@@ -63,16 +71,30 @@ among_denies_map faces all f true_one have =
 
 among_denies_records : (faces : Bool) (all : Records) (f : MapFault) → IsTrueAmongFaults faces all f → ¬ HaveMap all (IsSoundFor faces)
 among_denies_records faces all (fault.Records f) true_one have = not_sound_records faces all (fault.Records f) true_one have
+among_denies_records faces all (fault.NoRecords lacking) true_one have = not_sound_records faces all (fault.NoRecords lacking) true_one have
 among_denies_records faces all (fault.Meet meet) true_one have = among_denies_map faces all (fault.Meet meet) true_one have
 among_denies_records faces all (fault.Side node first next) true_one have = among_denies_map faces all (fault.Side node first next) true_one have
 among_denies_records faces all (fault.PolygonPoint misplaced) true_one have = among_denies_map faces all (fault.PolygonPoint misplaced) true_one have
 among_denies_records faces all (fault.Cell odds) true_one have = among_denies_map faces all (fault.Cell odds) true_one have
 among_denies_records faces all (fault.Face f) true_one have = among_denies_map faces all (fault.Face f) true_one have
 
+-- that there are no records of some type is true where it is told
+lack_true : (faces : Bool) (all : Records) → all.refusal ≡ None → All (IsTrueAmongFaults faces all) (lack_told (lacking_of all))
+lack_true faces all unrefused = go (lacks (lacking_of all)) refl
+  where
+    go : (b : Bool) → lacks (lacking_of all) ≡ b → All (IsTrueAmongFaults faces all) (lack_told (lacking_of all))
+    go false none = rw none (λ k d lt. absurd (omega (arith, lt)))
+    go true some = rw some (one_held (IsTrueAmongFaults faces all) (fault.NoRecords (lacking_of all)) (unrefused, refl, some))
+
 faults_true : (faces : Bool) (all : Records) (faults : List MapFault) (touched : ℕ) → all.refusal ≡ None → AreFaults faces all faults touched
     → All (IsTrueAmongFaults faces all) faults
 faults_true faces all faults touched unrefused (inl of_records) =
-    rw of_records.0.are (All-map (IsTrueAmongFaults faces all) fault.Records of_records.0.told (λ k d lt. (unrefused, of_records.0.are_all.each k d lt)))
+    let lacking = lacking_of all in
+    let told = of_records.0.told in
+    rw of_records.0.are (All-append (IsTrueAmongFaults faces all) (map fault.Records (filter (stands_alone lacking) told)) (lack_told lacking)
+    (All-map (IsTrueAmongFaults faces all) fault.Records (filter (stands_alone lacking) told)
+    (All-filter (stands_alone lacking) (λ f. IsTrueAmongFaults faces all (fault.Records f)) told (λ k d lt. (unrefused, of_records.0.are_all.each k d lt))))
+    (lack_true faces all unrefused))
 faults_true faces all faults touched unrefused (inr have) = λ k d lt.
     map_fault_true faces all _
     (record { map = have.map; is_read = have.is_read; so = each_is_true_for faces have.map faults touched have.so k d lt })
@@ -111,6 +133,7 @@ sound_alone options text (Faults faults touched) is = (
 
 unrefused_where_true : (faces : Bool) (all : Records) (f : MapFault) → IsTrueAmongFaults faces all f → all.refusal ≡ None
 unrefused_where_true faces all (fault.Records f) true_one = true_one.0
+unrefused_where_true faces all (fault.NoRecords lacking) true_one = true_one.0
 unrefused_where_true faces all (fault.Meet meet) true_one = true_one.is_read.no_refusal
 unrefused_where_true faces all (fault.Side node first next) true_one = true_one.is_read.no_refusal
 unrefused_where_true faces all (fault.PolygonPoint misplaced) true_one = true_one.is_read.no_refusal
@@ -121,7 +144,8 @@ module _ (faces : Bool) (all : Records) (faults : List MapFault) (touched : ℕ)
   -- records that have a map have no fault
   pub no_map : (P : TheMap → Type 0) → faults ≢ [] → AreRecordFaults all faults → ¬ HaveMap all P
   no_map P some of_records have =
-      let first = some_first of_records.told (λ none. some (rw none at of_records.are)) in
+      let lacking = lacking_of all in
+      let first = some_first of_records.told (some_of lacking of_records.told (λ none. some (of_records.are ∙ none)) have.is_read.none_lacking) in
       have.is_read.no_fault first.0 (held_so (IsTrueOf (records_in all)) of_records.told first.0 of_records.are_all.each first.1)
 
   map_told : (f : MapFault) → HaveMap all (λ m. AreFaultsFor faces m faults touched) → HaveMap all (λ m. IsTrueAmong faces m f)
@@ -132,8 +156,16 @@ module _ (faces : Bool) (all : Records) (faults : List MapFault) (touched : ℕ)
 
   fault_told : (f : MapFault) → faults ≢ [] → AreFaults faces all faults touched → IsTrueAmongFaults faces all f → IsTold faults touched f
   fault_told (fault.Records f) some (inl of_records) true_one =
-      rw of_records.0.are (held_map fault.Records of_records.0.told f (of_records.0.are_all.every f true_one.1))
+      rw of_records.0.are (told_or_caused (lacking_of all) of_records.0.told f (of_records.0.are_all.every f true_one.1))
   fault_told (fault.Records f) some (inr have) true_one = absurd (have.is_read.no_fault f true_one.1)
+  fault_told (fault.NoRecords lacking) some (inl of_records) true_one =
+      let same = true_one.1 in
+      rw (of_records.0.are, same) (lack_is_told (lacking_of all) of_records.0.told (subst (λ l. lacks l ≡ true) same true_one.2))
+  fault_told (fault.NoRecords lacking) some (inr have) true_one =
+      let none = have.is_read.none_lacking in
+      let same = true_one.1 in
+      let some = true_one.2 in
+      absurd (cc)
   fault_told (fault.Meet meet) some (inl of_records) true_one = absurd (no_map _ some of_records.0 true_one)
   fault_told (fault.Meet meet) some (inr have) true_one = map_told (fault.Meet meet) have true_one
   fault_told (fault.Side node first next) some (inl of_records) true_one = absurd (no_map _ some of_records.0 true_one)

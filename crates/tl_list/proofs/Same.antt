@@ -11,7 +11,7 @@ use Rattle.tl_record.specs.declared.stop.Cause.{Cause}
 use Rattle.tl_record.specs.declared.refusal.Refusal.{Refusal}
 use Rattle.tl_record.specs.Records.{Records, records_of}
 use Rattle.tl_record.specs.Searching.{pair_of}
-use Rattle.tl_map_rules.specs.Reading.{records_in}
+use Rattle.tl_map_rules.specs.Reading.{records_in, lacking_of}
 use Rattle.tl_list_records.proofs.OneListLemmas.{one_list as one_list_of_records}
 use Rattle.tl_map_county.specs.TheMap.{TheMap}
 use Rattle.tl_check_planar.specs.declared.meet.Meet.{Meet}
@@ -37,7 +37,7 @@ use Rattle.tl_check_verdict.proofs.OneMap.{both}
 use Rattle.tl_list_text.specs.declared.listing.Listing.{Listing}
 use Rattle.tl_list_text.specs.declared.listing.Listing.TheVariants.{Sound, Refused, Faults}
 use Rattle.tl_list_map.specs.MapFaults.{side_fault, AreMapFaults, AreFacesTold, AreFaultsFor}
-use Rattle.tl_list.specs.Listings.{AreFaults, IsListingOf}
+use Rattle.tl_list.specs.Listings.{AreFaults, IsListingOf, told_with}
 use Rattle.tl_list.specs.Alike.{IsSameFault, AreSameFaults, HaveSameNumbers, AreAlike}
 use Rattle.tl_list.proofs.OneOrder.{AreOne, AreInOne, one_order}
 use Rattle.tl_list.proofs.Listed.{none_is_refused, sound_alone, no_map}
@@ -57,6 +57,7 @@ use Rattle.std.specs.List.{AllZip}
 
 itself : (f : MapFault) → IsSameFault f f
 itself (fault.Records f) = refl
+itself (fault.NoRecords lacking) = refl
 itself (fault.Meet meet) = (refl, refl)
 itself (fault.Side node first next) = refl
 itself (fault.PolygonPoint misplaced) = refl
@@ -247,7 +248,7 @@ same_for one_points faces m f g l r a b =
 same_faults : OnePoints → (faces : Bool) (all : Records) (f g : List MapFault) (l r : ℕ) → f ≢ [] → g ≢ [] → AreFaults faces all f l
     → AreFaults faces all g r → AreSameFaults f g × (l ≡ r)
 same_faults one_points faces all f g l r some_f some_g (inl a) (inl b) = (
-  one_list_same f g (a.0.are ∙ ap (map fault.Records) (one_list_of_records (records_in all) a.0.told b.0.told a.0.are_all b.0.are_all) ∙ sym b.0.are),
+  one_list_same f g (a.0.are ∙ ap (told_with (lacking_of all)) (one_list_of_records (records_in all) a.0.told b.0.told a.0.are_all b.0.are_all) ∙ sym b.0.are),
   a.1 ∙ sym b.1,
 )
 same_faults one_points faces all f g l r some_f some_g (inl a) (inr have) = absurd (no_map faces all f l _ some_f a.0 have)

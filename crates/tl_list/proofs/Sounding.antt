@@ -16,6 +16,7 @@ module _ (faces : Bool) (m : TheMap) where
   -- of a sound map nothing is true but faults of faces
   of_faces_alone : (f : MapFault) → IsTrueAmong faces m f → IsSound m → IsTrue (is_of_faces f)
   of_faces_alone (fault.Records f) true_one sound = absurd (not_sound_alone m (fault.Records f) true_one sound)
+  of_faces_alone (fault.NoRecords lacking) true_one sound = absurd (not_sound_alone m (fault.NoRecords lacking) true_one sound)
   of_faces_alone (fault.Meet meet) true_one sound = absurd (not_sound_alone m (fault.Meet meet) true_one sound)
   of_faces_alone (fault.Side node first next) true_one sound = absurd (not_sound_alone m (fault.Side node first next) true_one sound)
   of_faces_alone (fault.PolygonPoint misplaced) true_one sound = absurd (not_sound_alone m (fault.PolygonPoint misplaced) true_one sound)

@@ -21,7 +21,7 @@ use Rattle.tl_check_faces.specs.declared.fault.FaceFault.{FaceFault}
 use Rattle.tl_check_faces.specs.Faults.{IsTrueFaceFault}
 use Rattle.tl_check_face_faults.proofs.Exact.{told as of_all_gaps}
 use Rattle.tl_list_map.specs.MapFaults.{side_fault, AreMapFaults, AreLookedAt, AreFacesTold, AreFaultsFor}
-use Rattle.tl_list.specs.Telling.{IsMeetOf, IsOfSides, IsOfCells, HangsOnSides, IsTold, IsTrueAmong}
+use Rattle.tl_list.specs.Telling.{IsCauseOf, IsMeetOf, IsOfSides, IsOfCells, HangsOnSides, IsTold, IsTrueAmong}
 use Rattle.tl_list_map.proofs.Emptiness.{odds_deny}
 use Rattle.tl_list.proofs.Lists.{held_map, named_by, some_first, contains_or}
 use Rattle.tl_list.proofs.Truth.{start_is}
@@ -94,6 +94,7 @@ module _ (m : TheMap) (faults : List MapFault) (touched : ℕ) (all : AreMapFaul
 
   pub told : (f : MapFault) → IsTrueOfMap false m f → IsTold faults touched f
   told (fault.Records of_records) true_one = absurd true_one
+  told (fault.NoRecords lacking) true_one = absurd true_one
   told (fault.Meet meet) true_one =
       let named = all.all_meets.complete meet.s meet.t meet.at true_one.ordered true_one.told.meet in
       named_by (IsMeetOf meet.s meet.t) faults (fault.Meet named.1) (among_meets _ (held_map fault.Meet all.meets named.1 (named.0, named.2, named.3))) named.4
@@ -118,7 +119,9 @@ module _ (others rest faults : List MapFault) (touched : ℕ) (are : faults ≡ 
   any_more P named = named_by P faults named.1 (held_more named.1 (named.0, named.2, named.3)) named.4
 
   told_more : (f : MapFault) → IsTold others touched f → IsTold faults touched f
-  told_more (fault.Records f) told_one = held_more (fault.Records f) told_one
+  told_more (fault.Records f) (inl held) = inl (held_more (fault.Records f) held)
+  told_more (fault.Records f) (inr caused) = inr (any_more (IsCauseOf f) caused)
+  told_more (fault.NoRecords lacking) told_one = held_more (fault.NoRecords lacking) told_one
   told_more (fault.Meet meet) told_one = any_more (IsMeetOf meet.s meet.t) told_one
   told_more (fault.Side node first next) told_one = held_more (fault.Side node first next) told_one
   told_more (fault.PolygonPoint misplaced) (inl held) = inl (held_more (fault.PolygonPoint misplaced) held)
@@ -141,6 +144,7 @@ module _ (faces : Bool) (m : TheMap) (faults : List MapFault) (touched : ℕ) (a
 
   pub told_for : (f : MapFault) → IsTrueAmong faces m f → IsTold faults touched f
   told_for (fault.Records f) true_one = absurd true_one
+  told_for (fault.NoRecords lacking) true_one = absurd true_one
   told_for (fault.Meet meet) true_one = other_told (fault.Meet meet) true_one
   told_for (fault.Side node first next) true_one = other_told (fault.Side node first next) true_one
   told_for (fault.PolygonPoint misplaced) true_one = other_told (fault.PolygonPoint misplaced) true_one

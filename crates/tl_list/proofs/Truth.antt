@@ -40,6 +40,7 @@ each_is_true m faults touched all =
 -- so it is among others, where faces may be asked for
 among_still : (faces : Bool) (m : TheMap) (f : MapFault) → IsTrueOfMap false m f → IsTrueAmong faces m f
 among_still faces m (fault.Records f) true_one = true_one
+among_still faces m (fault.NoRecords lacking) true_one = true_one
 among_still faces m (fault.Meet meet) true_one = true_one
 among_still faces m (fault.Side node first next) true_one = true_one
 among_still faces m (fault.PolygonPoint misplaced) true_one = true_one
@@ -62,6 +63,7 @@ each_is_true_for faces m faults touched all =
 -- what is true among others denies what is asked
 pub among_denies : (faces : Bool) (m : TheMap) (f : MapFault) → IsTrueAmong faces m f → ¬ IsSoundFor faces m
 among_denies faces m (fault.Records f) true_one sound = absurd true_one
+among_denies faces m (fault.NoRecords lacking) true_one sound = absurd true_one
 among_denies faces m (fault.Meet meet) true_one sound = not_sound_alone m (fault.Meet meet) true_one sound.sound
 among_denies faces m (fault.Side node first next) true_one sound = not_sound_alone m (fault.Side node first next) true_one sound.sound
 among_denies faces m (fault.PolygonPoint misplaced) true_one sound = not_sound_alone m (fault.PolygonPoint misplaced) true_one sound.sound

@@ -1,12 +1,14 @@
 -- What a county's text is told to be where all that is wrong with it is asked for.
-use Rattle.std.specs.Prelude.{◌≡◌, ◌≢◌, ◌⊎◌, ℕ, Bool, List, [], map, None}
+use Rattle.std.specs.Prelude.{◌≡◌, ◌≢◌, ◌⊎◌, ℕ, Bool, not, if◌then◌else◌, List, [], ◌∷◌, ◌++◌, map, filter, None}
 use Rattle.tl_record.specs.declared.options.Options.{Options}
 use Rattle.tl_record.specs.Layout.{layout_with}
 use Rattle.tl_record.specs.Records.{Records, records_of}
 use Rattle.tl_record.specs.Refusals.{refusals_of}
 use Rattle.tl_list_records.specs.Refusals.Listing.{ListsAll}
 use Rattle.tl_map_rules.specs.declared.fault.RecordFault.{RecordFault}
-use Rattle.tl_map_rules.specs.Reading.{records_in}
+use Rattle.tl_map_rules.specs.declared.lacking.Lacking.{Lacking}
+use Rattle.tl_map_rules.specs.Lacking.{explains, lacks}
+use Rattle.tl_map_rules.specs.Reading.{records_in, lacking_of}
 use Rattle.tl_list_records.specs.AllFaults.{AreAllFaults}
 use Rattle.tl_check_verdict.specs.declared.fault.MapFault.{MapFault}
 use Rattle.tl_check_verdict.specs.declared.fault.MapFault.TheVariants as fault
@@ -17,11 +19,23 @@ use Rattle.tl_list_text.specs.declared.listing.Listing.{Listing}
 use Rattle.tl_list_text.specs.declared.listing.Listing.TheVariants.{Sound, Refused, Faults}
 use Rattle.tl_list_map.specs.MapFaults.{AreFaultsFor}
 
--- the faults are all that are true of the records
+-- does the fault miss no record of a type of which there is none
+abbrev pub stands_alone : Lacking → RecordFault → Bool
+stands_alone lacking fault = not (explains lacking fault)
+
+-- that there are no records of these types, where there are none of some
+abbrev pub lack_told : Lacking → List MapFault
+lack_told lacking = if lacks lacking then fault.NoRecords lacking ∷ [] else []
+
+-- the faults as they are told: where there are no records of some type, that is told behind them, in place of all that hang on it
+abbrev pub told_with : Lacking → List RecordFault → List MapFault
+told_with lacking faults = map fault.Records (filter (stands_alone lacking) faults) ++ lack_told lacking
+
+-- the faults are all that are true of the records, as they are told where records of each type are asked for
 pub record AreRecordFaults (all : Records) (faults : List MapFault) : Type 0 where
   pub told : List RecordFault
   pub are_all : AreAllFaults (records_in all) told
-  pub are : faults ≡ map fault.Records told
+  pub are : faults ≡ told_with (lacking_of all) told
 
 -- the faults are all that are true of the records, or where they have a map, all faults of that
 abbrev pub AreFaults : (faces : Bool) → Records → List MapFault → ℕ → Type 0

@@ -1,16 +1,18 @@
 -- How a list of faults tells one that is true.
-use Rattle.std.specs.Prelude.{◌≡◌, ◌⊎◌, ◌<◌, ℕ, zero, ⊤, Bool, false, List}
+use Rattle.std.specs.Prelude.{◌≡◌, ◌⊎◌, ◌<◌, ℕ, zero, ⊤, Bool, true, false, List}
 use Rattle.std.specs.List.{All, Any, Contains}
 use Rattle.tl_check_inside.specs.declared.misplaced.Misplaced.{Misplaced}
 use Rattle.tl_check_inside.specs.declared.misplaced.Misplaced.TheVariants.{OnChain, Outside, InOther}
 use Rattle.tl_record.specs.Records.{Records as AllRecords}
+use Rattle.tl_map_rules.specs.declared.fault.RecordFault.{RecordFault}
+use Rattle.tl_map_rules.specs.Lacking.{explains}
 use Rattle.tl_map_county.specs.TheMap.{TheMap}
 use Rattle.tl_check_faces.specs.Faults.{IsTrueFaceFault}
 use Rattle.tl_check_faces.specs.Truth.{AreFacesTrue}
 use Rattle.tl_check_verdict.specs.Truth.{IsTrueOfMap}
 use Rattle.tl_check_verdict.specs.Records.{HaveMap, IsTrueOfRecords}
 use Rattle.tl_check_verdict.specs.declared.fault.MapFault.{MapFault}
-use Rattle.tl_check_verdict.specs.declared.fault.MapFault.TheVariants.{Records, Meet, Side, PolygonPoint, Cell, Face}
+use Rattle.tl_check_verdict.specs.declared.fault.MapFault.TheVariants.{Records, NoRecords, Meet, Side, PolygonPoint, Cell, Face}
 use Rattle.tl_list_map.specs.MapFaults.{AreLookedAt}
 use Rattle.tl_list_text.specs.declared.listing.Listing.{Listing}
 use Rattle.tl_list_text.specs.declared.listing.Listing.TheVariants as listing
@@ -18,6 +20,7 @@ use Rattle.tl_list_text.specs.declared.listing.Listing.TheVariants as listing
 -- the fault is that segments s and t meet
 abbrev pub IsMeetOf : ℕ → ℕ → MapFault → Type 0
 IsMeetOf s t (Records fault) = ⊥
+IsMeetOf s t (NoRecords lacking) = ⊥
 IsMeetOf s t (Meet meet) = (meet.s ≡ s) × (meet.t ≡ t)
 IsMeetOf s t (Side node first next) = ⊥
 IsMeetOf s t (PolygonPoint fault) = ⊥
@@ -27,6 +30,7 @@ IsMeetOf s t (Face fault) = ⊥
 -- the fault is of sides
 abbrev pub IsOfSides : MapFault → Type 0
 IsOfSides (Records fault) = ⊥
+IsOfSides (NoRecords lacking) = ⊥
 IsOfSides (Meet meet) = ⊥
 IsOfSides (Side node first next) = ⊤
 IsOfSides (PolygonPoint fault) = ⊥
@@ -36,11 +40,22 @@ IsOfSides (Face fault) = ⊥
 -- the fault is of zero-cell ids
 abbrev pub IsOfCells : MapFault → Type 0
 IsOfCells (Records fault) = ⊥
+IsOfCells (NoRecords lacking) = ⊥
 IsOfCells (Meet meet) = ⊥
 IsOfCells (Side node first next) = ⊥
 IsOfCells (PolygonPoint fault) = ⊥
 IsOfCells (Cell odds) = ⊤
 IsOfCells (Face fault) = ⊥
+
+-- the fault is that there are no records of the type of that which the other misses
+abbrev pub IsCauseOf : RecordFault → MapFault → Type 0
+IsCauseOf missing (Records fault) = ⊥
+IsCauseOf missing (NoRecords lacking) = explains lacking missing ≡ true
+IsCauseOf missing (Meet meet) = ⊥
+IsCauseOf missing (Side node first next) = ⊥
+IsCauseOf missing (PolygonPoint fault) = ⊥
+IsCauseOf missing (Cell odds) = ⊥
+IsCauseOf missing (Face fault) = ⊥
 
 -- what is wrong with a polygon's point hangs on what sides tell
 abbrev pub HangsOnSides : Misplaced → Type 0
@@ -48,11 +63,12 @@ HangsOnSides (OnChain polygon tlid) = ⊥
 HangsOnSides (Outside polygon) = ⊤
 HangsOnSides (InOther polygon other) = ⊤
 
--- The fault stands in the list. Of two segments that meet, it stands there with some point; of zero-cell ids at odds some
+-- The fault stands in the list. One that misses a record of a type of which there is none may be told by that; of two segments that meet, it stands there with some point; of zero-cell ids at odds some
 -- pair stands there; and what is wrong with a polygon's point stands there unless it hangs on sides, some polygon is touched, and so sides
 -- are at odds.
 abbrev pub IsTold : List MapFault → ℕ → MapFault → Type 0
-IsTold faults touched (Records fault) = Contains faults (Records fault)
+IsTold faults touched (Records fault) = Contains faults (Records fault) ⊎ Any (IsCauseOf fault) faults
+IsTold faults touched (NoRecords lacking) = Contains faults (NoRecords lacking)
 IsTold faults touched (Meet meet) = Any (IsMeetOf meet.s meet.t) faults
 IsTold faults touched (Side node first next) = Contains faults (Side node first next)
 IsTold faults touched (PolygonPoint fault) = Contains faults (PolygonPoint fault) ⊎ (HangsOnSides fault × ((zero < touched) × Any IsOfSides faults))
@@ -81,6 +97,7 @@ EachFault (listing.Faults faults touched) P = All P faults.items
 -- else is wrong.
 abbrev pub IsTrueAmong : (faces : Bool) → TheMap → MapFault → Type 0
 IsTrueAmong faces m (Records fault) = IsTrueOfMap false m (Records fault)
+IsTrueAmong faces m (NoRecords lacking) = IsTrueOfMap false m (NoRecords lacking)
 IsTrueAmong faces m (Meet meet) = IsTrueOfMap false m (Meet meet)
 IsTrueAmong faces m (Side node first next) = IsTrueOfMap false m (Side node first next)
 IsTrueAmong faces m (PolygonPoint fault) = IsTrueOfMap false m (PolygonPoint fault)
@@ -90,6 +107,7 @@ IsTrueAmong faces m (Face fault) = AreLookedAt faces m × (IsTrueFaceFault m fau
 -- the same of records
 abbrev pub IsTrueAmongFaults : (faces : Bool) → AllRecords → MapFault → Type 0
 IsTrueAmongFaults faces all (Records fault) = IsTrueOfRecords faces all (Records fault)
+IsTrueAmongFaults faces all (NoRecords lacking) = IsTrueOfRecords faces all (NoRecords lacking)
 IsTrueAmongFaults faces all (Meet meet) = HaveMap all (λ m. IsTrueAmong faces m (Meet meet))
 IsTrueAmongFaults faces all (Side node first next) = HaveMap all (λ m. IsTrueAmong faces m (Side node first next))
 IsTrueAmongFaults faces all (PolygonPoint fault) = HaveMap all (λ m. IsTrueAmong faces m (PolygonPoint fault))

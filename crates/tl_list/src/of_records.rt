@@ -22,6 +22,7 @@ use tl_list_map::list_map;
 use tl_list_records::{KeptRecords, all_record_faults};
 use tl_list_text::Listing;
 use tl_map_county::Map;
+use tl_map_rules::Lacking;
 use tl_record::{Options, RecordReader, Source};
 
 /// All that is wrong with a county, and the map that its records draw.
@@ -45,8 +46,9 @@ pub fn list_faults<R: Source>(
     records: &mut R,
     options: Options,
 ) -> Result<Listing, Stop>
-    // Where the bytes are known: all lines that are refused; or where none is, all faults of the records; or where there
-    // is none, all faults of their map; or where there is none, the map's numbers.
+    // Where the bytes are known: all lines that are refused; or where none is, all faults of the records, and where there are none of some type
+    // that is asked for, that in place of those that hang on it; or where there is none, all faults of their map; or where there is none, the map's
+    // numbers.
     ensures listing { IfOk result (λ listing. IfSome (R.remaining records.old)
         (λ text. IsListingOf options text listing)) }
     // It stops where memory was refused, or a read failed.
@@ -71,7 +73,8 @@ pub fn list_with_map<R: Source>(
     skips: bool,
 ) -> Result<Found, Stop>
     // The listing is that of `list_faults`, and the map is that of the text's records; there is none exactly where a line is
-    // refused or the records have a fault. What is left, where there is something, is listed as a text of its own.
+    // refused or the records have a fault. Whatever is known of the bytes, the listing says why. What is left, where there is something, is
+    // listed as a text of its own.
     ensures found { IfOk result (IsFoundIn options skips (R.remaining records.old)) }
     // Whatever is known of the bytes: what is listed beside the map is listed of that map.
     ensures of_map { IfOk result (λ found. AreOfMap options.faces found.whole) }
@@ -84,7 +87,7 @@ pub fn list_with_map<R: Source>(
     let LinesRead { refused, kept } = read_all(alloc, &mut reader, options.join, skips)?;
     match kept {
         Some(both) => {
-            let listed = list_kept(alloc, hasher, both, reader.skipped(), options.faces)?;
+            let listed = list_kept(alloc, hasher, both, reader.skipped(), options)?;
             Ok(found_in(alloc, refused, listed))
         }
         None => Ok(Found {
@@ -98,41 +101,46 @@ pub fn list_with_map<R: Source>(
 }
 
 /// All faults of records that are kept, so many of whose text's lines were passed over, or all of their map. The map is drawn
-/// first: of records that draw one no fault is true, and none is looked for.
+/// first, unless there are no records of some type that is asked for: of records that draw one no fault is true, and none is looked for.
 fn list_kept(
     alloc: Global,
     hasher: RandomState,
     both: BothKept,
     skipped: u64,
-    faces: bool,
+    options: Options,
 ) -> Result<Findings, Stop>
     requires { (rs : List Record) × Keeps rs both }
-    ensures listed { (all : AllRecords) (rs : List Record) → AreWhole all skipped rs → Keeps rs both →
-        IfOk result (AreFindingsOfRecords faces all) }
-    ensures of_map { IfOk result (AreOfMap faces) }
+    ensures listed { (all : AllRecords) (rs : List Record) → AreWhole all skipped rs → all.complete ≡ options.complete → Keeps rs both →
+        IfOk result (AreFindingsOfRecords options.faces all) }
+    ensures of_map { IfOk result (AreOfMap options.faces) }
     ensures stops { IfErr result (λ stop. stop ≡ Stop.Memory) }
 {
     let BothKept { collected, kept } = both;
+    let lacking = collected.lacking(options.complete);
+    if lacking.is_some() {
+        drop(collected);
+        return list_told(alloc, kept, lacking);
+    }
     match collected.build(alloc, hasher, skipped) {
         Ok(map) => {
             drop(kept);
-            list_drawn(alloc, map, faces)
+            list_drawn(alloc, map, options.faces)
         }
         Err(stop) => {
             fault_of_records(stop)?;
-            list_told(alloc, kept)
+            list_told(alloc, kept, lacking)
         }
     }
 }
 
-/// All faults of records that have one, as those of a county.
-fn list_told(alloc: Global, kept: KeptRecords) -> Result<Findings, Stop>
-    ensures listed { (rs : List Record) → KeepsRecords rs kept → IfOk result (AreTold rs) }
+/// All faults of records that have one, or of which there are none of these types, as those of a county.
+fn list_told(alloc: Global, kept: KeptRecords, lacking: Lacking) -> Result<Findings, Stop>
+    ensures listed { (rs : List Record) → KeepsRecords rs kept → IfOk result (AreTold rs lacking) }
     ensures stops { IfErr result (λ stop. stop ≡ Stop.Memory) }
 {
     let told = all_record_faults(alloc, kept)?;
     let mut faults = Vec::new(alloc);
-    push_records(&mut faults, &told)?;
+    push_records(&mut faults, &told, lacking)?;
     Ok(Findings {
         listing: Listing::Faults { faults, touched: 0 },
         map: None,

@@ -71,6 +71,7 @@ odds_deny chains a b id_a id_b odds agree = elim odds.odd [
 
 no_fault : (m : TheMap) (f : MapFault) → HasNone m → ¬ IsTrueOfMap false m f
 no_fault m (fault.Records told) none true_one = absurd true_one
+no_fault m (fault.NoRecords lacking) none true_one = absurd true_one
 no_fault m (fault.Meet meet) none true_one = none_named _ (none.meets.complete meet.s meet.t meet.at true_one.ordered true_one.told.meet)
 no_fault m (fault.Side node first next) none true_one =
     none_named _ (none.sides.complete first next (record { is_next = true_one.is_next; differ = true_one.differ }))

@@ -12,6 +12,7 @@ use Rattle.tl_list_map.specs.MapFaults.{AreFaultsFor}
 -- the fault is of faces
 abbrev pub is_of_faces : MapFault → Bool
 is_of_faces (fault.Records told) = false
+is_of_faces (fault.NoRecords lacking) = false
 is_of_faces (fault.Meet meet) = false
 is_of_faces (fault.Side node first next) = false
 is_of_faces (fault.PolygonPoint told) = false

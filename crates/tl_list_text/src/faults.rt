@@ -2,7 +2,7 @@
 
 ghost use Rattle.std.specs.Prelude.{◌≡◌, ◌+◌, ◌≤◌, ◌++◌, codes, length};
 ghost use Rattle.arrayvec.specs.ArrayString.{array_string_len};
-ghost use Rattle.tl_map_rules.specs.Messages.{fault_name, subject_text, fault_text, limited_text};
+ghost use Rattle.tl_map_rules.specs.Messages.{fault_name, subject_text, fault_text, lacking_text, limited_text};
 ghost use Rattle.tl_cert_output.specs.Writing.{line_of};
 ghost use Rattle.tl_check_faces.specs.FaultTexts.{rational_text, side_text, way_text, named_face_text, face_fault_text};
 ghost use Rattle.tl_check_verdict.specs.Messages.{map_fault_text, segment_text, node_text, misplaced_text};
@@ -16,7 +16,7 @@ use tl_check_planar::Meet;
 use tl_check_sides::cells::CellsAtOdds;
 use tl_check_verdict::MapFault;
 use tl_geom::{Point, Rational};
-use tl_map_rules::Limited;
+use tl_map_rules::{Lacking, Limited};
 use tl_record_key::PolyKey;
 
 /// The line of a fault.
@@ -35,6 +35,7 @@ fn fault_words(fault: &MapFault) -> ArrayString<LINE_ROOM>
 {
     match fault {
         MapFault::Records(fault) => record_words(fault),
+        MapFault::NoRecords(lacking) => lacking_words(*lacking),
         MapFault::Meet(meet) => meet_words(meet),
         MapFault::Side { node, first, next } => side_words(*node, *first, *next),
         MapFault::PolygonPoint(misplaced) => misplaced_words(misplaced),
@@ -52,6 +53,17 @@ fn record_words(fault: &tl_map_rules::RecordFault) -> ArrayString<LINE_ROOM>
     line.push_str("map fault ");
     line.push_str(record_name(fault));
     push_subject(&mut line, fault);
+    line
+}
+
+// M14: the types of which there is no record.
+fn lacking_words(lacking: Lacking) -> ArrayString<LINE_ROOM>
+    ensures bytes { result.bytes ≡ lacking_text lacking }
+    ensures room { array_string_len result ≤ 500 }
+{
+    let mut line = ArrayString::new();
+    line.push_str("map fault M14 NoRecords types");
+    line.push_str(lacking.types());
     line
 }
 

@@ -9,7 +9,7 @@ use arrayvec::ArrayString;
 use itoa::{Buffer, Integer};
 use tl_record::PolyKey;
 
-/// More bytes than a line may have.
+/// More bytes than a line may have: what adds to one requires that there is room, so none is cut.
 pub const LINE_ROOM: usize = 512;
 
 /// Adds a word and a number.

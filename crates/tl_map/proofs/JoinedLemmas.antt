@@ -9,9 +9,9 @@ use Rattle.std.specs.Option.{option_map}
 use Rattle.tl_record.specs.declared.record.Record.{Record}
 use Rattle.tl_record.specs.declared.options.Options.{Options}
 use Rattle.tl_record.specs.Layout.{layout_with}
-use Rattle.tl_record.specs.Records.{Records, lines_read, joined_where, records_of}
+use Rattle.tl_record.specs.Records.{Records, lines_read, joined_where}
 use Rattle.tl_map_rules.specs.declared.fault.MapStop.{MapStop}
-use Rattle.tl_map_rules.specs.declared.fault.MapStop.TheVariants.{Refused, Device, Memory, Fault}
+use Rattle.tl_map_rules.specs.declared.fault.MapStop.TheVariants.{Refused, Device, Memory, Fault, NoRecords}
 use Rattle.tl_map_rules.specs.Reading.{records_in}
 use Rattle.tl_map_join.specs.Told.{joined_records}
 use Rattle.tl_map_join.proofs.JoinLemmas.{records_joined}
@@ -22,9 +22,13 @@ use Rattle.tl_map_join.specs.Told.{HasTold}
 use Rattle.tl_map.specs.Keeping.Gathering.{Gathers, GathersAll, GathersTold, CollectsAll, StopsGathering}
 use Rattle.tl_map.proofs.ReadLemmas.{AreAll}
 
--- what comes of a text, joined, are the text's records
+-- the records of a text, before more is asked of them
+abbrev pub plain_records : Options → List ℕ → Records
+plain_records options bytes = joined_where options.join (lines_read (layout_with options) bytes)
+
+-- what comes of a text, joined, are they
 pub of_text : (options : Options) (text : Option (List ℕ)) (came : Option Records) → came ≡ option_map (lines_read (layout_with options)) text
-    → option_map (joined_where options.join) came ≡ option_map (records_of (layout_with options)) text
+    → option_map (joined_where options.join) came ≡ option_map (plain_records options) text
 of_text options None came is = rw is refl
 of_text options (Some bytes) came is = rw is refl
 
@@ -46,6 +50,7 @@ stops_joined came joins Memory why = tt
 stops_joined None joins (Refused line cause) why = tt
 stops_joined (Some all) joins (Refused line cause) why = why
 stops_joined came joins (Fault fault) why = absurd why
+stops_joined came joins (NoRecords lacking) why = absurd why
 
 pub stops_by : {T : Type 0} (came : Option Records) (joins : Bool) (r : Result T MapStop) → IfErr r (StopsGathering came) → IfErr r (StopsGathering (option_map (joined_where joins) came))
 stops_by came joins (Ok made) why = tt

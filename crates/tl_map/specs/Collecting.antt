@@ -3,7 +3,7 @@ use Rattle.std.specs.Prelude.{◌≡◌, ℕ, ⊤, List}
 use Rattle.tl_record.specs.declared.record.Record.{Record}
 use Rattle.tl_map_county.specs.TheMap.{TheMap}
 use Rattle.tl_map_rules.specs.declared.fault.MapStop.{MapStop}
-use Rattle.tl_map_rules.specs.declared.fault.MapStop.TheVariants.{Refused, Device, Memory, Fault}
+use Rattle.tl_map_rules.specs.declared.fault.MapStop.TheVariants.{Refused, Device, Memory, Fault, NoRecords}
 use Rattle.tl_map_rules.specs.Faults.{IsTrueOf, HaveNoFault}
 use Rattle.tl_map_rules.specs.MapOf.{IsMapOf}
 use Rattle.tl_map.specs.declared.collected.CollectedRecords.{CollectedRecords}
@@ -27,3 +27,4 @@ StopsOn rs Device = ⊥
 StopsOn rs Memory = ⊤
 StopsOn rs (Refused line cause) = ⊥
 StopsOn rs (Fault fault) = IsTrueOf rs fault
+StopsOn rs (NoRecords lacking) = ⊥

@@ -3,10 +3,11 @@
 use crate::areas::AreaRecords;
 use crate::build_map::build_map;
 use crate::collect::Collected;
+use crate::lacking::lacking_where;
 use std::alloc::{AllocError, Global};
 use std::hash::RandomState;
 use tl_map_county::Map;
-use tl_map_rules::MapStop;
+use tl_map_rules::{Lacking, MapStop};
 use tl_record::Record;
 
 /// The records of a county up to some place, and what is kept of them until the map is built.
@@ -20,8 +21,9 @@ pub struct CollectedRecords {
 }
 
 impl CollectedRecords {
-    ghost use Rattle.std.specs.Prelude.{◌∷◌, [], ◌++◌, List, OnOk, IfOk, IfErr};
+    ghost use Rattle.std.specs.Prelude.{◌≡◌, ◌∷◌, [], ◌++◌, List, OnOk, IfOk, IfErr};
     ghost use Rattle.tl_record.specs.declared.record.Record.{Record};
+    ghost use Rattle.tl_map_rules.specs.Lacking.{lacking_where};
     ghost use Rattle.tl_map.specs.Collecting.{HasCollected, IsMapOfRecords, StopsOn};
 
     /// No record.
@@ -41,6 +43,13 @@ impl CollectedRecords {
     {
         self.lines.add(next)?;
         self.areas.add(next)
+    }
+
+    /// Of which of the types 1, I and P no record was collected, where some of each is asked for.
+    pub fn lacking(&self, asked: bool) -> Lacking
+        ensures { (rs : List Record) → HasCollected rs self.now → result ≡ lacking_where asked rs }
+    {
+        lacking_where(asked, &self.lines, &self.areas)
     }
 
     /// The map of the records, of whose text so many lines were passed over. `hasher` is that of [`crate::read_map`].

@@ -18,6 +18,7 @@ mod collected;
 mod guess;
 mod join;
 mod kept;
+mod lacking;
 mod landmarks;
 mod passes;
 mod polygons;
@@ -31,4 +32,4 @@ pub use tl_map_county::{
     CHAIN_LIMIT, Chain, Chains, LANDMARK_LIMIT, Landmark, Map, POLYGON_LIMIT, Polygon,
     SEGMENT_LIMIT, Side,
 };
-pub use tl_map_rules::{Limited, MapStop, RecordFault};
+pub use tl_map_rules::{Lacking, Limited, MapStop, RecordFault};

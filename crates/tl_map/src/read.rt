@@ -16,6 +16,7 @@ use crate::areas::AreaRecords;
 use crate::build::build_chains;
 use crate::build_map::build_map;
 use crate::collect::Collected;
+use crate::lacking::lacking_where;
 use std::alloc::{AllocError, Global};
 use std::hash::RandomState;
 use tl_map_county::{Chains, Map};
@@ -216,7 +217,8 @@ pub fn read_map<R: Source>(
     read_map_with(alloc, hasher, records, PLAIN)
 }
 
-/// Reads the map of a county as [`read_map`] does, with the columns that the options choose of type I.
+/// Reads the map of a county as [`read_map`] does, with the columns that the options choose of type I. Where they ask for records of each
+/// of the types 1, I and P and there are none of some, that is why there is no map, whatever fault the records have.
 pub fn read_map_with<R: Source>(
     alloc: Global,
     hasher: RandomState,
@@ -231,5 +233,9 @@ pub fn read_map_with<R: Source>(
 {
     let mut reader = RecordReader::with(records, options);
     let (collected, areas) = collect_asked(alloc, &mut reader, options.join)?;
+    let lacking = lacking_where(options.complete, &collected, &areas);
+    if lacking.is_some() {
+        return Err(MapStop::NoRecords(lacking));
+    }
     build_map(alloc, hasher, collected, areas, reader.skipped())
 }

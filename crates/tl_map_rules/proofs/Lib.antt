@@ -1,5 +1,6 @@
 pub mod CountLemmas
 pub mod KnownLemmas
+pub mod LackingLemmas
 pub mod OneMapLemmas
 pub mod PairLemmas
 pub mod PartLemmas

@@ -1,6 +1,7 @@
 pub mod ChainsOf
 pub mod MapOf
 pub mod Faults
+pub mod Lacking
 pub mod Messages
 pub mod Reading
 pub mod Subjects

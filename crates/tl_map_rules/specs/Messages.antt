@@ -1,5 +1,5 @@
 -- What is printed of a fault of the records and of each stop of reading them.
-use Rattle.std.specs.Prelude.{ℕ, List, ◌++◌, codes, decimal}
+use Rattle.std.specs.Prelude.{ℕ, List, [], ◌++◌, codes, decimal, if◌then◌else◌}
 use Rattle.tl_record.specs.Messages.{refusal_text}
 use Rattle.tl_record_key.specs.KeyText.{key_text}
 use Rattle.tl_map_rules.specs.declared.fault.Limited.{Limited}
@@ -7,7 +7,8 @@ use Rattle.tl_map_rules.specs.declared.fault.Limited.TheVariants.{Chains, Segmen
 use Rattle.tl_map_rules.specs.declared.fault.RecordFault.{RecordFault}
 use Rattle.tl_map_rules.specs.declared.fault.RecordFault.TheVariants.{DuplicateChain, ShapeWithoutChain, ShapeSequence, ShapeGap, ChainWithoutSides, SidesWithoutChain, DuplicateSides, DuplicatePolygon, SideWithoutPolygon, LinkWithoutLandmark, LinkWithoutPolygon, DegenerateChain, TooMany}
 use Rattle.tl_map_rules.specs.declared.fault.MapStop.{MapStop}
-use Rattle.tl_map_rules.specs.declared.fault.MapStop.TheVariants.{Refused, Device, Memory, Fault}
+use Rattle.tl_map_rules.specs.declared.fault.MapStop.TheVariants.{Refused, Device, Memory, Fault, NoRecords}
+use Rattle.tl_map_rules.specs.declared.lacking.Lacking.{Lacking}
 
 -- what there are too many of
 abbrev pub limited_text : Limited → List ℕ
@@ -52,9 +53,18 @@ subject_text (TooMany what) = codes " " ++ limited_text what
 abbrev pub fault_text : RecordFault → List ℕ
 fault_text fault = codes "map fault " ++ fault_name fault ++ subject_text fault
 
+-- the types of which there is no record
+abbrev pub types_text : Lacking → List ℕ
+types_text l = (if l.chains then codes " 1" else []) ++ ((if l.sides then codes " I" else []) ++ (if l.polygons then codes " P" else []))
+
+-- the line that says so
+abbrev pub lacking_text : Lacking → List ℕ
+lacking_text l = codes "map fault M14 NoRecords types" ++ types_text l
+
 -- why no map is handed out
 abbrev pub map_stop_text : MapStop → List ℕ
 map_stop_text (Refused line cause) = refusal_text line cause
 map_stop_text Device = codes "stopped Device"
 map_stop_text Memory = codes "stopped Memory"
 map_stop_text (Fault fault) = fault_text fault
+map_stop_text (NoRecords lacking) = lacking_text lacking

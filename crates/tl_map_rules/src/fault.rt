@@ -4,6 +4,7 @@ ghost use Rattle.std.specs.Prelude.{◌≡◌};
 ghost use Rattle.tl_map_rules.specs.declared.fault.MapStop.TheVariants.{Memory};
 ghost use Rattle.tl_map_rules.specs.Reading.{stop_of};
 
+use crate::lacking::Lacking;
 use std::alloc::{AllocError, AllocFailed};
 use std::fmt;
 use tl_record::{Cause, PolyKey, ReadStop};
@@ -181,6 +182,8 @@ pub enum MapStop {
     Memory,
     /// No line is refused, and the records have this fault.
     Fault(RecordFault),
+    /// No line is refused, records of each of the types 1, I and P are asked for, and of these there is none.
+    NoRecords(Lacking),
 }
 
 impl fmt::Display for MapStop {
@@ -195,6 +198,7 @@ impl fmt::Display for MapStop {
             MapStop::Device => f.write_str("stopped Device"),
             MapStop::Memory => f.write_str("stopped Memory"),
             MapStop::Fault(fault) => fault.fmt(f),
+            MapStop::NoRecords(lacking) => lacking.fmt(f),
         }
     }
 }

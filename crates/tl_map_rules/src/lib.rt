@@ -6,7 +6,9 @@
 
 mod entry;
 mod fault;
+mod lacking;
 pub mod laws;
 
 pub use entry::{ChainEntry, Fill, LandmarkEntry, LinkEntry, ShapeEntry, SidesEntry};
 pub use fault::{Limited, MapStop, RecordFault};
+pub use lacking::{Lacking, NOTHING_LACKING};

@@ -1,5 +1,5 @@
 -- What is left of a text without its refused lines.
-use Rattle.std.proofs.Common.{◌≡◌, ℕ, ◌+◌, ◌<◌, ◌≤◌, ◌==◌, true, List, [], ◌∷◌, map, length, Some, None, refl, ap, ◌∙◌, arith, inl, inr}
+use Rattle.std.proofs.Common.{◌≡◌, ℕ, ◌+◌, ◌<◌, ◌≤◌, ◌==◌, true, false, List, [], ◌∷◌, map, length, Some, None, refl, ap, ◌∙◌, arith, inl, inr}
 use Rattle.std.specs.Prelude.{nat_lt}
 use Rattle.std.specs.List.{filter_map, count_by}
 use Rattle.std.proofs.lemmas.Bool.{cases_Bool, cases_eq, eqb-true, eq-eqb, lt-ltb, ltb-true}
@@ -116,6 +116,7 @@ all_accepted layout before skipped lines = record {
   entries = filter_map entry_of (judgements layout before lines);
   refusal = None;
   skipped = skipped + (count_by is_passed_over (judgements layout before lines) + length (refusals_of_lines layout before lines));
+  complete = false;
 }
 
 accepted_left : (layout : Layout) (before skipped : ℕ) (lines : List (List ℕ)) → before + length lines ≤ most_lines

@@ -1,5 +1,5 @@
 -- What one more judgement in front makes of the records of a text.
-use Rattle.std.proofs.Common.{◌≡◌, ◌≢◌, ℕ, ◌+◌, ◌∷◌, List, [], Bool, not, cond, Option, refl, sym, ap, ◌∙◌, arith}
+use Rattle.std.proofs.Common.{◌≡◌, ◌≢◌, ℕ, ◌+◌, ◌∷◌, List, [], Bool, false, not, cond, Option, refl, sym, ap, ◌∙◌, arith}
 use Rattle.std.specs.List.{filter_map, count_by}
 use Rattle.std.proofs.lemmas.List.Sums.{take_while-cons, sum_by-append}
 use Rattle.tl_record.specs.declared.layout.Layout.{Layout}
@@ -15,7 +15,7 @@ use Rattle.tl_record.proofs.LineLemmas.{raw_lines-first}
 
 -- records with equal parts are equal
 pub same_records : (e f : List (ℕ × Record)) (r s : Option (ℕ × Cause)) (m n : ℕ) → e ≡ f → r ≡ s → m ≡ n
-    → (let left : Records = record { entries = e; refusal = r; skipped = m } in left ≡ record { entries = f; refusal = s; skipped = n })
+    → (let left : Records = record { entries = e; refusal = r; skipped = m; complete = false } in left ≡ record { entries = f; refusal = s; skipped = n; complete = false })
 same_records e f r s m n p q k = cc
 
 not_refused : ℕ × Judgement → Bool

@@ -86,8 +86,9 @@ layout_with options = record {
   poly_point = tiger_2006_poly_point;
   landmarks = landmarks_with options;
   joins = options.join;
+  complete = options.complete;
 }
 
 -- the column table where nothing is chosen: TLID of type I in columns 6 to 15, and no zero-cell ids
 abbrev pub tiger_2006 : Layout
-tiger_2006 = layout_with (record { zero_cells = false; released = false; faces = false; join = false })
+tiger_2006 = layout_with (record { zero_cells = false; released = false; faces = false; join = false; complete = false })

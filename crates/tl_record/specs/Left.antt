@@ -1,5 +1,5 @@
 -- What is left of a text without its refused lines.
-use Rattle.std.specs.Prelude.{ℕ, ◌+◌, ◌==◌, if◌then◌else◌, List, [], ◌∷◌, map, length, None}
+use Rattle.std.specs.Prelude.{ℕ, ◌+◌, ◌==◌, false, if◌then◌else◌, List, [], ◌∷◌, map, length, None}
 use Rattle.std.specs.List.{filter_map, count_by}
 use Rattle.tl_record.specs.declared.layout.Layout.{Layout}
 use Rattle.tl_record.specs.declared.refusal.Refusal.{Refusal}
@@ -47,4 +47,5 @@ accepted_records layout text = record {
   entries = filter_map entry_of (judgements layout 0 (raw_lines text));
   refusal = None;
   skipped = count_by is_passed_over (judgements layout 0 (raw_lines text)) + length (refusals_of layout text);
+  complete = false;
 }

@@ -1,5 +1,5 @@
 -- What a record reader keeps, and what it still has to give.
-use Rattle.std.specs.Prelude.{◌≡◌, ◌⊎◌, ℕ, ◌+◌, List, [], ◌∷◌, Option, None, Some, Result, Ok, Err, ⊤}
+use Rattle.std.specs.Prelude.{◌≡◌, ◌⊎◌, ℕ, ◌+◌, false, List, [], ◌∷◌, Option, None, Some, Result, Ok, Err, ⊤}
 use Rattle.std.specs.Option.{option_map}
 use Rattle.std.specs.Io.KnownBytes.{prepend_known}
 use Rattle.tl_record.specs.declared.record.Record.{Record}
@@ -51,7 +51,7 @@ unjudged remaining reader = prepend_known (pending_of reader) (remaining (source
 
 -- the same records, where so many lines were passed over before
 abbrev pub with_skipped : ℕ → Records → Records
-with_skipped before records = record { entries = records.entries; refusal = records.refusal; skipped = before + records.skipped }
+with_skipped before records = record { entries = records.entries; refusal = records.refusal; skipped = before + records.skipped; complete = false }
 
 -- what the bytes that weren't judged give, where they're known: entries, a refusal, and how many lines will have been
 -- passed over in all
@@ -81,11 +81,11 @@ refusals_to_come remaining reader =
 
 -- nothing comes any more
 abbrev pub nothing_after : ℕ → Records
-nothing_after skipped = record { entries = []; refusal = None; skipped = skipped }
+nothing_after skipped = record { entries = []; refusal = None; skipped = skipped; complete = false }
 
 -- the refusal comes next, and nothing after it
 abbrev pub refusal_after : ℕ → ℕ → Cause → Records
-refusal_after skipped line cause = record { entries = []; refusal = Some (line, cause); skipped = skipped }
+refusal_after skipped line cause = record { entries = []; refusal = Some (line, cause); skipped = skipped; complete = false }
 
 abbrev pub outcome_standing : Standing → Option Records → ℕ → Option Records
 outcome_standing Reading coming skipped = coming
@@ -114,7 +114,7 @@ KeepsUnanswered (Err stop) old new = new ≡ old
 
 -- these records, with one more entry before them
 abbrev pub with_entry : ℕ × Record → Records → Records
-with_entry entry rest = record { entries = entry ∷ rest.entries; refusal = rest.refusal; skipped = rest.skipped }
+with_entry entry rest = record { entries = entry ∷ rest.entries; refusal = rest.refusal; skipped = rest.skipped; complete = false }
 
 -- What an answer takes from what was to come, where that was known: the first entry, and the rest comes after it; the
 -- end; or the refusal. A failed read leaves what was to come.

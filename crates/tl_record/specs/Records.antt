@@ -19,6 +19,8 @@ pub record Records : Type 0 where
   pub refusal : Option (ℕ × Cause)
   -- how many lines before the first refused one are passed over
   pub skipped : ℕ
+  -- whether at least one record of each of the types 1, I and P is asked for
+  pub complete : Bool
 
 -- each line's number and what it means; so many lines come before these
 abbrev pub judgements : Layout → ℕ → List (List ℕ) → List (ℕ × Judgement)
@@ -53,6 +55,7 @@ records_judged judged = record {
   entries = filter_map entry_of (accepted judged);
   refusal = option_and_then refusal_of (find is_refused judged);
   skipped = count_by is_passed_over (accepted judged);
+  complete = false;
 }
 
 -- the records of these lines, where so many lines come before them
@@ -69,8 +72,13 @@ joined_where joins all = record {
   entries = if joins then joined all.entries else all.entries;
   refusal = all.refusal;
   skipped = all.skipped;
+  complete = all.complete;
 }
+
+-- these records, of which so is asked
+abbrev pub asked_where : Bool → Records → Records
+asked_where complete all = record all { complete = complete }
 
 -- the records of a text
 abbrev pub records_of : Layout → List ℕ → Records
-records_of layout text = joined_where layout.joins (lines_read layout text)
+records_of layout text = asked_where layout.complete (joined_where layout.joins (lines_read layout text))

@@ -94,6 +94,8 @@ pub struct Layout {
     pub landmarks: Option<LandmarksColumns>,
     /// Whether chains that two counties tell are joined.
     pub joins: bool,
+    /// Whether records of each of the types 1, I and P are asked for.
+    pub complete: bool,
 }
 
 fn point_columns(long_first: u16, long_last: u16, lat_first: u16, lat_last: u16) -> PointColumns
@@ -237,6 +239,7 @@ pub fn layout_with(options: Options) -> Layout
         poly_point: tiger_2006_poly_point(),
         landmarks: landmarks_with(options),
         joins: options.join,
+        complete: options.complete,
     }
 }
 

@@ -16,6 +16,8 @@ pub struct Options {
     /// Whether chains that two counties tell, each with its own polygon on its side, are one chain with both. Lines of types 7 and 8 are
     /// then passed over: a LAND is a county's own number.
     pub join: bool,
+    /// Whether at least one record of each of the types 1, I and P has to be read. No column is read for it.
+    pub complete: bool,
 }
 
 /// The default of [`Options`]: nothing is chosen.
@@ -24,4 +26,5 @@ pub const PLAIN: Options = Options {
     released: false,
     faces: false,
     join: false,
+    complete: false,
 };

@@ -35,6 +35,7 @@ fn ask_map(rt: &HostRuntime, records: &[u8]) -> io::Result<()> {
     match read_map(rt.alloc(), hasher, &mut Meter::new(records)) {
         Ok(map) => say_all(rt, &map),
         Err(MapStop::Fault(fault)) => println!(rt; "{fault}"),
+        Err(MapStop::NoRecords(lacking)) => println!(rt; "{lacking}"),
         Err(MapStop::Refused { line, cause }) => println!(rt; "line {line}: {cause}"),
         Err(MapStop::Device) => println!(rt; "the records can't be read"),
         Err(MapStop::Memory) => println!(rt; "memory was refused"),

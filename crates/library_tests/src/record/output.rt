@@ -3,7 +3,7 @@
 use crate::record::pieces::Few;
 use std::alloc::Global;
 use std::io::ErrorKind;
-use tl_cert_output::{Printer, Stop, print_line, write_all};
+use tl_cert_output::{Printer, Stop, write_all};
 use tl_record::{FailAtOut, MeterOut, Sink};
 
 const LINE: &str = "a line of several writes";
@@ -12,7 +12,9 @@ const TEXT: &str = "a line of several writes\na line of several writes\n";
 
 /// Writes a line, and then the same text by a printer that holds it back. Is all written?
 fn write<S: Sink>(out: &mut S) -> bool {
-    print_line(&LINE, out).is_ok() && print(out).is_ok() && write_all(b"\n", out).is_ok()
+    write_all(b"a line of several writes\n", out).is_ok()
+        && print(out).is_ok()
+        && write_all(b"\n", out).is_ok()
 }
 
 /// Prints the text in two parts.

@@ -11,6 +11,7 @@ use Rattle.tl_map_county.specs.TheMap.{TheMap}
 use Rattle.tl_cert.specs.Certificates.{TheCertificate, IsCertificate}
 use Rattle.tl_cert.specs.Text.{certificate_text}
 use Rattle.tl_check_verdict.specs.declared.fault.MapFault.{MapFault as TheMapFault}
+use Rattle.tl_check_verdict.specs.declared.fault.MapFault.TheVariants.{Records, NoRecords, Meet, Side, PolygonPoint, Cell, Face}
 use Rattle.tl_check_verdict.specs.declared.verdict.Report.{Report}
 use Rattle.tl_check_verdict.specs.declared.verdict.Verdict.TheVariants.{MapFault}
 use Rattle.tl_check_verdict.specs.Sound.{IsSoundFor}
@@ -84,7 +85,13 @@ module _ (u : Under) (l : Log) (k : Bool) (name : List ℕ) (faces : Bool) (m : 
 
 -- the fault of records that have no map is true of them
 true_fault : (options : Options) (known : Option (List ℕ)) (fault : TheMapFault) → IsOfRecords (layout_with options) known (λ fault. ⊤) fault → IsTrueFault options known fault
-true_fault options known fault of = subst (λ f. IsTrueFault options known f) (sym of.is) of.holds
+true_fault options known (Records fault) of = of.1
+true_fault options known (NoRecords lacking) of = of
+true_fault options known (Meet meet) of = absurd of
+true_fault options known (Side node first next) of = absurd of
+true_fault options known (PolygonPoint fault) of = absurd of
+true_fault options known (Cell odds) of = absurd of
+true_fault options known (Face fault) of = absurd of
 
 -- they were read, and no file was made
 pub build_of_fault : (w : World) (names : List (List ℕ)) (name : List ℕ) (options : Options) (known : Option (List ℕ)) (fault : TheMapFault)

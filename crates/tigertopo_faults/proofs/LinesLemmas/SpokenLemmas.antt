@@ -3,7 +3,7 @@ use Rattle.std.proofs.Common.{◌≡◌, ℕ, ◌+◌, ◌<◌, ◌≤◌, List,
 use Rattle.std.proofs.lemmas.List.{drop_more, drop_all}
 use Rattle.tl_geom.specs.declared.rational.Rational.{Rational}
 use Rattle.tl_check_verdict.specs.declared.fault.MapFault.{MapFault}
-use Rattle.tl_check_verdict.specs.declared.fault.MapFault.TheVariants.{Records, Meet, Side, PolygonPoint, Cell, Face}
+use Rattle.tl_check_verdict.specs.declared.fault.MapFault.TheVariants.{Records, NoRecords, Meet, Side, PolygonPoint, Cell, Face}
 use Rattle.tl_check_planar.specs.declared.meet.Meet.{Meet as TheMeet}
 use Rattle.tl_map_county.specs.TheMap.{MapChain}
 use Rattle.tigertopo_records.specs.declared.subject.Subject.{Subject}
@@ -16,6 +16,7 @@ use Rattle.tigertopo_faults.specs.Lines.Texts.{lines_for, placed_fault_text, pla
 pub spoken_other : (chains : List MapChain) (about : Subject → List RecordLine) (fault : MapFault) → ((meet : TheMeet) → fault ≡ Meet meet → ⊥)
     → spoken_of chains about fault ≡ (lines_for about (subjects_of chains fault).0, lines_for about (subjects_of chains fault).1)
 spoken_other chains about (Records fault) other = refl
+spoken_other chains about (NoRecords lacking) other = refl
 spoken_other chains about (Meet meet) other = absurd (other meet refl)
 spoken_other chains about (Side node first next) other = refl
 spoken_other chains about (PolygonPoint misplaced) other = refl

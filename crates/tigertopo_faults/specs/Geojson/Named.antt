@@ -8,7 +8,7 @@ use Rattle.tl_check_inside.specs.declared.misplaced.Misplaced.{Misplaced}
 use Rattle.tl_check_inside.specs.declared.misplaced.Misplaced.TheVariants.{OnChain, Outside, InOther}
 use Rattle.tl_check_faces.specs.declared.fault.FaceFault.TheVariants.{Facing, Outward}
 use Rattle.tl_check_verdict.specs.declared.fault.MapFault.{MapFault}
-use Rattle.tl_check_verdict.specs.declared.fault.MapFault.TheVariants.{Records, Meet, Side, PolygonPoint, Cell, Face}
+use Rattle.tl_check_verdict.specs.declared.fault.MapFault.TheVariants.{Records, NoRecords, Meet, Side, PolygonPoint, Cell, Face}
 use Rattle.tigertopo_records.specs.SpokenOf.{tlid_of, other_tlid}
 
 -- one thing or two, or none
@@ -67,6 +67,7 @@ point_keys (InOther polygon other) = (Some polygon, Some other)
 -- the TLIDs that a fault names, each once; for a dart that of its chain, where these are the map's chains
 abbrev pub tlids_of : List MapChain → MapFault → Pair ℕ
 tlids_of chains (Records fault) = (record_tlid fault, None)
+tlids_of chains (NoRecords lacking) = (None, None)
 tlids_of chains (Meet meet) = each_once (Some meet.tlid) (Some meet.other)
 tlids_of chains (Side node first next) = each_once (tlid_of chains first) (tlid_of chains next)
 tlids_of chains (PolygonPoint misplaced) = (point_tlid misplaced, None)

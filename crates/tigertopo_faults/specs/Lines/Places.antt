@@ -13,7 +13,7 @@ use Rattle.tl_check_inside.specs.declared.misplaced.Misplaced.{Misplaced}
 use Rattle.tl_check_inside.specs.declared.misplaced.Misplaced.TheVariants.{OnChain, Outside, InOther}
 use Rattle.tl_check_faces.specs.declared.fault.FaceFault.TheVariants.{Facing, Outward}
 use Rattle.tl_check_verdict.specs.declared.fault.MapFault.{MapFault}
-use Rattle.tl_check_verdict.specs.declared.fault.MapFault.TheVariants.{Records, Meet, Side, PolygonPoint, Cell, Face}
+use Rattle.tl_check_verdict.specs.declared.fault.MapFault.TheVariants.{Records, NoRecords, Meet, Side, PolygonPoint, Cell, Face}
 use Rattle.tigertopo_records.specs.SpokenOf.{chains_of}
 
 -- the polygons of a map, where there is one
@@ -36,6 +36,7 @@ polygon_of (InOther polygon other) = polygon
 -- the first of two segments that face one another; a fault of the records alone has no place
 abbrev pub fault_place : Option TheMap → MapFault → Option Rational
 fault_place drawn (Records fault) = None
+fault_place drawn (NoRecords lacking) = None
 fault_place drawn (Meet meet) = Some meet.at
 fault_place drawn (Side node first next) = Some (whole node)
 fault_place drawn (PolygonPoint misplaced) = option_map whole (point_of_key (polygons_of drawn) (polygon_of misplaced))

@@ -1,17 +1,18 @@
 -- What a fault is about, beside the TLIDs, the polygons and the LAND that it names.
-use Rattle.std.specs.Prelude.{ℕ, List, [], ◌++◌, Option, None, Some, codes, decimal}
+use Rattle.std.specs.Prelude.{ℕ, Bool, true, false, List, [], ◌++◌, Option, None, Some, codes, decimal}
 use Rattle.std.specs.Fmt.{signed_decimal}
 use Rattle.tl_geom.specs.declared.point.Point.{Point}
 use Rattle.tl_record_key.specs.declared.key.PolyKey.{PolyKey}
 use Rattle.tl_map_rules.specs.declared.fault.RecordFault.{RecordFault}
 use Rattle.tl_map_rules.specs.declared.fault.RecordFault.TheVariants.{TooMany}
+use Rattle.tl_map_rules.specs.declared.lacking.Lacking.{Lacking}
 use Rattle.tl_map_rules.specs.Messages.{limited_text}
 use Rattle.tl_check_faces.specs.declared.fault.NamedFace.{NamedFace}
 use Rattle.tl_check_faces.specs.declared.fault.FaceFault.{FaceFault}
 use Rattle.tl_check_faces.specs.declared.fault.FaceFault.TheVariants.{Facing, Outward}
 use Rattle.tl_check_faces.specs.FaultTexts.{way_text}
 use Rattle.tl_check_verdict.specs.declared.fault.MapFault.{MapFault}
-use Rattle.tl_check_verdict.specs.declared.fault.MapFault.TheVariants.{Records, Meet, Side, PolygonPoint, Cell, Face}
+use Rattle.tl_check_verdict.specs.declared.fault.MapFault.TheVariants.{Records, NoRecords, Meet, Side, PolygonPoint, Cell, Face}
 use Rattle.tigertopo_geojson.specs.Strings.{key_string}
 use Rattle.tigertopo_faults.specs.Objects.Places.{fractions_text}
 
@@ -23,6 +24,20 @@ pair_text name one other = name ++ codes "[" ++ decimal one ++ codes "," ++ deci
 abbrev pub limit_text : RecordFault → List ℕ
 limit_text (TooMany what) = codes ",\"limit\":\"" ++ limited_text what ++ codes "\""
 limit_text other = []
+
+-- the types of which there is no record
+abbrev pub type_strings : (chains sides polygons : Bool) → List ℕ
+type_strings true true true = codes "\"1\",\"I\",\"P\""
+type_strings true true false = codes "\"1\",\"I\""
+type_strings true false true = codes "\"1\",\"P\""
+type_strings true false false = codes "\"1\""
+type_strings false true true = codes "\"I\",\"P\""
+type_strings false true false = codes "\"I\""
+type_strings false false true = codes "\"P\""
+type_strings false false false = []
+
+abbrev pub lacking_members : Lacking → List ℕ
+lacking_members lacking = codes ",\"types\":[" ++ type_strings lacking.chains lacking.sides lacking.polygons ++ codes "]"
 
 -- the point of a node, in whole millionths of a degree
 unfoldable pub node_text : Point → List ℕ
@@ -43,9 +58,11 @@ abbrev pub faces_text : FaceFault → List ℕ
 faces_text (Facing first last) = codes ",\"faces\":[" ++ face_text first ++ codes "," ++ face_text last ++ codes "]"
 faces_text (Outward face way) = codes ",\"faces\":[" ++ face_text face ++ codes "],\"outside\":\"" ++ way_text way ++ codes "\""
 
--- the segments by their numbers through all chains, the node, the darts, the ids of zero-cells, the faces, or what there are too many of
+-- the segments by their numbers through all chains, the node, the darts, the ids of zero-cells, the faces, what there are too many of, or
+-- the types of which there is no record
 abbrev pub details_text : MapFault → List ℕ
 details_text (Records fault) = limit_text fault
+details_text (NoRecords lacking) = lacking_members lacking
 details_text (Meet meet) = pair_text (codes ",\"segments\":") meet.s meet.t
 details_text (Side node first next) = node_text node ++ pair_text (codes ",\"darts\":") first next
 details_text (PolygonPoint misplaced) = []

@@ -18,6 +18,7 @@ pub fn tlids_of(map: Option<&Map>, fault: &MapFault) -> (Option<u64>, Option<u64
 {
     match fault {
         MapFault::Records(fault) => (record_tlid(fault), None),
+        MapFault::NoRecords(_) => (None, None),
         MapFault::Meet(meet) => each_once(Some(meet.tlid), Some(meet.other)),
         MapFault::Side { first, next, .. } => each_once(tlid_of(map, *first), tlid_of(map, *next)),
         MapFault::PolygonPoint(misplaced) => (point_tlid(misplaced), None),

@@ -60,7 +60,7 @@ fn fault_place(
     ensures { result ≡ fault_place (option_copied map.entry) fault.now }
 {
     match fault {
-        MapFault::Records(_) => None,
+        MapFault::Records(_) | MapFault::NoRecords(_) => None,
         MapFault::Meet(meet) => Some(meet.at),
         MapFault::Side { node, .. } => Some(Rational::from(*node)),
         MapFault::PolygonPoint(misplaced) => {

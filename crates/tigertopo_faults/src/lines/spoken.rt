@@ -9,13 +9,14 @@ use arrayvec::ArrayVec;
 use tigertopo_records::{RecordLine, RecordLines, Subject, segment_within};
 use tl_map_county::Map;
 
-/// The records that hold the ends of this segment of the chain with this TLID, in the order of their lines.
+/// The records that hold the ends of this segment of the chain with this TLID, of each county that tells it, in the order of their
+/// lines.
 pub fn segment_spoken(
     drawn: Option<&Map>,
     lines: &RecordLines,
     tlid: u64,
     segment: u32,
-) -> ArrayVec<RecordLine, 2>
+) -> ArrayVec<RecordLine, 4>
     ensures { result.items ≡ segment_spoken (chains_of (option_copied drawn.entry)) (held lines.now) tlid segment }
 {
     lines.ends_of(tlid, segment_within(drawn, segment))

@@ -4,7 +4,7 @@ ghost use Rattle.std.specs.Prelude.{◌≡◌, codes};
 ghost use Rattle.tl_cert_output.specs.Printing.{Prints};
 ghost use Rattle.tl_map_rules.specs.Messages.{limited_text};
 ghost use Rattle.tl_check_faces.specs.FaultTexts.{way_text};
-ghost use Rattle.tigertopo_faults.specs.Objects.About.{details_text, face_text, faces_text, limit_text, named_text, node_text, pair_text};
+ghost use Rattle.tigertopo_faults.specs.Objects.About.{details_text, face_text, faces_text, lacking_members, limit_text, named_text, node_text, pair_text, type_strings};
 
 use crate::objects::place::print_fractions;
 use tigertopo_geojson::print_key;
@@ -12,16 +12,17 @@ use tl_cert_output::Printer;
 use tl_check_faces::{FaceFault, NamedFace, Way};
 use tl_check_verdict::MapFault;
 use tl_geom::Point;
-use tl_map_rules::Limited;
+use tl_map_rules::{Lacking, Limited};
 use tl_record::{PolyKey, Sink};
 
-/// Prints the segments by their numbers through all chains, the node, the darts, the ids of zero-cells, the faces, or what there are
-/// too many of.
+/// Prints the segments by their numbers through all chains, the node, the darts, the ids of zero-cells, the faces, what there are too many
+/// of, or the types of which there is no record.
 pub fn print_details<S: Sink>(fault: &MapFault, printer: &mut Printer, out: &mut S)
     ensures { Prints S.contents S.failure_count (out.old, printer.old) (out.new, printer.new) (details_text fault.now) }
 {
     match fault {
         MapFault::Records(fault) => print_limit(fault, printer, out),
+        MapFault::NoRecords(lacking) => print_types(*lacking, printer, out),
         MapFault::Meet(meet) => print_pair(
             b",\"segments\":",
             u64::from(meet.s),
@@ -61,6 +62,30 @@ fn limit_word<'a>(what: Limited) -> &'a [u8]
         Limited::Segments => b"segments",
         Limited::Polygons => b"polygons",
         Limited::Landmarks => b"landmarks",
+    }
+}
+
+// Prints the types of which there is no record.
+fn print_types<S: Sink>(lacking: Lacking, printer: &mut Printer, out: &mut S)
+    ensures { Prints S.contents S.failure_count (out.old, printer.old) (out.new, printer.new) (lacking_members lacking) }
+{
+    printer.add(b",\"types\":[", out);
+    printer.add(type_strings(lacking), out);
+    printer.add(b"]", out);
+}
+
+fn type_strings<'a>(lacking: Lacking) -> &'a [u8]
+    ensures { result.now ≡ type_strings lacking.chains lacking.sides lacking.polygons }
+{
+    match (lacking.chains, lacking.sides, lacking.polygons) {
+        (true, true, true) => b"\"1\",\"I\",\"P\"",
+        (true, true, false) => b"\"1\",\"I\"",
+        (true, false, true) => b"\"1\",\"P\"",
+        (true, false, false) => b"\"1\"",
+        (false, true, true) => b"\"I\",\"P\"",
+        (false, true, false) => b"\"I\"",
+        (false, false, true) => b"\"P\"",
+        (false, false, false) => b"",
     }
 }
 

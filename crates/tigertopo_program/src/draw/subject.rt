@@ -1,13 +1,13 @@
 //! What a picture is drawn of.
 
-ghost use Rattle.std.specs.Prelude.{◌≡◌, ℕ, List, Option, true, IfOk, IfErr, IfSome};
+ghost use Rattle.std.specs.Prelude.{◌≡◌, ◌<◌, ℕ, List, Option, None, Some, true, IfOk, IfErr, IfSome, length, slice_get, option_map};
 ghost use Rattle.tl_record.specs.declared.options.Options.{Options};
 ghost use Rattle.tl_record.specs.Layout.{layout_with};
-ghost use Rattle.tl_list.specs.Findings.{AreFindingsOf, AreOfMap};
+ghost use Rattle.tl_list.specs.Findings.{AreFindingsOf, AreOfMap, BeginWithRecords, SaysWhy};
 ghost use Rattle.tigertopo_files.specs.World.{MayStop};
 ghost use Rattle.tl_cert_output.specs.declared.stop.Stop.TheVariants.{Device};
 ghost use Rattle.tigertopo_outcome.specs.Records.{StopsRecords};
-ghost use Rattle.tigertopo_program.specs.Draw.Keeping.{listed_faults, listed_touched, first_refused, first_fault, first_listed};
+ghost use Rattle.tigertopo_program.specs.Draw.Keeping.{listed_faults, listed_touched, stop_of_refusal, first_listed};
 ghost use Rattle.tigertopo_program.specs.Draw.Subjects.{IsSubjectOf};
 
 use std::alloc::Global;
@@ -69,6 +69,7 @@ impl Question for SubjectOf {
 
 // The map that was found with its faults, or why there is none.
 fn subject_of(alloc: Global, found: Findings) -> Result<Result<Subject, MapFault>, Stop>
+    requires { SaysWhy found.map found.listing }
     ensures found { (options : Options) (known : Option (List ℕ)) → IfSome known (λ text. AreFindingsOf options text found) →
         AreOfMap options.faces found → IfOk result (IsSubjectOf options known true) }
     ensures stopped { (options : Options) (known : Option (List ℕ)) → IfSome known (λ text. AreFindingsOf options text found) →
@@ -109,34 +110,37 @@ fn touched_of(listing: &Listing) -> u64
 
 // The first of what is listed of records that have no map.
 fn first_of(listing: &Listing) -> Result<MapFault, Stop>
-    ensures { result ≡ first_listed listing.now }
+    requires { SaysWhy None listing.now }
+    ensures { first_listed listing.now ≡ Some result }
 {
     match listing {
-        Listing::Sound(_) => Err(Stop::Memory),
+        Listing::Sound(_) => unreachable!(),
         Listing::Refused(list) => Err(first_refused(list.as_slice())),
-        Listing::Faults { faults, .. } => first_fault(faults.as_slice()),
+        Listing::Faults { faults, .. } => Ok(first_fault(faults.as_slice())),
     }
 }
 
 // The first of refusals.
 fn first_refused(list: &[Refusal]) -> Stop
-    ensures { result ≡ first_refused list.now }
+    requires { 0 < length list.now }
+    ensures { option_map stop_of_refusal (slice_get list.now 0) ≡ Some result }
 {
     match list {
         [refusal, ..] => Stop::Record {
             line: refusal.line,
             cause: refusal.cause,
         },
-        [] => Stop::Memory,
+        [] => unreachable!(),
     }
 }
 
-// The first of faults, where it's one of records.
-fn first_fault(list: &[MapFault]) -> Result<MapFault, Stop>
-    ensures { result ≡ first_fault list.now }
+// The first of faults.
+fn first_fault(list: &[MapFault]) -> MapFault
+    requires { BeginWithRecords list.now }
+    ensures { slice_get list.now 0 ≡ Some result }
 {
     match list {
-        [MapFault::Records(fault), ..] => Ok(MapFault::Records(*fault)),
-        _ => Err(Stop::Memory),
+        [fault, ..] => *fault,
+        [] => unreachable!(),
     }
 }

@@ -11,7 +11,8 @@ use Rattle.tl_cert_output.specs.declared.stop.Stop.{Stop}
 use Rattle.tl_cert_output.specs.declared.stop.Stop.TheVariants.{Record, Memory, Device, Budget}
 use Rattle.tl_cert_output.specs.Writing.{TriesToPassOn, CountsFailure}
 use Rattle.tl_cert_output.proofs.WritingLemmas.{writes_some}
-use Rattle.tigertopo_where.specs.Hint.Hints.{Asker, refusal_at, hint_at, hint_in}
+use Rattle.tigertopo_where.specs.Hint.Advice.{Asker}
+use Rattle.tigertopo_where.specs.Hint.Hints.{refusal_at, hint_at, hint_in}
 use Rattle.tigertopo_where.specs.Hint.Telling.{HaveTexts, TellsWords, TellsTrouble, TellsHint}
 use Rattle.tl_cert_output.specs.Streams.{Tries, stream}
 

@@ -15,7 +15,8 @@ use Rattle.tigertopo_where.proofs.FindingLemmas.{line_within, passes_fresh, pass
 use Rattle.tl_record.specs.Searching.{CountsSkip}
 use Rattle.tigertopo_where.specs.Hint.Again.{HasNoEnd}
 use Rattle.tigertopo_where.specs.Hint.Advice.{form_of}
-use Rattle.tigertopo_where.specs.Hint.Hints.{Asker, first_bytes, hint_in, line_hint}
+use Rattle.tigertopo_where.specs.Hint.Advice.{Asker}
+use Rattle.tigertopo_where.specs.Hint.Hints.{first_bytes, hint_in, line_hint}
 
 -- a source whose bytes are known, before anything was fetched
 unfetched : (P : Option (List ℕ) → Type 0) (known : Option (List ℕ)) → P (prepend_known [] known) → P known

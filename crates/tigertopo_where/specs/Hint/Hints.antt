@@ -15,7 +15,7 @@ use Rattle.tigertopo_shown.specs.Names.{shown_name}
 use Rattle.tigertopo_where.specs.LinePlaces.{line_at, line_count, place_of}
 use Rattle.tigertopo_where.specs.FieldColumns.{columns_of}
 use Rattle.tigertopo_where.specs.Hint.Shown.{shown_bytes, bytes_at}
-use Rattle.tigertopo_where.specs.Hint.Advice.{reads_otherwise, otherwise_text, form_of, form_text}
+use Rattle.tigertopo_where.specs.Hint.Advice.{Asker, reads_otherwise, otherwise_text, form_of, form_text}
 use Rattle.tigertopo_where.specs.declared.hint.advice.FileForm.{FileForm}
 
 -- the field that a line is refused for, if it is for one
@@ -44,26 +44,18 @@ place_text layout name number line cause =
 abbrev pub first_bytes : List ℕ → List ℕ
 first_bytes text = option_map_or (take most_line_bytes) (line_at 1 (raw_lines text)) []
 
--- who asks: the name of the command, and how it reads records
-pub record Asker : Type 0 where
-  pub command : List ℕ
-  pub options : Options
-
-abbrev pub asker : List ℕ → Options → Asker
-asker command options = record { command = command; options = options }
-
 -- what is said of other columns, where a line is refused for a field
 abbrev pub columns_hint : Options → ℕ → List ℕ → Cause → List ℕ
 columns_hint options number line cause = if is_some (field_of cause) && reads_otherwise options number line then otherwise_text options else []
 
 -- what is said of a file that is none of records
-abbrev pub form_hint : List ℕ → List ℕ → Option FileForm → List ℕ
-form_hint command name form = option_map_or (form_text name command) form []
+abbrev pub form_hint : Asker → List ℕ → Option FileForm → List ℕ
+form_hint by name form = option_map_or (form_text name by) form []
 
 -- what is said of a line of a file of this form
 abbrev pub line_hint : Asker → List ℕ → ℕ → List ℕ → Cause → Option FileForm → List ℕ
 line_hint by name number line cause form =
-    line_of (place_text (layout_with by.options) name number line cause) ++ columns_hint by.options number line cause ++ form_hint by.command name form
+    line_of (place_text (layout_with by.options) name number line cause) ++ columns_hint by.options number line cause ++ form_hint by name form
 
 -- a line of a text, where it has so many, with the first bytes that it holds, as many as a line that is read may have
 abbrev pub hint_in : Asker → List ℕ → List ℕ → Cause → ℕ → List ℕ

@@ -8,7 +8,8 @@ use Rattle.tigertopo_where.specs.LinePlaces.{line_count}
 use Rattle.tigertopo_where.specs.declared.hint.refused.Sought.{Sought}
 use Rattle.tigertopo_where.specs.declared.hint.refused.Sought.TheVariants.{Told, Behind}
 use Rattle.tigertopo_where.specs.Hint.Again.{HasNoEnd}
-use Rattle.tigertopo_where.specs.Hint.Hints.{Asker, hint_in}
+use Rattle.tigertopo_where.specs.Hint.Advice.{Asker}
+use Rattle.tigertopo_where.specs.Hint.Hints.{hint_in}
 
 -- what is said of a refused line in a file of this name: it is the line with this number there, or the file has fewer lines
 abbrev pub IsSought : Asker → List ℕ → Cause → ℕ → Option (List ℕ) → Sought → Type 0

@@ -1,4 +1,4 @@
--- What is told behind a stop. `told` says of a text that it was written; nothing is claimed of names under which what stands
+-- What is told behind a stop, and behind an answer. `told` says of a text that it was written; nothing is claimed of names under which what stands
 -- isn't known.
 use Rattle.std.specs.Prelude.{◌≡◌, ℕ, List, [], ◌∷◌, Option, None, Some, IfSome, map}
 use Rattle.tl_record.specs.declared.stop.Cause.{Cause}
@@ -6,7 +6,9 @@ use Rattle.tl_cert_output.specs.declared.stop.Stop.{Stop}
 use Rattle.tl_cert_output.specs.declared.stop.Stop.TheVariants.{Record, Memory, Device, Budget}
 use Rattle.tl_cert_output.specs.Writing.{line_of}
 use Rattle.tigertopo_files.specs.Files.{Under, bytes_under, trouble_of}
-use Rattle.tigertopo_where.specs.Hint.Hints.{Asker, refusal_at, trouble_text}
+use Rattle.tigertopo_where.specs.Hint.Advice.{Asker}
+use Rattle.tigertopo_where.specs.Hint.Hints.{refusal_at, trouble_text}
+use Rattle.tigertopo_where.specs.Hint.Unread.{unread_text}
 
 -- files of these bytes stand under the names
 abbrev pub HaveTexts : Under → List (List ℕ) → List (List ℕ) → Type 0
@@ -33,3 +35,7 @@ TellsHint (Record line cause) by under names told = TellsRefusal by under names 
 TellsHint Memory by under names told = told []
 TellsHint Device by under names told = TellsTrouble under names told
 TellsHint Budget by under names told = told []
+
+-- what is told behind an answer, where the text of each file of records is known
+abbrev pub TellsUnread : Asker → Under → List (List ℕ) → (List ℕ → Type 0) → Type 0
+TellsUnread by under names told = (texts : List (List ℕ)) → HaveTexts under names texts → told (unread_text by names texts)

@@ -1,11 +1,13 @@
 //! What helps beyond the place of a refused line: other columns, and what a file is that holds no records.
 
-ghost use Rattle.std.specs.Prelude.{◌≡◌, ◌++◌, OnOk, slice_index};
+ghost use Rattle.std.specs.Prelude.{◌≡◌, ◌++◌, OnOk, map, slice_index, string_bytes};
 ghost use Rattle.tigertopo_where.specs.Hint.Advice.{other_columns, is_read, reads_otherwise, otherwise_text};
-ghost use Rattle.tigertopo_where.specs.Hint.Advice.{is_archive, is_compressed, is_shapefile, form_of, words_of, piped_text, form_text};
+ghost use Rattle.tigertopo_where.specs.Hint.Advice.{is_archive, is_compressed, is_shapefile, is_wide, is_marked, form_of, words_of, form_text};
+ghost use Rattle.tigertopo_where.specs.Hint.Advice.{asking, asks_for_records, may_ask_for_records, switches_for, unpacked_switches, piped_text, command_instead, words_instead, word_instead};
 
+use crate::hint::asking::Asking;
 use std::alloc::AllocError;
-use tigertopo_shown::push_name;
+use tigertopo_shown::{push_name, push_shell_word};
 use tl_record::{Judgement, Options, judge_line, layout_with};
 
 /// What a file is that is none of records.
@@ -17,6 +19,10 @@ pub enum FileForm {
     Compressed,
     /// A shapefile.
     Shapefile,
+    /// UTF-16 text.
+    Wide,
+    /// A text behind a byte order mark.
+    Marked,
 }
 
 /// Whether a line is one of type I that the columns would take that weren't asked for. It has this number in its file.
@@ -74,6 +80,12 @@ pub fn form_of(line: &[u8]) -> Option<FileForm>
     if is_shapefile(line) {
         return Some(FileForm::Shapefile);
     }
+    if is_wide(line) {
+        return Some(FileForm::Wide);
+    }
+    if is_marked(line) {
+        return Some(FileForm::Marked);
+    }
     None
 }
 
@@ -99,25 +111,40 @@ fn is_shapefile(line: &[u8]) -> bool
         && (byte_at(line, 1) == 0 && byte_at(line, 2) == 0x27)
 }
 
-// A byte of a line, and 0 past its end.
-fn byte_at(line: &[u8], at: usize) -> u8
+// Whether the line begins with the byte order mark of UTF-16 text.
+fn is_wide(line: &[u8]) -> bool
+    ensures { result ≡ is_wide line.now }
+{
+    (byte_at(line, 0) == 0xff && byte_at(line, 1) == 0xfe)
+        || (byte_at(line, 0) == 0xfe && byte_at(line, 1) == 0xff)
+}
+
+// Whether the line begins with the byte order mark of UTF-8 text.
+fn is_marked(line: &[u8]) -> bool
+    ensures { result ≡ is_marked line.now }
+{
+    (byte_at(line, 0) == 0xef && byte_at(line, 1) == 0xbb) && byte_at(line, 2) == 0xbf
+}
+
+/// A byte of a line, and 0 past its end.
+pub fn byte_at(line: &[u8], at: usize) -> u8
     ensures { result ≡ slice_index line.now at }
 {
     if at < line.len() { line[at] } else { 0 }
 }
 
-/// Adds what a file of this name is, and a line that has the command of that name read what it holds.
+/// Adds what a file of this name is, and a line that has the command read what it holds.
 pub fn push_form(
     text: &mut Vec<u8>,
     name: &str,
-    command: &str,
+    by: Asking<'_>,
     form: FileForm,
 ) -> Result<(), AllocError>
-    ensures { OnOk result (text.new.items ≡ text.old.items ++ form_text name.now command.now form) }
+    ensures { OnOk result (text.new.items ≡ text.old.items ++ form_text name.now (asking by.entry) form) }
 {
     text.extend_from_slice(b"  ")?;
     push_name(text, name)?;
-    push_words(text, name, command, form)?;
+    push_words(text, name, by, form)?;
     text.extend_from_slice(b"\n")?;
     Ok(())
 }
@@ -126,30 +153,119 @@ pub fn push_form(
 fn push_words(
     text: &mut Vec<u8>,
     name: &str,
-    command: &str,
+    by: Asking<'_>,
     form: FileForm,
 ) -> Result<(), AllocError>
-    ensures { OnOk result (text.new.items ≡ text.old.items ++ words_of form name.now command.now) }
+    ensures { OnOk result (text.new.items ≡ text.old.items ++ words_of form name.now (asking by.entry)) }
 {
+    let switches = unpacked_switches(by);
     match form {
-        FileForm::Archive => push_piped(text, b" is an archive: unzip -p ", name, command),
-        FileForm::Compressed => push_piped(text, b" is compressed: gzip -dc ", name, command),
+        FileForm::Archive => {
+            push_piped(text, b" is an archive: unzip -p ", switches, name, by.words)
+        }
+        FileForm::Compressed => {
+            push_piped(text, b" is compressed: gzip -dc ", switches, name, by.words)
+        }
         FileForm::Shapefile => {
             let words = b" is a shapefile, which isn't read: tigertopo reads record files";
             text.extend_from_slice(words)?;
             Ok(())
         }
+        FileForm::Wide => {
+            let tool = b" is UTF-16 text: iconv -f UTF-16 -t UTF-8 ";
+            push_piped(text, tool, b"", name, by.words)
+        }
+        FileForm::Marked => {
+            let tool = b" begins with a byte order mark: tail -c +4 ";
+            push_piped(text, tool, b"", name, by.words)
+        }
     }
 }
 
-// Adds words, and a line that has the command read what comes of the file.
-fn push_piped(text: &mut Vec<u8>, words: &[u8], name: &str, command: &str) -> Result<(), AllocError>
-    ensures { OnOk result (text.new.items ≡ text.old.items ++ (words.now ++ piped_text name.now command.now)) }
+// The switches for what is unpacked, which may be nothing: where they aren't given, and the command has them.
+fn unpacked_switches(by: Asking<'_>) -> &'static [u8]
+    ensures { result.now ≡ unpacked_switches (asking by.entry) }
 {
-    text.extend_from_slice(words)?;
-    push_name(text, name)?;
+    let may_ask = may_ask_for_records(by.words);
+    switches_for(by.options.released, by.options.complete || !may_ask)
+}
+
+// The switches for the columns of released files and for records of each type, where these are given and where not.
+fn switches_for(released: bool, complete: bool) -> &'static [u8]
+    ensures { result.now ≡ switches_for released complete }
+{
+    match (released, complete) {
+        (true, true) => b"",
+        (true, false) => b" --complete",
+        (false, true) => b" --released",
+        (false, false) => b" --released --complete",
+    }
+}
+
+// Whether words begin with the name of a command that has --complete.
+fn may_ask_for_records(words: &[String]) -> bool
+    ensures { result ≡ may_ask_for_records (map string_bytes words.now) }
+{
+    match words {
+        [] => false,
+        [command, ..] => asks_for_records(command.as_str()),
+    }
+}
+
+// Whether this is the name of such a command.
+fn asks_for_records(command: &str) -> bool
+    ensures { result ≡ asks_for_records command.now }
+{
+    (command == "audit" || command == "build") || (command == "check" || command == "border")
+}
+
+// Adds a line that makes records of a file by these words, and has the command read them.
+fn push_piped(
+    text: &mut Vec<u8>,
+    tool: &[u8],
+    switches: &[u8],
+    name: &str,
+    words: &[String],
+) -> Result<(), AllocError>
+    ensures { OnOk result (text.new.items ≡ text.old.items ++ piped_text tool.now switches.now name.now (map string_bytes words.now)) }
+{
+    text.extend_from_slice(tool)?;
+    push_shell_word(text, name)?;
     text.extend_from_slice(b" | tigertopo ")?;
-    text.extend_from_slice(command.as_bytes())?;
-    text.extend_from_slice(b" --released /dev/stdin")?;
+    push_command(text, switches, name, words)
+}
+
+// Adds the words that were given, as they are typed to have the command read what comes of the file, and switches more.
+fn push_command(
+    text: &mut Vec<u8>,
+    switches: &[u8],
+    name: &str,
+    words: &[String],
+) -> Result<(), AllocError>
+    ensures { OnOk result (text.new.items ≡ text.old.items ++ command_instead switches.now name.now (map string_bytes words.now)) }
+{
+    let Some((command, rest)) = words.split_first() else {
+        return Ok(());
+    };
+    push_shell_word(text, command.as_str())?;
+    text.extend_from_slice(switches)?;
+    push_rest(text, name, rest)
+}
+
+// Adds such words, each behind a blank.
+fn push_rest(text: &mut Vec<u8>, name: &str, words: &[String]) -> Result<(), AllocError>
+    ensures { OnOk result (text.new.items ≡ text.old.items ++ words_instead name.now (map string_bytes words.now)) }
+{
+    for word in words {
+        text.extend_from_slice(b" ")?;
+        push_shell_word(text, word_instead(name, word.as_str()))?;
+    }
     Ok(())
+}
+
+// A word of a command that is to read what comes of the file in place of it.
+fn word_instead<'a>(name: &str, word: &'a str) -> &'a str
+    ensures { result.now ≡ word_instead name.now word.now }
+{
+    if word == name { "/dev/stdin" } else { word }
 }

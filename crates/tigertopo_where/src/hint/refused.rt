@@ -5,12 +5,13 @@ ghost use Rattle.std.specs.Io.KnownBytes.{prepend_known, Keeps};
 ghost use Rattle.tl_record.specs.Searching.{CountsSkip};
 ghost use Rattle.tl_cert_output.specs.Stops.{StopsFor};
 ghost use Rattle.tigertopo_where.specs.Finding.{Answers};
-ghost use Rattle.tigertopo_where.specs.Hint.Advice.{form_of};
+ghost use Rattle.tigertopo_where.specs.Hint.Advice.{asking, form_of};
 ghost use Rattle.tigertopo_where.specs.Hint.Again.{HasNoEnd};
-ghost use Rattle.tigertopo_where.specs.Hint.Hints.{asker, columns_hint, first_bytes, form_hint, line_hint};
+ghost use Rattle.tigertopo_where.specs.Hint.Hints.{columns_hint, first_bytes, form_hint, line_hint};
 ghost use Rattle.tigertopo_where.specs.Hint.Placing.{IsSought};
 
 use crate::hint::advice::{FileForm, form_of, push_form, push_otherwise, reads_otherwise};
+use crate::hint::asking::Asking;
 use crate::hint::shown::{field_of, push_place};
 use crate::lines::find_ahead;
 use crate::{BLOCK, Found, show_line};
@@ -19,12 +20,11 @@ use tigertopo_files::Reading;
 use tl_cert_output::Stop;
 use tl_record::{Cause, LineBuffer, Options, RefusalStop, Source};
 
-/// A refused line of the file of a name, which is read by itself, and the command that reads it.
+/// A refused line of the file of a name, which is read by itself, and who asks.
 #[derive(Clone, Copy)]
 pub struct RefusedLine<'a> {
     pub name: &'a String,
-    pub options: Options,
-    pub command: &'a str,
+    pub by: Asking<'a>,
     /// The line's number in the file, and why it is refused.
     pub number: u64,
     pub cause: Cause,
@@ -43,7 +43,7 @@ impl Reading for RefusedLine<'_> {
     type Answer = Sought;
 
     ghost answers = { λ asked known single sought.
-        IsSought (asker asked.command.now asked.options) (string_bytes asked.name.now) asked.cause asked.number single sought };
+        IsSought (asking asked.by) (string_bytes asked.name.now) asked.cause asked.number single sought };
 
     ghost stops = { λ asked known single. StopsFor (HasNoEnd single) };
 
@@ -73,8 +73,8 @@ impl Reading for RefusedLine<'_> {
     }
 }
 
-// What the file is whose first line comes next, where it is none of records. The line isn't taken off.
-fn first_form<S: Source>(
+/// What the file is whose first line comes next, where it is none of records. The line isn't taken off.
+pub fn first_form<S: Source>(
     buffer: &mut LineBuffer<BLOCK>,
     source: &mut S,
 ) -> Result<Option<FileForm>, RefusalStop>
@@ -96,7 +96,7 @@ fn hint_of_line(
     line: &[u8],
     form: Option<FileForm>,
 ) -> Result<Vec<u8>, AllocError>
-    ensures { IfOk result (λ text. text.items ≡ line_hint (asker refused.now.command.now refused.now.options)
+    ensures { IfOk result (λ text. text.items ≡ line_hint (asking refused.now.by)
         (string_bytes refused.now.name.now) refused.now.number line.now refused.now.cause form) }
 {
     let mut text = Vec::new(alloc);
@@ -106,18 +106,18 @@ fn hint_of_line(
         name,
         refused.number,
         line,
-        refused.options,
+        refused.by.options,
         refused.cause,
     )?;
     text.extend_from_slice(b"\n")?;
     push_columns_hint(
         &mut text,
-        refused.options,
+        refused.by.options,
         refused.number,
         line,
         refused.cause,
     )?;
-    push_form_hint(&mut text, refused.command, name, form)?;
+    push_form_hint(&mut text, refused.by, name, form)?;
     Ok(text)
 }
 
@@ -140,14 +140,14 @@ fn push_columns_hint(
 // Adds what is said of a file that is none of records.
 fn push_form_hint(
     text: &mut Vec<u8>,
-    command: &str,
+    by: Asking<'_>,
     name: &str,
     form: Option<FileForm>,
 ) -> Result<(), AllocError>
-    ensures { OnOk result (text.new.items ≡ text.old.items ++ form_hint command.now name.now form) }
+    ensures { OnOk result (text.new.items ≡ text.old.items ++ form_hint (asking by.entry) name.now form) }
 {
     match form {
-        Some(form) => push_form(text, name, command, form),
+        Some(form) => push_form(text, name, by, form),
         None => Ok(()),
     }
 }

@@ -8,14 +8,16 @@ ghost use Rattle.tigertopo_files.specs.World.{world};
 ghost use Rattle.tigertopo_where.specs.Hint.Again.{FailsAgain};
 ghost use Rattle.tigertopo_where.specs.Hint.Telling.{TellsHint, TellsRefusal, TellsTrouble};
 ghost use Rattle.tl_cert_output.specs.Streams.{Tries, stream};
-ghost use Rattle.tigertopo_where.specs.Hint.Hints.{asker, trouble_text};
+ghost use Rattle.tigertopo_where.specs.Hint.Advice.{asking};
+ghost use Rattle.tigertopo_where.specs.Hint.Hints.{trouble_text};
 
+use crate::hint::asking::Asking;
 use crate::hint::refused::{RefusedLine, Sought};
 use std::alloc::{AllocError, Global};
 use tigertopo_files::FileSystem;
 use tigertopo_shown::push_name;
 use tl_cert_output::{Stop, write_all};
-use tl_record::{Cause, Options, Sink};
+use tl_record::{Cause, Sink};
 
 /// Says behind a stop of a command, which read the files of these names, what helps: behind a refused line in which file it
 /// stands, in which of its lines and columns, and what it holds there; where a device failed, which file can't be opened or
@@ -28,19 +30,18 @@ pub fn say_hint<F: FileSystem, E: Sink>(
     files: &mut F,
     alloc: Global,
     names: &[String],
-    options: Options,
-    command: &str,
+    by: Asking<'_>,
     stop: &Stop,
     err: &mut E,
 ) -> Result<(), Stop>
-    ensures hint { OnOk result (TellsHint stop.now (asker command.now options) (F.under files.old) (map string_bytes names.now)
+    ensures hint { OnOk result (TellsHint stop.now (asking by.entry) (F.under files.old) (map string_bytes names.now)
         (Tries (stream E.contents E.failure_count err.old err.new))) }
     ensures silent { OnErr result (err.new ≡ err.old) }
     ensures stops { IfErr result (StopsFor (FailsAgain (world F.under F.log F.knows files.old files.new) (map string_bytes names.now))) }
     ensures stays { F.under files.new ≡ F.under files.old }
     ensures logged { F.knows ≡ true → LogsAgain (F.log files.old) (F.log files.new) result }
 {
-    let text = hint_of(files, alloc, names, options, command, stop)?;
+    let text = hint_of(files, alloc, names, by, stop)?;
     let _ = write_all(text.as_slice(), err);
     Ok(())
 }
@@ -50,20 +51,17 @@ fn hint_of<F: FileSystem>(
     files: &mut F,
     alloc: Global,
     names: &[String],
-    options: Options,
-    command: &str,
+    by: Asking<'_>,
     stop: &Stop,
 ) -> Result<Vec<u8>, Stop>
-    ensures hint { IfOk result (λ text. TellsHint stop.now (asker command.now options) (F.under files.old) (map string_bytes names.now)
+    ensures hint { IfOk result (λ text. TellsHint stop.now (asking by.entry) (F.under files.old) (map string_bytes names.now)
         (λ told. text.items ≡ told)) }
     ensures stops { IfErr result (StopsFor (FailsAgain (world F.under F.log F.knows files.old files.new) (map string_bytes names.now))) }
     ensures stays { F.under files.new ≡ F.under files.old }
     ensures logged { F.knows ≡ true → LogsAgain (F.log files.old) (F.log files.new) result }
 {
     match *stop {
-        Stop::Record { line, cause } => refusal_hint(
-            files, alloc, names, options, command, line, cause,
-        ),
+        Stop::Record { line, cause } => refusal_hint(files, alloc, names, by, line, cause),
         Stop::Device => Ok(trouble_hint(files, alloc, names)?),
         Stop::Memory | Stop::Budget => Ok(Vec::new(alloc)),
     }
@@ -102,12 +100,11 @@ fn refusal_hint<F: FileSystem>(
     files: &mut F,
     alloc: Global,
     names: &[String],
-    options: Options,
-    command: &str,
+    by: Asking<'_>,
     line: u64,
     cause: Cause,
 ) -> Result<Vec<u8>, Stop>
-    ensures hint { IfOk result (λ text. TellsRefusal (asker command.now options) (F.under files.old) (map string_bytes names.now)
+    ensures hint { IfOk result (λ text. TellsRefusal (asking by.entry) (F.under files.old) (map string_bytes names.now)
         (line, cause) (λ told. text.items ≡ told)) }
     ensures stops { IfErr result (StopsFor (FailsAgain (world F.under F.log F.knows files.old files.new) (map string_bytes names.now))) }
     ensures stays { F.under files.new ≡ F.under files.old }
@@ -117,8 +114,7 @@ fn refusal_hint<F: FileSystem>(
     for name in names {
         let refused = RefusedLine {
             name,
-            options,
-            command,
+            by,
             number,
             cause,
         };

@@ -2,7 +2,7 @@
 use Rattle.std.specs.Prelude.{◌≡◌, Bool, Ok, Err, Option, Some, None, ⊤}
 use Rattle.tl_map_county.specs.TheMap.{TheMap}
 use Rattle.tl_check_verdict.specs.declared.fault.MapFault.{MapFault}
-use Rattle.tl_check_verdict.specs.declared.fault.MapFault.TheVariants.{Records, Meet, Side, PolygonPoint, Cell, Face}
+use Rattle.tl_check_verdict.specs.declared.fault.MapFault.TheVariants.{Records, NoRecords, Meet, Side, PolygonPoint, Cell, Face}
 use Rattle.tl_check_verdict.specs.declared.verdict.Report.{Report}
 use Rattle.tl_check_faces.specs.declared.fault.FaceFault.{FaceFault}
 use Rattle.tl_check_verdict.specs.declared.verdict.Verdict.{Verdict}
@@ -15,6 +15,7 @@ use Rattle.tl_check_verdict.specs.Verdicts.{Answer}
 -- the fault is of faces
 abbrev pub IsOfFaces : MapFault → Type 0
 IsOfFaces (Records fault) = ⊥
+IsOfFaces (NoRecords lacking) = ⊥
 IsOfFaces (Meet meet) = ⊥
 IsOfFaces (Side node first next) = ⊥
 IsOfFaces (PolygonPoint fault) = ⊥

@@ -1,5 +1,5 @@
 -- What is told of records that are read.
-use Rattle.std.specs.Prelude.{◌≡◌, ◌≢◌, ◌⊎◌, ℕ, List, [], map, Option, Some, None, IfSome, Bool, false}
+use Rattle.std.specs.Prelude.{◌≡◌, ◌≢◌, ◌⊎◌, ℕ, List, [], Option, Some, None, IfSome, Bool, false}
 use Rattle.tl_record.specs.declared.options.Options.{Options}
 use Rattle.tl_record.specs.declared.refusal.Refusal.{Refusal}
 use Rattle.tl_record.specs.Layout.{layout_with}
@@ -8,13 +8,13 @@ use Rattle.tl_record.specs.Records.{Records, records_of}
 use Rattle.tl_record.specs.Refusals.{refusals_of}
 use Rattle.tl_list_records.specs.Refusals.Listing.{ListsAll}
 use Rattle.tl_map_rules.specs.declared.fault.RecordFault.{RecordFault}
-use Rattle.tl_check_verdict.specs.declared.fault.MapFault.TheVariants as fault
 use Rattle.tl_check_verdict.specs.Sound.{IsSoundFor}
 use Rattle.tl_check_verdict.specs.Verdicts.{IsReport}
 use Rattle.tl_check_verdict.specs.Records.{HaveMap}
 use Rattle.tl_list_text.specs.declared.listing.Listing.{Listing}
 use Rattle.tl_list_text.specs.declared.listing.Listing.TheVariants.{Sound, Refused, Faults}
-use Rattle.tl_list.specs.Listings.{AreFaults}
+use Rattle.tl_map_rules.specs.declared.lacking.Lacking.{Lacking}
+use Rattle.tl_list.specs.Listings.{AreFaults, told_with}
 use Rattle.tl_record.specs.declared.record.Record.{Record}
 use Rattle.tl_list_records.specs.AllFaults.{AreAllFaults}
 use Rattle.tl_check_verdict.specs.declared.verdict.Report.{Report}
@@ -34,17 +34,17 @@ pub record AreFindingsOfRecords (faces : Bool) (all : Records) (listed : Finding
   pub told : IsListingOfRecords faces all listed.listing
   pub drawn : IsMapIfAny all listed.map
 
--- these faults of records are listed
-abbrev pub IsListOf : List RecordFault → Listing → Type 0
-IsListOf told (Sound report) = ⊥
-IsListOf told (Refused list) = ⊥
-IsListOf told (Faults faults touched) = (faults.items ≡ map fault.Records told) × (touched ≡ 0)
+-- these faults of records are listed, as they are told where there are no records of these types
+abbrev pub IsListOf : Lacking → List RecordFault → Listing → Type 0
+IsListOf lacking told (Sound report) = ⊥
+IsListOf lacking told (Refused list) = ⊥
+IsListOf lacking told (Faults faults touched) = (faults.items ≡ told_with lacking told) × (touched ≡ 0)
 
 -- all faults of the records are listed, and no map
-pub record AreTold (rs : List Record) (listed : Findings) : Type 0 where
+pub record AreTold (rs : List Record) (lacking : Lacking) (listed : Findings) : Type 0 where
   pub faults : List RecordFault
   pub are_all : AreAllFaults rs faults
-  pub told : IsListOf faults listed.listing
+  pub told : IsListOf lacking faults listed.listing
   pub undrawn : listed.map ≡ None
 
 -- these lines are refused, and this is listed of what is left without them; no line is refused unless they are skipped

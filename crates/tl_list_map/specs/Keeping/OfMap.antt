@@ -75,6 +75,7 @@ pub record AddsFaces (m : TheMap) (old new : List MapFault) : Type 0 where
 -- the fault is that segments meet, or that sides disagree
 abbrev pub is_of_chains : MapFault → Bool
 is_of_chains (fault.Records told) = false
+is_of_chains (fault.NoRecords lacking) = false
 is_of_chains (fault.Meet meet) = true
 is_of_chains (fault.Side node first next) = true
 is_of_chains (fault.PolygonPoint told) = false

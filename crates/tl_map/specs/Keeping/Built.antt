@@ -4,7 +4,7 @@ use Rattle.tl_record.specs.declared.record.Record.{Record}
 use Rattle.tl_map_rules.specs.declared.entry.ChainEntry.{ChainEntry}
 use Rattle.tl_map_rules.specs.declared.entry.ShapeEntry.{ShapeEntry}
 use Rattle.tl_map_rules.specs.declared.fault.MapStop.{MapStop}
-use Rattle.tl_map_rules.specs.declared.fault.MapStop.TheVariants.{Refused, Device, Memory, Fault}
+use Rattle.tl_map_rules.specs.declared.fault.MapStop.TheVariants.{Refused, Device, Memory, Fault, NoRecords}
 use Rattle.tl_map_county.specs.Chains.{CompleteChain, IsProper, ChainList}
 use Rattle.tl_map_rules.specs.ChainsOf.{AreChainsOf, has_gap, pairs_of}
 use Rattle.tl_map_rules.specs.Faults.{IsTrueOf, HaveNoChainFault}
@@ -30,3 +30,4 @@ StopsBuilding rs Memory = Unit {0}
 StopsBuilding rs Device = ⊥
 StopsBuilding rs (Refused line cause) = ⊥
 StopsBuilding rs (Fault fault) = IsTrueOf rs fault
+StopsBuilding rs (NoRecords lacking) = ⊥

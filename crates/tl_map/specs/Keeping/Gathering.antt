@@ -4,7 +4,7 @@ use Rattle.tl_record.specs.declared.record.Record.{Record}
 use Rattle.tl_record.specs.Records.{Records}
 use Rattle.tl_map.specs.declared.collect.Collected.{Collected}
 use Rattle.tl_map_rules.specs.declared.fault.MapStop.{MapStop}
-use Rattle.tl_map_rules.specs.declared.fault.MapStop.TheVariants.{Refused, Device, Memory, Fault}
+use Rattle.tl_map_rules.specs.declared.fault.MapStop.TheVariants.{Refused, Device, Memory, Fault, NoRecords}
 use Rattle.tl_map.specs.declared.areas.AreaRecords.{AreaRecords}
 use Rattle.tl_map_join.specs.declared.told.ToldRecords.{ToldRecords}
 use Rattle.tl_map_join.specs.Told.{HasTold}
@@ -59,3 +59,4 @@ StopsGathering at_first Device = Unit {0}
 StopsGathering at_first Memory = Unit {0}
 StopsGathering at_first (Refused line cause) = IfSome at_first (λ all. all.refusal ≡ Some (line, cause))
 StopsGathering at_first (Fault fault) = ⊥
+StopsGathering at_first (NoRecords lacking) = ⊥

@@ -32,3 +32,8 @@ returns g c =
     _ _ _ c.tell_found.result (c.tell_found.ensures known (subst (λ (skips : Bool). IsFoundIn c.args.options skips known c.in_ok-found.found) c.is_skipping-skips.ensures first.answered))
     (λ answer. answers_from u v after l m q k c.args.options known asked answer.status _ first.keeps)
     (stops_from u v after l m q k c.args.options known asked first.keeps)
+
+pub tell_found-requires-clause-why : goal.tell_found-requires-clause-why
+tell_found-requires-clause-why g c =
+    let found = c.in_ok-found.ensures in
+    found.answered.why

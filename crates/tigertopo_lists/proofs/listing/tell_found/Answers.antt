@@ -2,7 +2,7 @@ use Rattle.std.proofs.Common.{[], map, string_bytes, subst}
 use Rattle.std.proofs.lemmas.Option.{IfSome_then}
 use Rattle.tl_list.specs.Listings.{IsListingOf}
 use Rattle.tl_list_text.specs.declared.listing.Listing.{Listing}
-use Rattle.tl_list.specs.Findings.{IsLeft}
+use Rattle.tl_list.specs.Findings.{IsLeft, SaysWhy}
 use Rattle.tigertopo_files.specs.World.{world}
 use Rattle.tigertopo_files.proofs.WorldLemmas.{does_so}
 use Rattle.tigertopo_outcome.specs.Records.{StopsNever}
@@ -28,3 +28,6 @@ returns-in-Faults g c = λ known found.
     does_so _ [] _ _ _ _ _ (fault_answers c.args.options known asked _ c.args.found.whole.map c.in-Faults.faults c.in-Faults.touched
     (IfSome_then known found.whole (λ text is. record { told = subst (IsListingOf c.args.options text) c.in-Faults.is is.told; drawn = is.drawn })))
     (fault_stops c.args.options known asked w) _ c.tell_faults.ensures
+
+pub tell_refused-requires-clause-some : goal.tell_refused-requires-clause-some
+tell_refused-requires-clause-some g c = subst (SaysWhy c.args.found.whole.map) c.in-Refused.is c.requires.why

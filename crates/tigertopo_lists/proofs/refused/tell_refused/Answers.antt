@@ -11,7 +11,11 @@ pub returns-then-stops_refused : goal.returns-then-stops_refused
 returns-then-stops_refused g c = λ known are found.
     let asked = wanted_of (map string_bytes c.args.names.now) c.args.wanted in
     let w = world g.F.FileSystem.under g.F.FileSystem.log g.F.FileSystem.knows c.args.files.now c.args.files.now in
-    rw (c.first_stop.ensures, c.as_slice.ensures.value) (first_refused c.args.options known asked w c.args.list are refl (λ knows. refl) (sym c.stops_refused.ensures ∙ c.if-stops_refused.true))
+    let stop = c.first_stop.ensures in
+    first_refused c.args.options known asked w c.args.list are refl (λ knows. refl) (sym c.stops_refused.ensures ∙ c.if-stops_refused.true) c.first_stop.result (rw c.as_slice.ensures.value at stop)
+
+pub first_stop-requires : goal.first_stop-requires
+first_stop-requires g c = rw c.as_slice.ensures.value c.requires.some
 
 pub returns-in-Some : goal.returns-in-Some
 returns-in-Some g c = λ known are found.

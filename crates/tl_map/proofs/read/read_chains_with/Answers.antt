@@ -1,8 +1,6 @@
 use Rattle.std.proofs.lemmas.Result.{err_from_is_err_and}
-use Rattle.tl_record.specs.Layout.{layout_with}
-use Rattle.tl_record.specs.Records.{records_of}
 use Rattle.tl_map_rules.specs.Faults.{IsFaultOfChains}
-use Rattle.tl_map.proofs.JoinedLemmas.{of_text}
+use Rattle.tl_map.proofs.JoinedLemmas.{of_text, plain_records}
 use Rattle.tl_map.proofs.ReadLemmas.{stops_gathered, no_fault_gathered, stops_built, chains_read}
 use Rattle.tl_map.proofs.read.read_chains_with.Goals as goal
 
@@ -17,7 +15,7 @@ returns-in_err-collected-clause-chains g c =
 pub returns-in_err-collected-clause-stops : goal.returns-in_err-collected-clause-stops
 returns-in_err-collected-clause-stops g c =
     let p = err_from_is_err_and c.from_residual.result c.from_residual.ensures.1 in
-    rw (p.1, p.2) (stops_gathered (records_of (layout_with c.args.options)) (g.R.Source.remaining c.args.records.now) _ c.in_err-collected.field-0.0 (of_text c.args.options (g.R.Source.remaining c.args.records.now) _ c.with-reader.ensures.records) c.in_err-collected.ensures.stops)
+    rw (p.1, p.2) (stops_gathered c.args.options.complete (plain_records c.args.options) (g.R.Source.remaining c.args.records.now) _ c.in_err-collected.field-0.0 (of_text c.args.options (g.R.Source.remaining c.args.records.now) _ c.with-reader.ensures.records) c.in_err-collected.ensures.stops)
 
 pub returns-in_err-collected-clause-of_chains : goal.returns-in_err-collected-clause-of_chains
 returns-in_err-collected-clause-of_chains g c =
@@ -30,12 +28,12 @@ build_chains-requires g c = (c.in_ok-collected.ensures.all.records, c.in_ok-coll
 pub returns-clause-chains : goal.returns-clause-chains
 returns-clause-chains g c =
     let all = c.in_ok-collected.ensures.all in
-    chains_read (records_of (layout_with c.args.options)) (g.R.Source.remaining c.args.records.now) _ _ c.skipped.result all.records c.build_chains.result (of_text c.args.options (g.R.Source.remaining c.args.records.now) _ c.with-reader.ensures.records) c.skipped.ensures all.known (c.build_chains.ensures.built all.records all.kept)
+    chains_read c.args.options.complete (plain_records c.args.options) (g.R.Source.remaining c.args.records.now) _ _ c.skipped.result all.records c.build_chains.result (of_text c.args.options (g.R.Source.remaining c.args.records.now) _ c.with-reader.ensures.records) c.skipped.ensures all.known (c.build_chains.ensures.built all.records all.kept)
 
 pub returns-clause-stops : goal.returns-clause-stops
 returns-clause-stops g c =
     let all = c.in_ok-collected.ensures.all in
-    stops_built (records_of (layout_with c.args.options)) (g.R.Source.remaining c.args.records.now) _ _ all.records _ c.build_chains.result (of_text c.args.options (g.R.Source.remaining c.args.records.now) _ c.with-reader.ensures.records) all.known (c.build_chains.ensures.built all.records all.kept)
+    stops_built c.args.options.complete (plain_records c.args.options) (g.R.Source.remaining c.args.records.now) _ _ all.records _ c.build_chains.result (of_text c.args.options (g.R.Source.remaining c.args.records.now) _ c.with-reader.ensures.records) all.known (c.build_chains.ensures.built all.records all.kept)
 
 pub returns-clause-of_chains : goal.returns-clause-of_chains
 returns-clause-of_chains g c = c.build_chains.ensures.of_chains

@@ -1,8 +1,8 @@
 use Rattle.std.proofs.lemmas.Result.{err_from_is_err_and}
-use Rattle.tl_record.specs.Layout.{layout_with}
-use Rattle.tl_record.specs.Records.{records_of}
-use Rattle.tl_map.proofs.JoinedLemmas.{of_text}
-use Rattle.tl_map.proofs.ReadLemmas.{stops_gathered, stops_built, map_read}
+use Rattle.tl_map.proofs.JoinedLemmas.{of_text, plain_records}
+use Rattle.tl_map.proofs.ReadLemmas.{stops_gathered, stops_built, stops_lacking, map_read}
+use Rattle.tl_map_rules.specs.Lacking.{lacks}
+use Rattle.std.proofs.Common.{◌≡◌, false, sym, subst, ◌∙◌}
 use Rattle.tl_map.proofs.read.read_map_with.Goals as goal
 
 pub collect_asked-requires : goal.collect_asked-requires
@@ -16,7 +16,7 @@ returns-in_err-collected-clause-map g c =
 pub returns-in_err-collected-clause-stops : goal.returns-in_err-collected-clause-stops
 returns-in_err-collected-clause-stops g c =
     let p = err_from_is_err_and c.from_residual.result c.from_residual.ensures.1 in
-    rw (p.1, p.2) (stops_gathered (records_of (layout_with c.args.options)) (g.R.Source.remaining c.args.records.now) _ c.in_err-collected.field-0.0 (of_text c.args.options (g.R.Source.remaining c.args.records.now) _ c.with-reader.ensures.records) c.in_err-collected.ensures.stops)
+    rw (p.1, p.2) (stops_gathered c.args.options.complete (plain_records c.args.options) (g.R.Source.remaining c.args.records.now) _ c.in_err-collected.field-0.0 (of_text c.args.options (g.R.Source.remaining c.args.records.now) _ c.with-reader.ensures.records) c.in_err-collected.ensures.stops)
 
 pub build_map-requires : goal.build_map-requires
 build_map-requires g c =
@@ -26,9 +26,9 @@ build_map-requires g c =
 pub returns-clause-map : goal.returns-clause-map
 returns-clause-map g c =
     let all = c.in_ok-collected.ensures.all in
-    map_read (records_of (layout_with c.args.options)) (g.R.Source.remaining c.args.records.now) _ _ c.skipped.result all.records c.build_map.result (of_text c.args.options (g.R.Source.remaining c.args.records.now) _ c.with-reader.ensures.records) c.skipped.ensures all.known (c.build_map.ensures all.records all.kept all.areas)
+    map_read c.args.options.complete (plain_records c.args.options) (g.R.Source.remaining c.args.records.now) _ _ c.skipped.result all.records c.build_map.result (of_text c.args.options (g.R.Source.remaining c.args.records.now) _ c.with-reader.ensures.records) c.skipped.ensures all.known (subst (λ l. lacks l ≡ false) (c.lacking_where-lacking.ensures all.records all.kept all.areas) (sym c.is_some.ensures ∙ c.if-is_some.false)) (c.build_map.ensures all.records all.kept all.areas)
 
 pub returns-clause-stops : goal.returns-clause-stops
 returns-clause-stops g c =
     let all = c.in_ok-collected.ensures.all in
-    stops_built (records_of (layout_with c.args.options)) (g.R.Source.remaining c.args.records.now) _ _ all.records _ c.build_map.result (of_text c.args.options (g.R.Source.remaining c.args.records.now) _ c.with-reader.ensures.records) all.known (c.build_map.ensures all.records all.kept all.areas)
+    stops_built c.args.options.complete (plain_records c.args.options) (g.R.Source.remaining c.args.records.now) _ _ all.records _ c.build_map.result (of_text c.args.options (g.R.Source.remaining c.args.records.now) _ c.with-reader.ensures.records) all.known (c.build_map.ensures all.records all.kept all.areas)

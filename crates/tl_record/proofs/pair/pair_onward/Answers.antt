@@ -1,4 +1,4 @@
-use Rattle.std.proofs.Common.{◌≡◌, ◌+◌, ◌-◌, ◌≤◌, length, take, drop, arith, sym, ap, ◌∙◌, subst}
+use Rattle.std.proofs.Common.{◌≡◌, ◌+◌, ◌-◌, ◌≤◌, length, drop, arith, subst}
 use Rattle.tl_record.proofs.Blanks.{field_within}
 use Rattle.tl_record.proofs.pair.pair_onward.Goals as goal
 

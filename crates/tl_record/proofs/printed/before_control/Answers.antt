@@ -1,4 +1,4 @@
-use Rattle.std.proofs.Common.{ltb, length, arith, lit≤, w8}
+use Rattle.std.proofs.Common.{ltb, lit≤, w8}
 use Rattle.std.proofs.lemmas.Simd.{bitmask_splat, length-chunk}
 use lib.Lanes.{chunk}
 use Rattle.tl_record.proofs.Marks.{lanes_told, not_below}

@@ -8,3 +8,6 @@ returns-in-Landmarks g c = rw c.in-Landmarks.is c.print_all_landmarks.ensures
 
 pub returns-in-Place : goal.returns-in-Place
 returns-in-Place g c = rw c.in-Place.is c.print_place.ensures
+
+pub returns-in-Outcome : goal.returns-in-Outcome
+returns-in-Outcome g c = rw c.in-Outcome.is c.print_outcome.ensures

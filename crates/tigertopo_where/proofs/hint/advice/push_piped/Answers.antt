@@ -1,14 +1,15 @@
-use Rattle.std.proofs.Common.{◌≡◌, ◌++◌, List, ℕ, ap, codes, append_assoc, ◌∙◌}
-use Rattle.tigertopo_shown.specs.Names.{shown_name}
-use Rattle.tigertopo_where.specs.Hint.Advice.{piped_text}
+use Rattle.std.proofs.Common.{◌≡◌, ◌++◌, List, ℕ, Result, Ok, Err, OnOk, codes, append_assoc, map, string_bytes}
+use Rattle.tigertopo_shown.specs.Shell.{shell_word}
+use Rattle.tigertopo_where.specs.Hint.Advice.{command_instead, piped_text}
 use Rattle.tigertopo_where.proofs.hint.advice.push_piped.Goals as goal
 
--- words, a name, and the command that reads what comes of the file
-piped : (old words name command one two three four all : List ℕ) → one ≡ old ++ words → two ≡ one ++ shown_name name → three ≡ two ++ codes " | tigertopo " → four ≡ three ++ command
-    → all ≡ four ++ codes " --released /dev/stdin" → all ≡ old ++ (words ++ piped_text name command)
-piped old words name command one two three four all first named bar called last = rw (last, called, bar, named, first) (simp append_assoc)
+-- a tool, a name, and the command that reads what comes of the file
+piped : {T E : Type 0} (result : Result T E) (old tool switch name : List ℕ) (words : List (List ℕ)) (one two three all : List ℕ) → one ≡ old ++ tool → two ≡ one ++ shell_word name
+    → three ≡ two ++ codes " | tigertopo " → OnOk result (all ≡ three ++ command_instead switch name words) → OnOk result (all ≡ old ++ piped_text tool switch name words)
+piped (Ok done) old tool switch name words one two three all first named bar last = rw (last, bar, named, first) (simp append_assoc)
+piped (Err stop) old tool switch name words one two three all first named bar last = tt
 
 pub returns : goal.returns
 returns c =
-    piped c.args.text.now.items c.args.words.now c.args.name.now c.args.command.now _ _ _ _ _ c.in_ok-extend_from_slice.ensures.items c.in_ok-push_name.ensures c.in_ok-extend_from_slice-2.ensures.items
-    (c.in_ok-extend_from_slice-3.ensures.items ∙ ap (λ (l : List ℕ). c.extend_from_slice-2.new.self.items ++ l) c.as_bytes.ensures.value) c.in_ok-extend_from_slice-4.ensures.items
+    piped c.push_command.result c.args.text.now.items c.args.tool.now c.args.switches.now c.args.name.now (map string_bytes c.args.words.now) c.extend_from_slice.new.self.items c.push_shell_word.new.text.items
+    c.extend_from_slice-2.new.self.items c.push_command.new.text.items c.in_ok-extend_from_slice.ensures.items c.in_ok-push_shell_word.ensures c.in_ok-extend_from_slice-2.ensures.items c.push_command.ensures

@@ -14,3 +14,6 @@ pub returns-in_ok-fault_of_records-in-Err-clause-answered : goal.returns-in_ok-f
 returns-in_ok-fault_of_records-in-Err-clause-answered g c =
     fault_of (layout_with c.args.self.now.options) (g.R.Source.remaining c.args.records.now) (λ fault. ⊤) c.in-Err.stop c.in_ok-fault_of_records-in-Err.field-0 c.in_ok-fault_of_records-in-Err.ensures
     c.in-Err.ensures.stops (any_fault c.in-Err.stop)
+
+pub subject_of-requires : goal.subject_of-requires
+subject_of-requires g c = c.in_ok-found.ensures.found.why

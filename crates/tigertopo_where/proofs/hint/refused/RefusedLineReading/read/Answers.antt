@@ -1,5 +1,5 @@
 use Rattle.std.proofs.Common.{string_bytes}
-use Rattle.tigertopo_where.specs.Hint.Hints.{asker}
+use Rattle.tigertopo_where.specs.Hint.Advice.{asking}
 use Rattle.tigertopo_where.proofs.HintLemmas.LineLemmas.{counted_in, failed_ahead, passes_shown, told_of_line}
 use Rattle.tigertopo_where.proofs.hint.refused.RefusedLineReading.read.Goals as goal
 
@@ -8,7 +8,7 @@ returns-in_ok-text-in-Ok-Line-clause-answered g c =
     let refused = c.args.self.now in
     let known = g.S.Source.remaining c.args.single.now in
     let found = c.in-Ok-Line.ensures.found known (passes_shown known _ c.new-buffer.result c.first_form.new.buffer c.new-buffer.ensures c.in-Ok.ensures.kept) in
-    told_of_line (asker refused.command.now refused.options) (string_bytes refused.name.now) refused.number refused.cause known
+    told_of_line (asking refused.by) (string_bytes refused.name.now) refused.number refused.cause known
     c.new-buffer.result c.find_ahead.new.buffer c.bytes.result.now c.in-Ok-Line.len c.in-Ok-Line.field-0-1 c.in-Ok.form _
     c.new-buffer.ensures c.bytes.ensures.value c.in-Ok.ensures.form (rw c.in-Ok-Line.field-0-is at found) c.in_ok-text-in-Ok-Line.ensures
 
