@@ -14,6 +14,7 @@ from pathlib import Path
 sys.path.append(str(Path(__file__).resolve().parents[1] / "tests"))
 from folders import TOP
 
+UNREAD = re.compile(r" holds no type 1 record$")
 PAGES = ["README.md", "docs/commands.md", "examples/README.md", "docs/faults.md", "docs/many-counties.md"]
 
 
@@ -30,8 +31,8 @@ def streams_of(command, printed):
     is_error = re.compile(r"(stopped|error:|OUT) " if " --all " in command else r"(refused line|stopped|error:|OUT) ").match
     streams, before = ["", ""], 0
     for line in printed.splitlines(keepends=True):
-        # What begins with two blanks belongs to the line before it.
-        before = before if line.startswith("  ") else int(bool(is_error(line)))
+        # What begins with two blanks belongs to the line before it, but for what is said of files without chains.
+        before = int(bool(is_error(line))) if not line.startswith("  ") else 1 if UNREAD.search(line) else before
         streams[before] += line
     return tuple(streams)
 

@@ -104,7 +104,7 @@ class Plays:
             well = body.count("\n") == lines
         else:
             well = lines is None or body == "".join(f"{it}\n" for it in lines)
-        well = well and told.endswith(tail) and done.returncode == status and not done.stderr
+        well = well and told.endswith(tail) and done.returncode == status and not hints.without(done.stderr, [command, *words], self.folder)
         self.count(well, f"{title}: status {done.returncode}, {told[:200]} .. {told[-200:]} {done.stderr[-200:]}")
 
     def count(self, well, wrong):
