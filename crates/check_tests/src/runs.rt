@@ -4,8 +4,7 @@ use crate::keys::fixed_keys;
 use crate::maps::SQUARE;
 use std::alloc::{AllocError, Global};
 use tigertopo_memory_files::FilesInMemory;
-use tigertopo_program::Whole;
-use tigertopo_run::start::start;
+use tigertopo_program::start::start;
 use tl_record::MeterOut;
 
 /// Words, and the status and the output that they come to, and the error output.
@@ -76,7 +75,6 @@ fn comes_to(
     let mut printed = Vec::new(alloc);
     let mut told = Vec::new(alloc);
     let ended = start(
-        &Whole,
         files,
         alloc,
         hasher,

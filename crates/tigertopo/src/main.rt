@@ -4,9 +4,8 @@
 use std::hash::RandomState;
 use std::io::IsTerminal;
 use std::process::ExitCode;
-use tigertopo_program::Whole;
-use tigertopo_run::start::answer;
-use tigertopo_run::words::words_of;
+use tigertopo_program::start::answer;
+use tigertopo_program::words::words_of;
 use tigertopo_system_files::SystemFiles;
 use tl_record::MeterOut;
 
@@ -16,7 +15,6 @@ fn main(rt: HostRuntime) -> ExitCode {
     let mut files = SystemFiles::new(&rt, rt.alloc(), rt.stderr().is_terminal());
     let words = words_of(&rt, rt.alloc());
     let status = answer(
-        &Whole,
         &mut files,
         rt.alloc(),
         RandomState::new(&rt),

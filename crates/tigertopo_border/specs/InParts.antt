@@ -9,7 +9,7 @@ use Rattle.tl_map_join.specs.Told.{joined_records}
 use Rattle.tl_map_county.specs.TheMap.{TheMap}
 use Rattle.tl_map_rules.specs.MapOf.{IsMapOf}
 use Rattle.tl_map_rules.specs.Reading.{records_in, IsReadFrom}
-use Rattle.tigertopo_text.specs.Joining.{joined}
+use Rattle.tigertopo_files.specs.Joining.{joined}
 use Rattle.tigertopo_border.specs.Spellable.{IsName}
 use Rattle.tigertopo_border.specs.Border.{border_text}
 use Rattle.tigertopo_border.specs.Parts.{all_records, HaveNoFaultButMany}

@@ -14,7 +14,7 @@ ghost use Rattle.tl_map_join.specs.Told.{joined_records};
 ghost use Rattle.tl_map_rules.specs.MapOf.{IsMapOf};
 ghost use Rattle.tl_map_rules.specs.Reading.{IsReadFrom};
 ghost use Rattle.tl_check_parts.specs.Joined.{IsJoined};
-ghost use Rattle.tigertopo_text.specs.Joining.{joined};
+ghost use Rattle.tigertopo_files.specs.Joining.{joined};
 ghost use Rattle.tl_check_parts.specs.Sound.{IsSoundWithFaces, AreSoundWithFaces};
 ghost use Rattle.tigertopo_border.specs.Spelling.{record_line};
 ghost use Rattle.tigertopo_border.specs.Spellable.{IsName, IsSpellable};

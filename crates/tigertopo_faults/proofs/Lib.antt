@@ -1,3 +1,21 @@
+-- Lemmas on faults.
+pub mod WordLemmas
+pub mod PlaceLemmas
+pub mod FindingLemmas
+pub mod ShownLemmas
+pub mod DegreeLemmas
+pub mod LocationLemmas
+pub mod HintLemmas
+pub mod FoundLemmas
+pub mod PlacedLemmas
+pub mod ColumnLemmas
+pub mod KeptLemmas
+pub mod ReadingLemmas
+pub mod WalkLemmas
+pub mod WalkedLemmas
+pub mod SegmentLemmas
+pub mod TellingLemmas
+pub mod OrderLemmas
 pub mod LinesLemmas
 pub mod GeojsonLemmas
 pub mod ObjectLemmas

@@ -1,6 +1,5 @@
 -- What the contracts of a map of faults cite.
 pub mod Named
-pub mod Words
 pub mod Places
 pub mod Records
 pub mod Texts

@@ -19,4 +19,4 @@ pub(crate) use fault::{print_names, print_spoken};
 pub use faults::print_faults;
 pub(crate) use place::{print_position, print_signed};
 pub use text::FaultsText;
-pub(crate) use words::{print_words, rest_of};
+pub(crate) use words::print_words;

@@ -10,8 +10,8 @@ use Rattle.std.specs.Result.{IsErrAnd}
 use Rattle.tl_cert_output.specs.declared.stop.Stop.{Stop}
 use Rattle.tl_cert_output.specs.declared.stop.Stop.TheVariants.{Record, Memory, Device, Budget}
 use Rattle.tl_cert_output.specs.Stops.{StopsFor, TellsDevice}
-use Rattle.tigertopo_text.specs.Joining.{joined_bytes, closed, failures_of}
-use Rattle.tigertopo_text.proofs.FailureLemmas.{some_failed}
+use Rattle.tigertopo_files.specs.Joining.{joined_bytes, closed, failures_of}
+use Rattle.tigertopo_files.proofs.FailureLemmas.{some_failed}
 use Rattle.tigertopo_files.specs.Files.{Under, bytes_under}
 use Rattle.tigertopo_files.specs.Log.{Log, Fails, together, with_opened}
 use Rattle.tigertopo_files.specs.World.{World, Does, Failed, SomeMissing, MayStop, LogsReading}

@@ -1,4 +1,6 @@
 -- Lemmas on files.
+pub mod JoiningLemmas
+pub mod FailureLemmas
 pub mod WorldLemmas
 pub mod OpeningLemmas
 pub mod LendingLemmas

@@ -1,4 +1,5 @@
 -- What the contracts of files cite.
+pub mod Joining
 pub mod Files
 pub mod Log
 pub mod World

@@ -2,7 +2,7 @@
 use Rattle.std.specs.Prelude.{◌≡◌, ◌⊎◌, ◌<◌, ℕ, true, false, List, [], ◌∷◌, ◌++◌, Contains, Option, Some, None, Result, Err, IfOk, IfErr, IfSome, IfNone}
 use Rattle.tl_cert_output.specs.declared.stop.Stop.{Stop}
 use Rattle.tl_cert_output.specs.declared.stop.Stop.TheVariants.{Device}
-use Rattle.tigertopo_text.specs.Joining.{joined_bytes}
+use Rattle.tigertopo_files.specs.Joining.{joined_bytes}
 use Rattle.tigertopo_files.specs.Files.{Under, bytes_under}
 use Rattle.tigertopo_files.specs.Log.{LogsAgain}
 use Rattle.tigertopo_files.specs.World.{World, Failed, MayStop}

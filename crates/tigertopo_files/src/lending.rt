@@ -9,9 +9,9 @@ ghost use Rattle.tl_cert_output.specs.declared.stop.Stop.TheVariants.{Device};
 ghost use Rattle.tl_cert_output.specs.Stops.{StopsFor};
 
 use crate::opening::{Opener, open_each};
+use crate::{Buffered, JoinedSources};
 use std::alloc::{AllocError, Global};
 use std::{io, slice};
-use tigertopo_text::{Buffered, JoinedSources};
 use tl_cert_output::Stop;
 use tl_record::Source;
 

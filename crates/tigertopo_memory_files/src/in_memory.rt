@@ -11,9 +11,9 @@ use std::io;
 use std::io::{ErrorKind, Read, Write};
 use tigertopo_files::{
     FileKind, FileSystem, Opener, Reading, Room, all_names, read_each, read_each_again,
+    with_printed,
 };
 use tigertopo_system_files::{Lookup, Seen, Spot, name_beside, room_of};
-use tigertopo_text::with_printed;
 use tl_cert_output::{Stop, Text};
 use tl_record::Source;
 

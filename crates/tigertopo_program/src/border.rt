@@ -8,18 +8,18 @@ ghost use Rattle.tigertopo_files.specs.Files.{IsFree};
 ghost use Rattle.tigertopo_files.specs.World.{Does, World, world};
 ghost use Rattle.tigertopo_files.specs.Reading.{text_under};
 ghost use Rattle.tigertopo_files.specs.declared.beginning.FileKind.TheVariants.{Records};
-ghost use Rattle.tigertopo_outcome.specs.Answers.{IsSaid};
-ghost use Rattle.tigertopo_outcome.specs.Records.{IsDoneWhereSound, StopsNever, StopsRecords};
-ghost use Rattle.tigertopo_program.specs.Border.Borders.{BorderAnswers, IsBorderAnswerOf, Wanted, numbers_of};
+ghost use Rattle.tigertopo_program.specs.Answers.{IsSaid};
+ghost use Rattle.tigertopo_program.specs.Records.{IsDoneWhereSound, StopsNever, StopsRecords};
+ghost use Rattle.tigertopo_program.specs.Borders.{BorderAnswers, IsBorderAnswerOf, Wanted, numbers_of};
 
+use crate::answer::{Answer, Bordered};
+use crate::making::answer_with_file;
+use crate::reading::over_records;
+use crate::records::MapOf;
 use std::alloc::Global;
 use std::hash::RandomState;
 use tigertopo_border::{BorderText, chain_count, segment_count};
-use tigertopo_files::{FileKind, FileSystem, make_file};
-use tigertopo_outcome::outcome::{Bordered, Outcome};
-use tigertopo_outcome::reading::over_records;
-use tigertopo_outcome::records::MapOf;
-use tigertopo_outcome::said::{Answer, Said};
+use tigertopo_files::{FileKind, FileSystem};
 use tl_build::{Audit, audit_map};
 use tl_cert_output::Stop;
 use tl_map_county::Map;
@@ -35,7 +35,7 @@ pub fn border<F: FileSystem>(
     names: &[String],
     made: &String,
     cenid: [u8; 5],
-) -> Result<Answer<Said>, Stop>
+) -> Result<Answer, Stop>
     requires { IsFree (F.under files.old) (string_bytes made.now) (map_list string_bytes names.now) Records }
     ensures { let w = world F.under F.log F.knows files.old files.new in
         let known = text_under (F.under files.old) (map_list string_bytes names.now) in
@@ -45,7 +45,7 @@ pub fn border<F: FileSystem>(
 {
     match over_records(files, alloc, hasher, names, &MapOf { options })? {
         Ok(map) => border_of_map(files, alloc, options.faces, names, made, cenid, &map),
-        Err(fault) => Ok(Answer::of(Outcome::fault(fault))),
+        Err(fault) => Ok(Answer::fault(fault)),
     }
 }
 
@@ -64,7 +64,7 @@ fn border_of_map<F: FileSystem>(
     made: &String,
     cenid: [u8; 5],
     map: &Map,
-) -> Result<Answer<Said>, Stop>
+) -> Result<Answer, Stop>
     requires { IsFree (F.under files.old) (string_bytes made.now) (map_list string_bytes names.now) Records }
     ensures { let w = world F.under F.log F.knows files.old files.new in
         Does w [] (Some (string_bytes made.now))
@@ -72,7 +72,7 @@ fn border_of_map<F: FileSystem>(
 {
     match audit_map(alloc, map, faces)? {
         Audit::Sound(_) => keep(files, alloc, faces, names, made, cenid, map),
-        Audit::Fault(fault) => Ok(Answer::of(Outcome::fault(fault))),
+        Audit::Fault(fault) => Ok(Answer::fault(fault)),
     }
 }
 
@@ -85,7 +85,7 @@ fn keep<F: FileSystem>(
     made: &String,
     cenid: [u8; 5],
     map: &Map,
-) -> Result<Answer<Said>, Stop>
+) -> Result<Answer, Stop>
     requires free { IsFree (F.under files.old) (string_bytes made.now) (map_list string_bytes names.now) Records }
     requires sound { IsSoundFor faces map.now }
     ensures { let w = world F.under F.log F.knows files.old files.new in
@@ -93,8 +93,16 @@ fn keep<F: FileSystem>(
         (IsBorderAnswerOf w (record { name = string_bytes made.now; cenid = cenid }) faces map.now) StopsNever result }
 {
     let text = BorderText { map, name: cenid };
-    make_file(files, alloc, made.as_str(), names, FileKind::Records, &text)?;
-    Ok(Answer::of(Outcome::Bordered(numbers_of(map))))
+    let numbers = numbers_of(map);
+    answer_with_file(
+        files,
+        alloc,
+        made,
+        names,
+        FileKind::Records,
+        &text,
+        Answer::Bordered(numbers),
+    )
 }
 
 // The numbers of a map's border.

@@ -1,6 +1,6 @@
 //! Pictures of counties, made over a file system.
 //!
-//! [`draw`] reads a county's files, draws its map (`tigertopo_svg`) into a new file, which takes its name when it is whole, and
+//! [`draw`] reads a county's files, draws its map (`tigertopo_pictures`) into a new file, which takes its name when it is whole, and
 //! answers how much the picture shows.
 
 mod drawing;

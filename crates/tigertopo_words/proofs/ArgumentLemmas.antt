@@ -4,8 +4,7 @@ use Rattle.std.proofs.Common.{ap, subst, ◌∙◌, map, option_map, arith, Glob
 use Rattle.std.specs.Prelude.{String, string_bytes, MatchOption, Bool}
 use Rattle.std.proofs.lemmas.List.{length-map}
 use Rattle.clap.specs.Walk.{Text}
-use Rattle.tl_record.specs.declared.options.Options.{Options}
-use Rattle.tigertopo_words.specs.Arguments.{AreSome, IsSwitch, AreChosen, AskForTold, AskForFaults, IsView, FacesNeedFaults}
+use Rattle.tigertopo_words.specs.Arguments.{AreSome, IsSwitch, AskForTold, AskForFaults, IsView, FacesNeedFaults}
 use Rattle.tigertopo_words.specs.declared.asked.View.{View}
 use Rattle.tigertopo_words.specs.declared.budget.Told.{Told}
 
@@ -51,16 +50,6 @@ told_the_same result all each most number skipped passed e f h told =
     subst (λ (given : Option Text). MatchOption result (¬ AskForFaults each number given) (AskForTold each number given)) h
     (subst (λ (given : Option Text). MatchOption result (¬ AskForFaults each given skipped) (AskForTold each given skipped)) f
     (subst (λ (given : Option Text). MatchOption result (¬ AskForFaults given most skipped) (AskForTold given most skipped)) e told))
-
-pub chosen_the_same : (columns released zero_cells ids faces faced join joined complete whole : Option Text) (options : Options) → columns ≡ released → zero_cells ≡ ids → faces ≡ faced
-    → join ≡ joined → complete ≡ whole → AreChosen columns zero_cells faces join complete options → AreChosen released ids faced joined whole options
-chosen_the_same columns released zero_cells ids faces faced join joined complete whole options d e f g h chosen = record {
-  columns = rw (← d) chosen.columns;
-  cells = rw (← e) chosen.cells;
-  faced = rw (← f) chosen.faced;
-  joined = rw (← g) chosen.joined;
-  whole = rw (← h) chosen.whole;
-}
 
 pub seen_the_same : (view : Option View) (at center wide width : Option Text) → at ≡ center → wide ≡ width → IsView at wide view → IsView center width view
 seen_the_same view at center wide width e f seen =

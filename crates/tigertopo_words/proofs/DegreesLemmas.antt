@@ -8,7 +8,7 @@ use Rattle.std.proofs.lemmas.Str.Pattern.{IsSplitOnceResult, split_after, split_
 use Rattle.std.proofs.lemmas.Fmt.{decimal_nonempty}
 use Rattle.tl_geom.specs.declared.point.Point.{Point}
 use Rattle.tigertopo_words.specs.Arguments.{IsSpelt}
-use Rattle.tigertopo_shown.specs.Points.{AreMillionths, AreDecimals, AreDegreesOf, AreDegrees, SpellsBy, Spells}
+use Rattle.tigertopo_words.specs.Points.{AreMillionths, AreDecimals, AreDegreesOf, AreDegrees, SpellsBy, Spells}
 use Rattle.tigertopo_words.proofs.BudgetLemmas.{one_number}
 use Rattle.tigertopo_words.proofs.PointLemmas.{digit_not, HasNoComma}
 

@@ -6,5 +6,5 @@ pub mod DegreesLemmas
 pub mod EscapeLemmas
 pub mod FirstWord
 pub mod PointLemmas
-pub mod RequestLemmas
+pub mod TableLemmas
 pub mod WordsLemmas

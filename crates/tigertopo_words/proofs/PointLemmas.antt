@@ -12,7 +12,7 @@ use Rattle.std.proofs.lemmas.Str.Pattern.{IsSplitOnceResult, split_after, split_
 use Rattle.std.proofs.lemmas.Fmt.{decimal_is_IsNumeral, parse-signed_decimal}
 use Rattle.std.proofs.lemmas.Int.{fits_signed_from_abs}
 use Rattle.tl_geom.specs.declared.point.Point.{Point}
-use Rattle.tigertopo_shown.specs.Points.{AreMillionths, SpellsBy}
+use Rattle.tigertopo_words.specs.Points.{AreMillionths, SpellsBy}
 
 mag_small : (z : ℤ) → mag z ≤ unsigned_abs z
 mag_small (pos n) = omega arith

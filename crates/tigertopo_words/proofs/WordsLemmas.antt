@@ -12,7 +12,7 @@ use Rattle.tigertopo_words.specs.declared.asked.Command.{Command}
 use Rattle.tigertopo_words.specs.declared.stop.WordsStop.{WordsStop}
 use Rattle.tigertopo_words.specs.declared.stop.WordsStop.TheVariants.{Usage, Help, Memory}
 use Rattle.tigertopo_words.specs.Commands.{command_line}
-use Rattle.tigertopo_words.specs.Requests.{named_in, IsWhole}
+use Rattle.tigertopo_words.specs.Requests.{IsWhole}
 use Rattle.tigertopo_words.specs.Asked.{IsCommandOf}
 use Rattle.tigertopo_words.specs.CommandLine.{AskFor, IsStopOf, IsUsage, StopsPlanning}
 
@@ -40,12 +40,12 @@ stops_for words kind Memory told is passes kinds = absurd (told refl)
 
 -- words that clap takes, and that name a command with what it wants
 pub one_command : (words : List Text) (found : Option (Text × List Row)) (made : Command) → found ≡ subcommand_of command_line words
-    → IsCommandOf (named_in found) (Some made) → fault_of command_line words ≡ [] → AskFor words made
-one_command words found made is for right = record { taken = right; asked = subst (λ f. IsCommandOf (named_in f) (Some made)) is for }
+    → IsCommandOf found (Some made) → fault_of command_line words ≡ [] → AskFor words made
+one_command words found made is for right = record { taken = right; asked = subst (λ f. IsCommandOf f (Some made)) is for }
 
 -- words that clap takes, and that name none
 pub no_command : (words : List Text) (found : Option (Text × List Row)) (stop : WordsStop) → found ≡ subcommand_of command_line words
-    → IsCommandOf (named_in found) None → fault_of command_line words ≡ [] → IsUsage stop → StopsPlanning words stop
-no_command words found (Usage text) is none right usage = (λ use_of. none (subst (λ f. IsWhole (named_in f)) (sym is) use_of.whole), inr right)
+    → IsCommandOf found None → fault_of command_line words ≡ [] → IsUsage stop → StopsPlanning words stop
+no_command words found (Usage text) is none right usage = (λ use_of. none (subst (λ f. IsWhole f) (sym is) use_of.whole), inr right)
 no_command words found (Help text) is none right usage = absurd usage
 no_command words found Memory is none right usage = absurd usage

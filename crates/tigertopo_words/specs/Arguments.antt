@@ -3,16 +3,15 @@ use Rattle.std.specs.Prelude.{◌≡◌, ◌≢◌, ◌<◌, ◌≤◌, ◌↔�
 use Rattle.std.specs.List.{list_all}
 use Rattle.clap.specs.Walk.{Text}
 use Rattle.tl_geom.specs.declared.point.Point.{Point}
-use Rattle.tl_record.specs.declared.options.Options.{Options}
 use Rattle.tl_record.specs.Fields.{is_cenid_byte}
 use Rattle.tigertopo_words.specs.declared.asked.View.{View}
 use Rattle.tigertopo_words.specs.declared.budget.Told.{Told}
 use Rattle.tigertopo_words.specs.declared.budget.Told.TheVariants.{One, All}
 use Rattle.tigertopo_words.specs.declared.form.Form.{Form}
 use Rattle.tigertopo_words.specs.declared.form.Form.TheVariants.{Lines, Records, Objects}
-use Rattle.tigertopo_shown.specs.declared.layer.Layer.{Layer}
-use Rattle.tigertopo_shown.specs.declared.layer.Layer.TheVariants.{Chains, Points, Polygons, Landmarks}
-use Rattle.tigertopo_shown.specs.Points.{Spells}
+use Rattle.tigertopo_words.specs.declared.layer.Layer.{Layer}
+use Rattle.tigertopo_words.specs.declared.layer.Layer.TheVariants.{Chains, Points, Polygons, Landmarks}
+use Rattle.tigertopo_words.specs.Points.{Spells}
 
 -- a text was given
 abbrev pub IsGiven : Option Text → Type 0
@@ -25,14 +24,6 @@ AreSome given files = (given ≡ Some files) × (0 < length files)
 -- a switch is on exactly where its value is the word true
 abbrev pub IsSwitch : Option Text → Bool → Type 0
 IsSwitch given on = IsTrue on ↔ (given ≡ Some (codes "true"))
-
--- the values of the five switches say what is asked of a county
-pub record AreChosen (released zero_cells faces join complete : Option Text) (options : Options) : Type 0 where
-  pub columns : IsTrue options.released ↔ (released ≡ Some (codes "true"))
-  pub cells : IsTrue options.zero_cells ↔ (zero_cells ≡ Some (codes "true"))
-  pub faced : IsTrue options.faces ↔ (faces ≡ Some (codes "true"))
-  pub joined : IsTrue options.join ↔ (join ≡ Some (codes "true"))
-  pub whole : IsTrue options.complete ↔ (complete ≡ Some (codes "true"))
 
 -- the greatest number that can be given, which is the budget where none is
 abbrev pub greatest_budget : ℕ

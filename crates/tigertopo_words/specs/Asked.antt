@@ -1,18 +1,18 @@
 -- What is asked by a request.
-use Rattle.std.specs.Prelude.{◌≡◌, ℕ, Bool, List, Option, Some, None, map, option_map, ⊤, string_bytes}
+use Rattle.std.specs.Prelude.{◌≡◌, ℕ, Bool, List, Option, Some, None, map, option_map, ⊤, string_bytes, codes}
 use Rattle.clap.specs.Walk.{Row, Text}
 use Rattle.tigertopo_words.specs.declared.asked.Command.{Command}
 use Rattle.tigertopo_words.specs.declared.asked.Asked.{Asked}
 use Rattle.tigertopo_words.specs.declared.asked.Asked.TheVariants.{Show, Landmarks, Locate, Audit, Build, Check, Convert, Export, Draw, Border}
 use Rattle.tigertopo_words.specs.declared.asked.View.{View}
 use Rattle.tigertopo_words.specs.declared.form.Form.{Form}
-use Rattle.tigertopo_shown.specs.declared.layer.Layer.{Layer}
+use Rattle.tigertopo_words.specs.declared.layer.Layer.{Layer}
 use Rattle.tigertopo_words.specs.declared.budget.Told.{Told}
-use Rattle.tigertopo_words.specs.declared.command_line.Named.{Named}
-use Rattle.tigertopo_words.specs.declared.command_line.Named.TheVariants as name
+use Rattle.tigertopo_words.specs.declared.table.Named.{Named}
+use Rattle.tigertopo_words.specs.declared.table.Named.TheVariants as name
 use Rattle.tigertopo_words.specs.Commands.{name_of}
 use Rattle.tigertopo_words.specs.Arguments.{IsSwitch, IsForm, IsBudget, AskForTold, IsLayer, IsPlace, IsView, FacesNeedFaults, IsCenid}
-use Rattle.tigertopo_words.specs.Requests.{Request, given_by, AreFiles, AreOptions, IsWatched, HasNeeds, IsWhole}
+use Rattle.tigertopo_words.specs.Requests.{Request, given_by, word_for, AreFiles, AreOptions, IsWatched, HasNeeds, IsWhole}
 
 -- the command that asks for it
 abbrev pub named_of : Asked → Named
@@ -45,44 +45,44 @@ made_of other = None
 
 -- the request asks for so many faults, in this form, and for this file of GeoJSON, word for word, or for none
 pub record AsksToAudit (given : Request) (told : Told) (form : Form) (made : Option Text) : Type 0 where
-  pub asked : AskForTold given.all given.most given.skipped told
-  pub formed : IsForm given.places given.objects form
-  pub to : given.geojson ≡ made
+  pub asked : AskForTold (word_for given (codes "all")) (word_for given (codes "most")) (word_for given (codes "skip-refused")) told
+  pub formed : IsForm (word_for given (codes "where")) (word_for given (codes "json")) form
+  pub to : word_for given (codes "geojson") ≡ made
 
 -- the request asks for a check by this certificate, word for word, with this budget
 pub record AsksToCheck (given : Request) (cert : Text) (budget : ℕ) : Type 0 where
-  pub by : given.cert ≡ Some cert
-  pub tests : IsBudget given.tests budget
+  pub by : word_for given (codes "cert") ≡ Some cert
+  pub tests : IsBudget (word_for given (codes "tests")) budget
 
 -- the request asks for a conversion of this certificate to that one, word for word
 pub record AsksToConvert (given : Request) (cert made : Text) : Type 0 where
-  pub from : given.cert ≡ Some cert
-  pub to : given.out ≡ Some made
+  pub from : word_for given (codes "cert") ≡ Some cert
+  pub to : word_for given (codes "out") ≡ Some made
 
 -- the request asks for this file, word for word, of this layer or of all
 pub record AsksToExport (given : Request) (made : Text) (layer : Option Layer) : Type 0 where
-  pub to : given.geojson ≡ Some made
-  pub of : IsLayer given.layer layer
+  pub to : word_for given (codes "geojson") ≡ Some made
+  pub of : IsLayer (word_for given (codes "layer")) layer
 
 -- the request asks for this picture, word for word, with this view and with faults or without, and for faces only with faults
 pub record AsksToDraw (given : Request) (made : Text) (view : Option View) (faults : Bool) : Type 0 where
-  pub to : given.out ≡ Some made
-  pub seen : IsView given.center given.width view
-  pub shown : IsSwitch given.faults faults
-  pub needed : FacesNeedFaults given.faces given.faults
+  pub to : word_for given (codes "out") ≡ Some made
+  pub seen : IsView (word_for given (codes "at")) (word_for given (codes "width")) view
+  pub shown : IsSwitch (word_for given (codes "faults")) faults
+  pub needed : FacesNeedFaults (word_for given (codes "faces")) (word_for given (codes "faults"))
 
 -- the request asks for this file, word for word, of a border whose polygon has this CENID
 pub record AsksForBorder (given : Request) (cenid : List ℕ) (made : Text) : Type 0 where
-  pub to : given.out ≡ Some made
-  pub of : IsCenid given.name cenid
+  pub to : word_for given (codes "out") ≡ Some made
+  pub of : IsCenid (word_for given (codes "name")) cenid
 
 -- what a request gives for the arguments of its command is what is asked
 abbrev pub IsAsked : Request → Asked → Type 0
 IsAsked given Show = ⊤
 IsAsked given Landmarks = ⊤
-IsAsked given (Locate point) = IsPlace given.point point
+IsAsked given (Locate point) = IsPlace (word_for given (codes "point")) point
 IsAsked given (Audit told form made) = AsksToAudit given told form (option_map string_bytes made)
-IsAsked given (Build made) = given.out ≡ Some (string_bytes made)
+IsAsked given (Build made) = word_for given (codes "out") ≡ Some (string_bytes made)
 IsAsked given (Check cert budget) = AsksToCheck given (string_bytes cert) budget
 IsAsked given (Convert cert made) = AsksToConvert given (string_bytes cert) (string_bytes made)
 IsAsked given (Export made layer) = AsksToExport given (string_bytes made) layer
@@ -94,7 +94,7 @@ IsAsked given (Border cenid made) = AsksForBorder given cenid (string_bytes made
 pub record IsFor (request : Option Request) (command : Command) : Type 0 where
   pub given : Request
   pub same : request ≡ Some given
-  pub named : given.command ≡ name_of (named_of command.asked)
+  pub named : given.0 ≡ name_of (named_of command.asked)
   pub asked : IsAsked given command.asked
   pub chosen : AreOptions (named_of command.asked) given command.options
   pub are : AreFiles (named_of command.asked) given (map string_bytes command.files.items)

@@ -1,6 +1,6 @@
 -- What the words of the command line mean. How a simple command's words are read is clap's own definition: `takes` (whether the
 -- words are a use of it) and `fault_of` (which kinds of error they are, if they aren't).
-use Rattle.std.specs.Prelude.{◌≡◌, ◌≢◌, ◌⊎◌, ◌==◌, ◌||◌, Bool, true, false, List, [], ◌∷◌, ⊤, codes}
+use Rattle.std.specs.Prelude.{◌≡◌, ◌≢◌, ◌⊎◌, ◌==◌, ◌||◌, Bool, true, false, List, [], ◌∷◌, ◌++◌, ⊤, codes, map}
 use Rattle.std.specs.List.{list_any}
 use Rattle.std.specs.Str.{bytes_eq}
 use Rattle.clap.specs.Walk.{Text}
@@ -12,8 +12,7 @@ use Rattle.clap.specs.declared.error.kind.ErrorKind.TheVariants.{DisplayHelp, Di
 use Rattle.tigertopo_words.specs.declared.asked.Command.{Command}
 use Rattle.tigertopo_words.specs.declared.stop.WordsStop.{WordsStop}
 use Rattle.tigertopo_words.specs.declared.stop.WordsStop.TheVariants.{Usage, Help, Memory}
-use Rattle.tigertopo_words.specs.Commands.{command_line, show_name, landmarks_name, locate_name, convert_name, check_name}
-use Rattle.tigertopo_words.specs.Commands.{audit_name, build_name, export_name, draw_name, border_name}
+use Rattle.tigertopo_words.specs.Commands.{command_line, commands, name_of}
 use Rattle.tigertopo_words.specs.Requests.{named_command, IsWhole}
 use Rattle.tigertopo_words.specs.Asked.{IsFor}
 
@@ -30,9 +29,7 @@ pub record AreAUse (words : List Text) : Type 0 where
 
 -- the names that a first word may have: those of the commands, and clap's own help
 abbrev pub first_names : List Text
-first_names =
-    show_name ∷ landmarks_name ∷ locate_name ∷ audit_name ∷ build_name ∷ check_name ∷ convert_name
-    ∷ export_name ∷ draw_name ∷ border_name ∷ codes "help" ∷ []
+first_names = map name_of commands ++ codes "help" ∷ []
 
 -- does the word begin with a hyphen, as options do
 abbrev pub is_option : Text → Bool

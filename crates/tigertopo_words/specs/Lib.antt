@@ -7,3 +7,7 @@ pub mod CommandLine
 pub mod Escapes
 pub mod Spelling
 pub mod Keeping
+pub mod Names
+pub mod Shell
+pub mod Json
+pub mod Points

@@ -1,15 +1,19 @@
 //! What `clap` found for the arguments that more than one command has: files, switches and names.
 
-ghost use Rattle.std.specs.Prelude.{◌≡◌, ◌↔◌, ◌<◌, IfOk, MatchOption, IsTrue, List, Some, length, codes, map, option_map, string_bytes};
+ghost use Rattle.std.specs.Prelude.{◌≡◌, ◌↔◌, IfOk, MatchOption, IsTrue, List, Some, codes, map, option_map, string_bytes};
+ghost use Rattle.std.specs.List.{list_any};
+ghost use Rattle.std.specs.Str.{bytes_eq};
 ghost use Rattle.clap.specs.Walk.{Text, rows_of, all_of, first_of};
 ghost use Rattle.clap.specs.Matches.{found_of};
-ghost use Rattle.tigertopo_words.specs.Arguments.{AreChosen, IsSwitch, AreSome};
-ghost use Rattle.tigertopo_words.specs.Requests.{given_by, AreFiles, AreOptions, IsWatched};
+ghost use Rattle.tigertopo_words.specs.Commands.{has_argument};
+ghost use Rattle.tigertopo_words.specs.Arguments.{IsSwitch, AreSome};
+ghost use Rattle.tigertopo_words.specs.declared.table.Argument.{Argument};
+ghost use Rattle.tigertopo_words.specs.Requests.{given_by, faces_for, switch_for, AreFiles, AreOptions, IsWatched};
 
-use crate::command_line::Named;
+use crate::table::{Argument, Named, row_of};
 use clap::ArgMatches;
 use std::alloc::{AllocError, Global};
-use tl_record::{Options, PLAIN};
+use tl_record::Options;
 
 /// The names of the command's files, where it has the files that it wants.
 pub fn files_of(
@@ -21,10 +25,10 @@ pub fn files_of(
         IfOk result (λ files. MatchOption files ((names : List Text) → ¬ AreFiles named.now given names)
         (λ files. AreFiles named.now given (map string_bytes files.items))) }
 {
-    match named {
-        Named::Convert => Ok(Some(Vec::new(alloc))),
-        _ => given_files(alloc, found),
+    if !has(named, "files") {
+        return Ok(Some(Vec::new(alloc)));
     }
+    given_files(alloc, found)
 }
 
 // The names that were given for the command's FILES, if there are some.
@@ -52,62 +56,26 @@ fn copied(alloc: Global, texts: &[&str]) -> Result<Vec<String>, AllocError>
     Ok(copies)
 }
 
-/// What the command's switches say of records and of their map: its --released, and its --join, its --zero-cells, its --faces and its
-/// --complete, where it has them.
+/// What the command's switches say of records and of their map: those of the five that it has. Of a border faces are always asked.
 pub fn options_of(named: &Named, found: &ArgMatches<'_>) -> Options
     ensures { AreOptions named.now (given_by named.now (rows_of (found_of found.now))) result }
 {
-    match named {
-        Named::Convert => PLAIN,
-        Named::Landmarks => chosen_by(found.get_str("released"), None, None, None, None),
-        Named::Show | Named::Locate | Named::Export => chosen_by(
-            found.get_str("released"),
-            None,
-            None,
-            found.get_str("join"),
-            None,
-        ),
-        Named::Audit | Named::Build | Named::Check => chosen_by(
-            found.get_str("released"),
-            found.get_str("zero-cells"),
-            found.get_str("faces"),
-            found.get_str("join"),
-            found.get_str("complete"),
-        ),
-        Named::Draw => chosen_by(
-            found.get_str("released"),
-            found.get_str("zero-cells"),
-            found.get_str("faces"),
-            found.get_str("join"),
-            None,
-        ),
-        Named::Border => chosen_by(
-            found.get_str("released"),
-            None,
-            Some("true"),
-            found.get_str("join"),
-            found.get_str("complete"),
-        ),
+    Options {
+        zero_cells: is_on(named, found, "zero-cells"),
+        released: is_on(named, found, "released"),
+        faces: are_faced(named, found),
+        join: is_on(named, found, "join"),
+        complete: is_on(named, found, "complete"),
     }
 }
 
-// What the values of the five switches choose.
-fn chosen_by(
-    released: Option<&str>,
-    zero_cells: Option<&str>,
-    faces: Option<&str>,
-    join: Option<&str>,
-    complete: Option<&str>,
-) -> Options
-    ensures { AreChosen (option_map (λ text. text.now) released.entry) (option_map (λ text. text.now) zero_cells.entry)
-        (option_map (λ text. text.now) faces.entry) (option_map (λ text. text.now) join.entry) (option_map (λ text. text.now) complete.entry) result }
+// Whether faces are asked for.
+fn are_faced(named: &Named, found: &ArgMatches<'_>) -> bool
+    ensures { IsSwitch (faces_for named.now (given_by named.now (rows_of (found_of found.now)))) result }
 {
-    Options {
-        zero_cells: is_set(zero_cells),
-        released: is_set(released),
-        faces: is_set(faces),
-        join: is_set(join),
-        complete: is_set(complete),
+    match named {
+        Named::Border => true,
+        _ => is_on(named, found, "faces"),
     }
 }
 
@@ -115,18 +83,40 @@ fn chosen_by(
 pub fn is_watched(named: &Named, found: &ArgMatches<'_>) -> bool
     ensures { IsWatched named.now (given_by named.now (rows_of (found_of found.now))) result }
 {
-    match named {
-        Named::Audit | Named::Build | Named::Check => switch_of(found, "progress"),
-        Named::Show | Named::Landmarks | Named::Locate => false,
-        Named::Convert | Named::Export | Named::Draw | Named::Border => false,
+    is_on(named, found, "progress")
+}
+
+// Whether the command has a switch of this name, and it is given.
+fn is_on(named: &Named, found: &ArgMatches<'_>, name: &str) -> bool
+    ensures { IsSwitch (switch_for named.now (given_by named.now (rows_of (found_of found.now))) name.now) result }
+{
+    has(named, name) && switch_of(found, name)
+}
+
+// Whether the command has an argument of this name.
+fn has(named: &Named, name: &str) -> bool
+    ensures { result ≡ has_argument named.now name.now }
+{
+    is_among(name, row_of(named).arguments)
+}
+
+// Whether one of the arguments has this name.
+fn is_among(name: &str, arguments: &[Argument]) -> bool
+    ensures { result ≡ list_any (λ (argument : Argument). bytes_eq name.now argument.name.now) arguments.now }
+{
+    for argument in arguments {
+        if name == argument.name {
+            return true;
+        }
     }
+    false
 }
 
 /// Whether the switch of this name is given.
 pub fn switch_of(found: &ArgMatches<'_>, name: &str) -> bool
     ensures { IsSwitch (first_of name.now (rows_of (found_of found.now))) result }
 {
-    is_set(found.get_str(name))
+    is_set(given(found, name))
 }
 
 /// Whether a switch's value is the one that it has where it is given.
@@ -139,7 +129,14 @@ pub(crate) fn is_set(value: Option<&str>) -> bool
     }
 }
 
-/// The word that was given for this argument, where one was.
+/// The word that was given for the argument of this name, where one was.
+pub fn given<'a>(found: &ArgMatches<'a>, name: &str) -> Option<&'a str>
+    ensures { option_map (λ text. text.now) result ≡ first_of name.now (rows_of (found_of found.now)) }
+{
+    found.get_str(name)
+}
+
+/// A copy of it.
 pub fn word_of(
     alloc: Global,
     found: &ArgMatches<'_>,
@@ -147,7 +144,7 @@ pub fn word_of(
 ) -> Result<Option<String>, AllocError>
     ensures { IfOk result (λ word. option_map string_bytes word ≡ first_of name.now (rows_of (found_of found.now))) }
 {
-    match found.get_str(name) {
+    match given(found, name) {
         Some(word) => Ok(Some(String::from_str(alloc, word)?)),
         None => Ok(None),
     }

@@ -4,9 +4,9 @@ ghost use Rattle.std.specs.Prelude.{◌≡◌};
 ghost use Rattle.tigertopo_words.specs.Asked.{named_of};
 
 use crate::budget::Told;
-use crate::command_line::{Named, word_of};
 use crate::form::Form;
-use tigertopo_shown::Layer;
+use crate::layer::Layer;
+use crate::table::{Named, row_of};
 use tl_geom::Point;
 use tl_record::Options;
 
@@ -93,7 +93,7 @@ impl Command {
     pub fn name(&self) -> &'static str
         ensures { result.now ≡ name_of (named_of self.now.asked) }
     {
-        word_of(&named_of(&self.asked))
+        row_of(&named_of(&self.asked)).name
     }
 
     /// The name of the certificate that is read, if one is.

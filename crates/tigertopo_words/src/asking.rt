@@ -1,43 +1,23 @@
 //! What is asked, by the name of a command and by what `clap` found behind it.
 
-ghost use Rattle.std.specs.Prelude.{◌≡◌, ◌≢◌, IfOk, MatchOption, codes};
+ghost use Rattle.std.specs.Prelude.{IfOk, MatchOption, codes};
 ghost use Rattle.clap.specs.Walk.{rows_of, first_of};
 ghost use Rattle.clap.specs.Matches.{found_of};
-ghost use Rattle.tigertopo_words.specs.Commands.{name_of};
 ghost use Rattle.tigertopo_words.specs.Arguments.{AskForFaults, AskForTold, IsForm};
 ghost use Rattle.tigertopo_words.specs.Asked.{IsAskedBy};
-ghost use Rattle.tigertopo_words.specs.declared.command_line.Named.{Named};
+ghost use Rattle.tigertopo_words.specs.declared.table.Named.{Named};
 
-use crate::arguments::{switch_of, word_of};
+use crate::arguments::{given, switch_of, word_of};
 use crate::asked::Asked;
 use crate::budget::{Told, asked_by, budget_of};
 use crate::cenid::cenid_of;
-use crate::command_line::Named;
 use crate::form::Form;
 use crate::layer::layer_by;
 use crate::point::place_of;
+use crate::table::Named;
 use crate::view::view_of;
 use clap::ArgMatches;
 use std::alloc::{AllocError, Global};
-
-/// The command of this name, where that is one of the program's.
-pub fn named_by(name: &str) -> Option<Named>
-    ensures { MatchOption result ((named : Named) → name.now ≢ name_of named) (λ named. name.now ≡ name_of named) }
-{
-    match name {
-        "show" => Some(Named::Show),
-        "landmarks" => Some(Named::Landmarks),
-        "locate" => Some(Named::Locate),
-        "audit" => Some(Named::Audit),
-        "build" => Some(Named::Build),
-        "check" => Some(Named::Check),
-        "convert" => Some(Named::Convert),
-        "export" => Some(Named::Export),
-        "draw" => Some(Named::Draw),
-        "border" => Some(Named::Border),
-        _ => None,
-    }
-}
 
 /// What the command is asked, where all is given that it needs beside files.
 pub fn asked_of(
@@ -65,7 +45,7 @@ pub fn asked_of(
 fn location_of(found: &ArgMatches<'_>) -> Option<Asked>
     ensures { IsAskedBy Named.Locate (rows_of (found_of found.now)) result }
 {
-    match place_of(found.get_str("point")) {
+    match place_of(given(found, "point")) {
         Some(point) => Some(Asked::Locate { point }),
         None => None,
     }
@@ -108,9 +88,9 @@ fn told_of(found: &ArgMatches<'_>) -> Option<Told>
         MatchOption result (¬ AskForFaults each number passed) (AskForTold each number passed) }
 {
     asked_by(
-        found.get_str("all"),
-        found.get_str("most"),
-        found.get_str("skip-refused"),
+        given(found, "all"),
+        given(found, "most"),
+        given(found, "skip-refused"),
     )
 }
 
@@ -128,7 +108,7 @@ fn build_of(alloc: Global, found: &ArgMatches<'_>) -> Result<Option<Asked>, Allo
 fn check_of(alloc: Global, found: &ArgMatches<'_>) -> Result<Option<Asked>, AllocError>
     ensures { IfOk result (IsAskedBy Named.Check (rows_of (found_of found.now))) }
 {
-    let Some(budget) = budget_of(found.get_str("tests")) else {
+    let Some(budget) = budget_of(given(found, "tests")) else {
         return Ok(None);
     };
     match word_of(alloc, found, "cert")? {
@@ -154,7 +134,7 @@ fn conversion_of(alloc: Global, found: &ArgMatches<'_>) -> Result<Option<Asked>,
 fn export_of(alloc: Global, found: &ArgMatches<'_>) -> Result<Option<Asked>, AllocError>
     ensures { IfOk result (IsAskedBy Named.Export (rows_of (found_of found.now))) }
 {
-    let Some(layer) = layer_by(found.get_str("layer")) else {
+    let Some(layer) = layer_by(given(found, "layer")) else {
         return Ok(None);
     };
     match word_of(alloc, found, "geojson")? {
@@ -167,7 +147,7 @@ fn export_of(alloc: Global, found: &ArgMatches<'_>) -> Result<Option<Asked>, All
 fn drawing_of(alloc: Global, found: &ArgMatches<'_>) -> Result<Option<Asked>, AllocError>
     ensures { IfOk result (IsAskedBy Named.Draw (rows_of (found_of found.now))) }
 {
-    let Some(view) = view_of(found.get_str("at"), found.get_str("width")) else {
+    let Some(view) = view_of(given(found, "at"), given(found, "width")) else {
         return Ok(None);
     };
     let faults = switch_of(found, "faults");
@@ -184,7 +164,7 @@ fn drawing_of(alloc: Global, found: &ArgMatches<'_>) -> Result<Option<Asked>, Al
 fn border_of(alloc: Global, found: &ArgMatches<'_>) -> Result<Option<Asked>, AllocError>
     ensures { IfOk result (IsAskedBy Named.Border (rows_of (found_of found.now))) }
 {
-    let Some(name) = cenid_of(found.get_str("name")) else {
+    let Some(name) = cenid_of(given(found, "name")) else {
         return Ok(None);
     };
     match word_of(alloc, found, "out")? {

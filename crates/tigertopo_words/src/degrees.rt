@@ -1,7 +1,7 @@
 //! How a coordinate is spelt in degrees.
 
 ghost use Rattle.std.specs.Prelude.{◌≡◌, ◌<◌, ◌≤◌, ◌-◌, ◌^◌, ℕ, ℤ, suc, pos, negsuc, MatchOption, unsigned_abs};
-ghost use Rattle.tigertopo_shown.specs.Points.{AreDecimals, AreDegrees, AreDegreesOf};
+ghost use Rattle.tigertopo_words.specs.Points.{AreDecimals, AreDegrees, AreDegreesOf};
 
 use crate::budget::number_of;
 

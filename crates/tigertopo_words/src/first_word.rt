@@ -1,12 +1,14 @@
 //! What the first word shows with no memory taken.
 
-ghost use Rattle.std.specs.Prelude.{◌≡◌, map};
+ghost use Rattle.std.specs.Prelude.{◌≡◌, [], ◌∷◌, ◌++◌, codes, map};
 ghost use Rattle.std.specs.List.{list_any};
 ghost use Rattle.std.specs.Str.{bytes_eq};
 ghost use Rattle.tigertopo_words.specs.CommandLine.{StopsPlanning, may_be_use as may_be_use_of, is_option as is_option_of, first_names};
 ghost use Rattle.tigertopo_words.specs.Escapes.{ShowsNoEscape};
+ghost use Rattle.tigertopo_words.specs.declared.table.Row.{Row};
 
 use crate::stop::WordsStop;
+use crate::table::{Row, rows};
 use std::alloc::Global;
 use std::convert::AsStr;
 
@@ -46,32 +48,17 @@ fn is_option(word: &[u8]) -> bool
 fn is_name(word: &str) -> bool
     ensures { result ≡ list_any (bytes_eq word.now) first_names }
 {
-    is_among(
-        word,
-        &[
-            "show",
-            "landmarks",
-            "locate",
-            "audit",
-            "build",
-            "check",
-            "convert",
-            "export",
-            "draw",
-            "border",
-            "help",
-        ],
-    )
+    is_among(word, rows())
 }
 
-// Whether the word is one of the names.
-fn is_among(word: &str, names: &[&str]) -> bool
-    ensures { result ≡ list_any (bytes_eq word.now) (map (λ name. name.now) names.now) }
+// Whether the word is the name of one of these, or help.
+fn is_among(word: &str, rows: &[Row]) -> bool
+    ensures { result ≡ list_any (bytes_eq word.now) (map (λ (row : Row). row.name.now) rows.now ++ codes "help" ∷ []) }
 {
-    for name in names {
-        if word == *name {
+    for row in rows {
+        if word == row.name {
             return true;
         }
     }
-    false
+    word == "help"
 }

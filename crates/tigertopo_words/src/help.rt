@@ -1,5 +1,7 @@
 //! What the help of the program and of each command says.
 
+use crate::table::Named;
+
 pub const ABOUT: &str = "Checks the topology of TIGER/Line 2006 record files";
 
 pub const EXAMPLES: &str = "\
@@ -26,20 +28,14 @@ Exit status:
   4   memory ran out, a file or the output failed, or the budget is used up
   64  the words are no command";
 
-pub const SHOW_ABOUT: &str =
-    "Prints the TLID and the points of each chain, by rising TLID, and then their counts";
-
-pub const SHOW_EXAMPLE: &str = "\
+const SHOW_EXAMPLE: &str = "\
 Each chain is a line `tlid T X,Y X,Y ..`, in millionths of a degree, and the last line is
 `chains=C segments=S skipped=K`, where K counts the lines that hold no record.
 
 Example:
   tigertopo show TGR24001.RT1 TGR24001.RT2";
 
-pub const LANDMARKS_ABOUT: &str =
-    "Prints each landmark with its polygons, in the order of the landmarks' first records";
-
-pub const LANDMARKS_EXAMPLE: &str = "\
+const LANDMARKS_EXAMPLE: &str = "\
 Each landmark is a line `land N area polygons P P ..` or `land N point X,Y polygons P ..`, where a
 polygon is its CENID (each blank as _), `/` and its POLYID, and no polygon is `none`. The last line
 is `landmarks=K`.
@@ -47,10 +43,7 @@ is `landmarks=K`.
 Example:
   tigertopo landmarks --released TGR24001.RT*";
 
-pub const LOCATE_ABOUT: &str =
-    "Tells where a point lies: on which chain, or in which polygons and landmarks";
-
-pub const LOCATE_EXAMPLE: &str = "\
+const LOCATE_EXAMPLE: &str = "\
 The point is `@`, its longitude, a comma and its latitude, in millionths of a degree, or both in degrees
 with a point and one to six decimals, with no plus and no leading zero. Where a chain runs through it
 the line is `on tlid T`, with the least TLID of those that do. Else it is `in polygons P P .. landmarks
@@ -61,9 +54,7 @@ Examples:
   tigertopo locate @-78762000,39652000 TGR24001.RT*
   tigertopo locate @-78.762,39.652 TGR24001.RT*";
 
-pub const AUDIT_ABOUT: &str = "Decides whether the map is sound, with no certificate given";
-
-pub const AUDIT_EXAMPLE: &str = "\
+const AUDIT_EXAMPLE: &str = "\
 Of a sound map the line is `sound chains=C segments=S nodes=N polygons=P landmarks=L rings=R`. Else it
 is `map fault` with a code, a name and what it is about. No certificate is read, and none is kept.
 
@@ -101,9 +92,7 @@ Examples:
   tigertopo audit --all --json TGR24001.RT*
   tigertopo audit --all --geojson TGR24001.geojson TGR24001.RT*";
 
-pub const BUILD_ABOUT: &str = "Makes a certificate of a sound map, in version 2";
-
-pub const BUILD_EXAMPLE: &str = "\
+const BUILD_EXAMPLE: &str = "\
 Of a sound map the line is `built chains=C segments=S nodes=N polygons=P landmarks=L rings=R`. Else it
 is `map fault` with a code, a name and what it is about, and no file is made or changed. CERT is
 written as CERT.unfinished and takes its name when it is whole, so an old one stays till then. A file
@@ -117,9 +106,7 @@ Examples:
   tigertopo build --out TGR24001.CERT TGR24001.RT*
   tigertopo build --faces --out TGR24001.CERT TGR24001.RT*";
 
-pub const CHECK_ABOUT: &str = "Decides by a certificate whether the map is sound";
-
-pub const CHECK_EXAMPLE: &str = "\
+const CHECK_EXAMPLE: &str = "\
 Of a sound map the line is `sound chains=C segments=S nodes=N polygons=P landmarks=L rings=R`. Else it
 is `map fault` or `certificate fault` with a code, a name and what it is about. Nobody has to trust
 CERT: where it isn't right for the map, that is a fault of the certificate.
@@ -132,9 +119,7 @@ Examples:
   tigertopo check --cert TGR24001.CERT TGR24001.RT*
   tigertopo check --faces --cert TGR24001.CERT TGR24001.RT*";
 
-pub const CONVERT_ABOUT: &str = "Reads a certificate and writes it in version 2";
-
-pub const CONVERT_EXAMPLE: &str = "\
+const CONVERT_EXAMPLE: &str = "\
 The line is `converted nodes=N rounds=M walks=W`; of a text that is no certificate's, `certificate
 fault K1 Text line N` with the line that none has. OUT is written as OUT.unfinished and takes its name
 when it is whole. A file that is no certificate, or is CERT, is not replaced.
@@ -142,9 +127,7 @@ when it is whole. A file that is no certificate, or is CERT, is not replaced.
 Example:
   tigertopo convert OLD.CERT NEW.CERT";
 
-pub const EXPORT_ABOUT: &str = "Writes the map as GeoJSON";
-
-pub const EXPORT_EXAMPLE: &str = "\
+const EXPORT_EXAMPLE: &str = "\
 OUT is a collection of features of RFC 7946, in degrees: each chain as a line with its TLID and the
 polygons on both sides, each polygon's point with its landmarks, where the map is sound each polygon with
 its holes and its area in square millionths of a degree, and each landmark's point; each with `file`, the
@@ -158,9 +141,7 @@ Examples:
   tigertopo export --geojson TGR24001.geojson TGR24001.RT*
   tigertopo export --geojson chains.geojson --layer chains TGR24001.RT*";
 
-pub const DRAW_ABOUT: &str = "Draws the map as a picture for a browser";
-
-pub const DRAW_EXAMPLE: &str = "\
+const DRAW_EXAMPLE: &str = "\
 OUT is a picture in SVG, as wide as the window, of the whole map, or of the place about X,Y that is W
 millionths of a degree wide and high: chains, nodes and polygons' points, and with --faults each fault in red
 with its code, which says what it is, and what to type for a closer picture, where the pointer rests on it;
@@ -173,9 +154,7 @@ Examples:
   tigertopo draw --out TGR24001.svg --faults TGR24001.RT*
   tigertopo draw --out place.svg --at @-78762000,39652000 --width 20000 TGR24001.RT*";
 
-pub const BORDER_ABOUT: &str = "Writes the records of the border of a sound map whose faces agree";
-
-pub const BORDER_EXAMPLE: &str = "\
+const BORDER_EXAMPLE: &str = "\
 The border is the map's chains with a polygon on one side at most. OUT has their records of the types 1, 2
 and I, by rising TLID, with the polygon NAME/1 on each side that has one, and a record of type P, which gives
 it the point of the map's first polygon. NAME is one to five characters of ASCII. OUT is made as that of
@@ -185,48 +164,18 @@ line is `bordered chains=C segments=S`, with the numbers of the border.
 Example:
   tigertopo border --name 24001 --out 24001.border TGR24001.RT*";
 
-pub const NAME: &str = "The name of the border's polygon";
-
-pub const PROGRESS: &str =
-    "Shows how far reading is, once a second, where the error output is a terminal";
-
-pub const WHERE: &str = "Tells behind each fault in which lines of which files its records stand";
-
-pub const JSON: &str =
-    "Tells each fault, or each line that is refused, as an object of JSON, with its records";
-
-pub const LAYER: &str = "Writes features of one kind alone: chains, points, polygons or landmarks";
-
-pub const FAULTS_COLLECTION: &str = "The file of GeoJSON that is made of faults and refused lines";
-
-pub const FACES: &str = "Asks too that sides that face one another name one polygon";
-
-pub const COMPLETE: &str = "Asks too that there are records of each of the types 1, I and P";
-
-pub const FACES_OF_DRAWING: &str =
-    "Draws too where sides that face one another don't name one polygon; needs --faults";
-
-pub const AT: &str =
-    "The middle of what is drawn, in millionths of a degree or in degrees; needs --width";
-
-pub const WIDTH: &str = "How wide and how high that is, in millionths of a degree; needs --at";
-
-pub const FAULTS: &str = "Draws the faults too";
-
-pub const JOIN: &str =
-    "Takes a chain that two counties tell, each with its own side, for one; landmarks are left out";
-
-pub const RELEASED: &str =
-    "Reads type I lines by the columns of the released files, FILE in 6-10 and TLID in 11-20";
-
-pub const ZERO_CELLS: &str =
-    "Reads zero-cell ids of type I lines, TZIDS in 21-30 and TZIDE in 31-40, and tests that they agree";
-
-pub const ALL: &str = "Tells each fault, or each line that is refused, and how many there are";
-
-pub const MOST: &str = "Tells the first N of them, and how many there are; needs --all";
-
-pub const SKIP_REFUSED: &str =
-    "Tells the faults of the records that are left where lines are refused; needs --all";
-
-pub const TESTS: &str = "Stops where more than N pairs of segments would have to be tested";
+/// What is said of the command behind its arguments, and examples of it.
+pub fn example_of(named: &Named) -> &'static str {
+    match named {
+        Named::Show => SHOW_EXAMPLE,
+        Named::Landmarks => LANDMARKS_EXAMPLE,
+        Named::Locate => LOCATE_EXAMPLE,
+        Named::Audit => AUDIT_EXAMPLE,
+        Named::Build => BUILD_EXAMPLE,
+        Named::Check => CHECK_EXAMPLE,
+        Named::Convert => CONVERT_EXAMPLE,
+        Named::Export => EXPORT_EXAMPLE,
+        Named::Draw => DRAW_EXAMPLE,
+        Named::Border => BORDER_EXAMPLE,
+    }
+}

@@ -1,10 +1,20 @@
-//! How the layers of a map are spelt.
+//! The layers of a map, and how they are spelt.
 
 ghost use Rattle.std.specs.Prelude.{◌≡◌, ◌≢◌, Option, MatchOption, option_map};
 ghost use Rattle.tigertopo_words.specs.Arguments.{IsLayer, layer_word};
-ghost use Rattle.tigertopo_shown.specs.declared.layer.Layer.{Layer};
 
-use tigertopo_shown::Layer;
+/// A layer of a map: features of one kind, which a file of GeoJSON can have by themselves.
+#[derive(Clone, Copy)]
+pub enum Layer {
+    /// The chains.
+    Chains,
+    /// The polygons' points.
+    Points,
+    /// The polygons.
+    Polygons,
+    /// The landmarks' points.
+    Landmarks,
+}
 
 /// The layer that was given, if one was. A word that names none has no answer.
 pub fn layer_by(given: Option<&str>) -> Option<Option<Layer>>
@@ -20,8 +30,8 @@ pub fn layer_by(given: Option<&str>) -> Option<Option<Layer>>
     }
 }
 
-// The layer of this name.
-fn layer_named(word: &str) -> Option<Layer>
+/// The layer of this name.
+pub fn layer_named(word: &str) -> Option<Layer>
     ensures { MatchOption result ((layer : Layer) → word.now ≢ layer_word layer) (λ layer. word.now ≡ layer_word layer) }
 {
     match word {

@@ -4,7 +4,7 @@ ghost use Rattle.std.specs.Prelude.{◌≡◌, ◌≢◌, ◌<◌, ◌≤◌, �
 ghost use Rattle.std.specs.Fmt.{signed_decimal};
 ghost use Rattle.tl_geom.specs.declared.point.Point.{Point};
 ghost use Rattle.tigertopo_words.specs.Arguments.{IsPlace};
-ghost use Rattle.tigertopo_shown.specs.Points.{AreDegrees, AreMillionths, Spells, SpellsBy};
+ghost use Rattle.tigertopo_words.specs.Points.{AreDegrees, AreMillionths, Spells, SpellsBy};
 
 use crate::degrees::degrees_of;
 use itoa::Buffer;

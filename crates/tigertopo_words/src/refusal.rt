@@ -5,48 +5,13 @@ ghost use Rattle.clap.specs.Values.{kind_of};
 ghost use Rattle.tigertopo_words.specs.CommandLine.{IsStopOf, IsUsage};
 ghost use Rattle.tigertopo_words.specs.Escapes.{plain_text, HasNoEscape, ShowsNoEscape};
 
-use crate::arguments::is_set;
-use crate::command_line::{Named, subcommand};
-use crate::point::point_of;
+use crate::arguments::{given, is_set};
+use crate::command_line::subcommand;
 use crate::stop::WordsStop;
+use crate::table::{Argument, Kind, Row, named_by, row_of};
 use clap::error::ErrorKind;
 use clap::{ArgMatches, Command, Error};
 use std::alloc::{AllocError, Global};
-
-// How a number of tests or of faults is spelt.
-const SPELLING: &str =
-    "a number from 0 to 18446744073709551615 is wanted, with no sign and no leading zero";
-
-// What is said of a number of faults where there is no --all.
-const NO_ALL: &str = "the argument '--most <N>' needs '--all'";
-
-// What is wrong with --skip-refused beside no --all.
-const NO_ALL_TO_SKIP: &str = "the argument '--skip-refused' needs '--all'";
-
-// What is said of faces where a picture's faults aren't asked for.
-const NO_FAULTS: &str = "the argument '--faces' needs '--faults'";
-
-// What is said of one part of a view where the other isn't given.
-const NO_WIDTH: &str = "the argument '--at <@X,Y>' needs '--width <W>'";
-
-const NO_CENTER: &str = "the argument '--width <W>' needs '--at <@X,Y>'";
-
-// How a layer is spelt.
-const LAYER_SPELLING: &str = "chains, points, polygons or landmarks is wanted";
-
-// How the name of a border's polygon is spelt.
-const NAME_SPELLING: &str =
-    "one to five characters of ASCII are wanted, from the blank to the tilde";
-
-// How the width of a view is spelt.
-const WIDTH_SPELLING: &str =
-    "a number from 1 to 360000000 is wanted, with no sign and no leading zero";
-
-// How a point is spelt.
-const POINT_SPELLING: &str =
-    "@, a longitude from -180000000 to 180000000, a comma and a latitude from -90000000 to \
-    90000000 are wanted, or both in degrees with one to six decimals, as @-78.762,39.652; with \
-    no plus, no leading zero and no -0";
 
 /// Why words of which `clap` gives this error are no command.
 pub fn stop_of(alloc: Global, error: &Error) -> WordsStop
@@ -109,123 +74,55 @@ fn usage_of(
 ) -> Result<String, AllocError>
     ensures { IfOk result HasNoEscape }
 {
-    if let Some(tests) = word_of(matches, "check", "tests") {
-        return misspelt(
-            alloc,
-            &Named::Check,
-            "tigertopo check",
-            "--tests <N>",
-            tests,
-            SPELLING,
-        );
+    if let Some((name, found)) = matches.subcommand() {
+        if let Some(named) = named_by(name) {
+            let row = row_of(&named);
+            if let Some(wrong) = mistake_in(alloc, row, found)? {
+                return refusal_text(alloc, row, wrong.as_str());
+            }
+        }
     }
-    if let Some(point) = word_of(matches, "locate", "point") {
-        return misspelt(
-            alloc,
-            &Named::Locate,
-            "tigertopo locate",
-            "<@X,Y>",
-            point,
-            POINT_SPELLING,
-        );
-    }
-    if let Some(layer) = word_of(matches, "export", "layer") {
-        return misspelt(
-            alloc,
-            &Named::Export,
-            "tigertopo export",
-            "--layer <KIND>",
-            layer,
-            LAYER_SPELLING,
-        );
-    }
-    if let Some(name) = word_of(matches, "border", "name") {
-        return misspelt(
-            alloc,
-            &Named::Border,
-            "tigertopo border",
-            "--name <NAME>",
-            name,
-            NAME_SPELLING,
-        );
-    }
-    usage_of_faults(alloc, command, matches)
+    plain_usage(alloc, command)
 }
 
-// The same of an audit or a picture, or of no word in particular.
-fn usage_of_faults(
+// What is wrong with what is given for the command's arguments: one of them lacks another, or isn't spelt as it has to be.
+fn mistake_in(
     alloc: Global,
-    command: &mut Command<'_>,
-    matches: &ArgMatches<'_>,
-) -> Result<String, AllocError>
-    ensures { IfOk result HasNoEscape }
-{
-    if let Some(most) = word_of(matches, "audit", "most") {
-        return misused_most(alloc, matches, most);
+    row: &Row,
+    found: &ArgMatches<'_>,
+) -> Result<Option<String>, AllocError> {
+    for (argument, other) in row.needs {
+        if is_given(found, argument) && !is_given(found, other) {
+            let lack = format!(in alloc; "the argument '{argument}' needs '{other}'")?;
+            return Ok(Some(lack));
+        }
     }
-    if is_set(word_of(matches, "audit", "skip-refused")) {
-        return refusal_text(alloc, &Named::Audit, "tigertopo audit", NO_ALL_TO_SKIP);
+    for argument in row.arguments {
+        if let Some((word, spelling)) = misspelt(found, argument) {
+            let wrong = format!(in alloc; "invalid value '{word}' for '{argument}': {spelling}")?;
+            return Ok(Some(wrong));
+        }
     }
-    if lacks_faults(matches) {
-        return refusal_text(alloc, &Named::Draw, "tigertopo draw", NO_FAULTS);
-    }
-    match (
-        word_of(matches, "draw", "at"),
-        word_of(matches, "draw", "width"),
-    ) {
-        (Some(center), Some(width)) => misspelt_view(alloc, center, width),
-        (Some(_), None) => refusal_text(alloc, &Named::Draw, "tigertopo draw", NO_WIDTH),
-        (None, Some(_)) => refusal_text(alloc, &Named::Draw, "tigertopo draw", NO_CENTER),
-        (None, None) => plain_usage(alloc, command),
+    Ok(None)
+}
+
+// Whether the argument is given.
+fn is_given(found: &ArgMatches<'_>, argument: &Argument) -> bool {
+    let word = given(found, argument.name);
+    match argument.kind {
+        Kind::Switch => is_set(word),
+        _ => word.is_some(),
     }
 }
 
-// Whether a picture is asked for with faces and without faults.
-fn lacks_faults(matches: &ArgMatches<'_>) -> bool {
-    is_set(word_of(matches, "draw", "faces")) && !is_set(word_of(matches, "draw", "faults"))
-}
-
-// What is wrong with the words of a view: one of them isn't spelt as it has to be.
-fn misspelt_view(alloc: Global, center: &str, width: &str) -> Result<String, AllocError>
-    ensures { IfOk result HasNoEscape }
-{
-    let (argument, value, spelling) = if point_of(center).is_none() {
-        ("--at <@X,Y>", center, POINT_SPELLING)
-    } else {
-        ("--width <W>", width, WIDTH_SPELLING)
-    };
-    misspelt(
-        alloc,
-        &Named::Draw,
-        "tigertopo draw",
-        argument,
-        value,
-        spelling,
-    )
-}
-
-// What is wrong with a number of faults: there is no --all beside it, or it isn't spelt as one.
-fn misused_most(alloc: Global, matches: &ArgMatches<'_>, most: &str) -> Result<String, AllocError>
-    ensures { IfOk result HasNoEscape }
-{
-    if !is_set(word_of(matches, "audit", "all")) {
-        return refusal_text(alloc, &Named::Audit, "tigertopo audit", NO_ALL);
-    }
-    misspelt(
-        alloc,
-        &Named::Audit,
-        "tigertopo audit",
-        "--most <N>",
-        most,
-        SPELLING,
-    )
-}
-
-// The word that was given for an argument of this command, where the words name that.
-fn word_of<'a>(matches: &ArgMatches<'a>, command: &str, argument: &str) -> Option<&'a str> {
-    match matches.subcommand_matches(command) {
-        Some(found) => found.get_str(argument),
-        None => None,
+// The argument's word and how it is spelt, where the word isn't spelt so.
+fn misspelt<'a>(found: &ArgMatches<'a>, argument: &Argument) -> Option<(&'a str, &'static str)> {
+    let word = given(found, argument.name)?;
+    match argument.kind {
+        Kind::Switch => None,
+        Kind::Value(kind) | Kind::Needed(kind) | Kind::Placed(kind) | Kind::Several(kind) => {
+            Some((word, kind.wanted(word)?))
+        }
     }
 }
 
@@ -237,35 +134,22 @@ fn plain_usage(alloc: Global, command: &mut Command<'_>) -> Result<String, Alloc
     without_escapes(alloc, usage.as_str())
 }
 
-// What the command, shown by this name, says of a value of an argument that isn't spelt as it wants.
-fn misspelt(
-    alloc: Global,
-    named: &Named,
-    name: &str,
-    argument: &str,
-    value: &str,
-    spelling: &str,
-) -> Result<String, AllocError>
+// What the command says of what is wrong.
+fn refusal_text(alloc: Global, row: &Row, wrong: &str) -> Result<String, AllocError>
     ensures { IfOk result HasNoEscape }
 {
-    let wrong = format!(in alloc; "invalid value '{value}' for '{argument}': {spelling}")?;
-    refusal_text(alloc, named, name, wrong.as_str())
-}
-
-// The same, of what is wrong.
-fn refusal_text(alloc: Global, named: &Named, name: &str, wrong: &str) -> Result<String, AllocError>
-    ensures { IfOk result HasNoEscape }
-{
-    match shown_as(alloc, named, name) {
+    match shown_as(alloc, row) {
         Ok(mut command) => text_of_mistake(alloc, &mut command, wrong),
         Err(error) => Err(error),
     }
 }
 
-// The command, shown by this name.
-fn shown_as<'a>(alloc: Global, named: &Named, name: &str) -> Result<Command<'a>, AllocError> {
-    match subcommand(alloc, named) {
-        Ok(command) => command.bin_name(name),
+// The command, shown behind the program's name.
+fn shown_as<'a>(alloc: Global, row: &Row) -> Result<Command<'a>, AllocError> {
+    let name = row.name;
+    let shown = format!(in alloc; "tigertopo {name}")?;
+    match subcommand(alloc, row) {
+        Ok(command) => command.bin_name(shown.as_str()),
         Err(error) => Err(error),
     }
 }

@@ -40,8 +40,8 @@ fn seen_by(center: &str, width: &str) -> Option<View>
     Some(View { center, width })
 }
 
-// The width that a word spells.
-fn width_of(word: &str) -> Option<u32>
+/// The width that a word spells.
+pub fn width_of(word: &str) -> Option<u32>
     ensures { MatchOption result ((width : ℕ) → ¬ SpellsWidth word.now width) (SpellsWidth word.now) }
 {
     let Some(width) = number_of(word) else {

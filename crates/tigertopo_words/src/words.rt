@@ -10,18 +10,19 @@ ghost use Rattle.clap.specs.declared.error.kind.ErrorKind.TheVariants.{OutOfMemo
 ghost use Rattle.clap.specs.Walk.{rows_of};
 ghost use Rattle.clap.specs.Matches.{found_of};
 ghost use Rattle.tigertopo_words.specs.Commands.{command_line};
-ghost use Rattle.tigertopo_words.specs.Requests.{request_in, given_by, named_in};
+ghost use Rattle.tigertopo_words.specs.Requests.{given_by};
 ghost use Rattle.tigertopo_words.specs.Asked.{IsCommandOf};
 ghost use Rattle.tigertopo_words.specs.CommandLine.{AskFor, StopsPlanning};
 ghost use Rattle.tigertopo_words.specs.Escapes.{ShowsNoEscape};
 
 use crate::arguments::{files_of, is_watched, options_of};
 use crate::asked::Command;
-use crate::asking::{asked_of, named_by};
-use crate::command_line::{self, Named};
+use crate::asking::asked_of;
+use crate::command_line;
 use crate::first_word::unread;
 use crate::refusal::{misuse, stop_of};
 use crate::stop::WordsStop;
+use crate::table::{Named, named_by};
 use clap::{ArgMatches, Error};
 use std::alloc::{AllocError, Global};
 use std::convert::AsStr;
@@ -98,7 +99,7 @@ fn stop_by<S: AsStr>(alloc: Global, error: &Error, words: &[S]) -> WordsStop
 
 // The command that the matches stand for, where they name one with all that it wants.
 fn command_of(alloc: Global, matches: &ArgMatches<'_>) -> Result<Option<Command>, AllocError>
-    ensures { IfOk result (IsCommandOf (named_in (subcommand_rows_of matches.now))) }
+    ensures { IfOk result (IsCommandOf (subcommand_rows_of matches.now)) }
 {
     match matches.subcommand() {
         Some((name, found)) => command_named(alloc, name, found),
@@ -112,7 +113,7 @@ fn command_named(
     name: &str,
     found: &ArgMatches<'_>,
 ) -> Result<Option<Command>, AllocError>
-    ensures { IfOk result (IsCommandOf (Some (request_in (name.now, rows_of (found_of found.now))))) }
+    ensures { IfOk result (IsCommandOf (Some (name.now, rows_of (found_of found.now)))) }
 {
     match named_by(name) {
         Some(named) => command_with(alloc, &named, found),

@@ -3,10 +3,9 @@ use Rattle.std.specs.Prelude.{ℕ, List, ◌++◌, Option, None, Some, codes, de
 use Rattle.std.specs.Fmt.{signed_decimal}
 use Rattle.tl_geom.specs.declared.point.Point.{Point}
 use Rattle.tl_record_key.specs.KeyText.{key_text}
-use Rattle.tl_map_rules.specs.Messages.{fault_text, lacking_text}
-use Rattle.tl_check_inside.specs.declared.misplaced.Misplaced.{Misplaced}
-use Rattle.tl_check_inside.specs.declared.misplaced.Misplaced.TheVariants.{OnChain, Outside, InOther}
-use Rattle.tl_check_faces.specs.FaultTexts.{rational_text, face_fault_text}
+use Rattle.tl_map_rules.specs.Messages.{limited_text, types_text}
+use Rattle.tl_check_faces.specs.declared.fault.FaceFault.TheVariants.{Facing, Outward}
+use Rattle.tl_check_faces.specs.FaultTexts.{rational_text, named_face_text, way_text}
 use Rattle.tl_tree_index.specs.declared.fault.TreeFault.{TreeFault}
 use Rattle.tl_tree_index.specs.declared.fault.TreeFault.TheVariants.{UnknownIndex, IndexTwice, IndexMissing, RectTooSmall}
 use Rattle.tl_check_sides.specs.declared.fault.RoundFault.{RoundFault}
@@ -14,7 +13,9 @@ use Rattle.tl_check_sides.specs.declared.fault.RoundFault.TheVariants as round
 use Rattle.tl_check_sides.specs.declared.fault.WalkFault.{WalkFault}
 use Rattle.tl_check_sides.specs.declared.fault.WalkFault.TheVariants as walk
 use Rattle.tl_check_verdict.specs.declared.fault.MapFault.{MapFault}
-use Rattle.tl_check_verdict.specs.declared.fault.MapFault.TheVariants.{Records, NoRecords, Meet, Side, PolygonPoint, Cell, Face}
+use Rattle.tl_check_verdict.specs.declared.rows.About.{About}
+use Rattle.tl_check_verdict.specs.declared.rows.About.TheVariants as about
+use Rattle.tl_check_verdict.specs.Rows.{Row, row}
 use Rattle.tl_check_verdict.specs.declared.fault.CertFault.{CertFault}
 use Rattle.tl_check_verdict.specs.declared.fault.CertFault.TheVariants.{Text, Counts, Tree, TooDeep, Round, Walk}
 use Rattle.tl_check_verdict.specs.declared.verdict.Report.{Report}
@@ -27,24 +28,32 @@ segment_text tlid s = codes "tlid " ++ decimal tlid ++ codes " segment " ++ deci
 abbrev pub node_text : Point → List ℕ
 node_text p = signed_decimal p.x ++ codes " " ++ signed_decimal p.y
 
--- what is wrong with where a polygon's point lies
-abbrev pub misplaced_text : Misplaced → List ℕ
-misplaced_text (OnChain polygon tlid) = codes "G3 PointOnChain polygon " ++ key_text polygon ++ codes " tlid " ++ decimal tlid
-misplaced_text (Outside polygon) = codes "G4 PointOutside polygon " ++ key_text polygon
-misplaced_text (InOther polygon other) = codes "G5 PointInOther polygon " ++ key_text polygon ++ codes " other " ++ key_text other
+-- what a fault is about, behind its name
+abbrev pub about_text : About → List ℕ
+about_text (about.Tlid t records) = codes " tlid " ++ decimal t
+about_text (about.Polygon k) = codes " polygon " ++ key_text k
+about_text (about.TlidPolygon t k) = codes " tlid " ++ decimal t ++ codes " polygon " ++ key_text k
+about_text (about.Land n) = codes " land " ++ decimal n
+about_text (about.PolygonLand k n) = codes " polygon " ++ key_text k ++ codes " land " ++ decimal n
+about_text (about.Limit what) = codes " " ++ limited_text what
+about_text (about.Types lacking) = codes " types" ++ types_text lacking
+about_text (about.Meet meet) =
+    codes " " ++ segment_text meet.tlid meet.s ++ codes " " ++ segment_text meet.other meet.t ++ codes " at " ++ rational_text meet.at
+about_text (about.Darts node first next) = codes " at " ++ node_text node ++ codes " darts " ++ decimal first ++ codes " " ++ decimal next
+about_text (about.PolygonTlid k t) = codes " polygon " ++ key_text k ++ codes " tlid " ++ decimal t
+about_text (about.PolygonOther k other) = codes " polygon " ++ key_text k ++ codes " other " ++ key_text other
+about_text (about.Cells odds) =
+    codes " darts " ++ decimal odds.first ++ codes " " ++ decimal odds.second ++ codes " ids " ++ decimal odds.first_id ++ codes " " ++ decimal odds.second_id
+about_text (about.Faces (Facing first last)) = codes " " ++ named_face_text first ++ codes " " ++ named_face_text last
+about_text (about.Faces (Outward face way)) = codes " " ++ named_face_text face ++ codes " outside " ++ way_text way
 
--- the code and the name of a map's fault, with what it is about
+-- the code and the name of a fault, and what it is about
+abbrev pub row_text : Row → List ℕ
+row_text row = row.0 ++ codes " " ++ row.1 ++ about_text row.2
+
+-- the same of a map's fault, behind what each has in front
 abbrev pub map_fault_text : MapFault → List ℕ
-map_fault_text (Records fault) = fault_text fault
-map_fault_text (NoRecords lacking) = lacking_text lacking
-map_fault_text (Meet meet) =
-    codes "map fault G1 Meet " ++ segment_text meet.tlid meet.s ++ codes " " ++ segment_text meet.other meet.t
-    ++ codes " at " ++ rational_text meet.at
-map_fault_text (Side node first next) = codes "map fault G2 Side at " ++ node_text node ++ codes " darts " ++ decimal first ++ codes " " ++ decimal next
-map_fault_text (PolygonPoint fault) = codes "map fault " ++ misplaced_text fault
-map_fault_text (Cell odds) = codes "map fault G6 Cell darts " ++ decimal odds.first ++ codes " " ++ decimal odds.second
-    ++ codes " ids " ++ decimal odds.first_id ++ codes " " ++ decimal odds.second_id
-map_fault_text (Face fault) = face_fault_text fault
+map_fault_text fault = codes "map fault " ++ row_text (row fault)
 
 -- how many polygons are touched by sides that don't agree: of these it isn't looked at whether points lie in them or outside
 abbrev pub touched_words : ℕ → List ℕ

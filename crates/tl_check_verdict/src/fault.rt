@@ -3,6 +3,7 @@
 ghost use Rattle.std.specs.Prelude.{◌≡◌, ◌++◌, codes, decimal};
 ghost use Rattle.tl_check_verdict.specs.Messages.{tree_text, round_text, walk_text};
 
+use crate::rows::row;
 use std::fmt;
 use tl_check_faces::FaceFault;
 use tl_check_inside::Misplaced;
@@ -13,8 +14,7 @@ use tl_geom::Point;
 use tl_map_rules::Lacking;
 use tl_tree_index::TreeFault;
 
-/// Why a map isn't sound, or why records have no map. It is printed as `map fault`, its code and name, and what it is
-/// about: points in millionths of a degree, that of a meet as two numerators and their denominator.
+/// Why a map isn't sound, or why records have no map. It is printed as `map fault` and what [`row`] says of it.
 #[derive(Clone, Copy, PartialEq, Eq)]
 pub enum MapFault {
     /// The records have no map: M1 to M13.
@@ -43,124 +43,14 @@ impl fmt::Display for MapFault {
     ghost output = { λ fault. Some (map_fault_text fault) };
 
     fn fmt<W: fmt::Write>(&self, f: &mut fmt::Formatter<W>) -> fmt::Result {
-        match self {
-            MapFault::Records(fault) => fault.fmt(f),
-            MapFault::NoRecords(lacking) => lacking.fmt(f),
-            MapFault::Meet(meet) => MeetText(*meet).fmt(f),
-            MapFault::Side { node, first, next } => {
-                let text = SideText {
-                    node: *node,
-                    first: *first,
-                    next: *next,
-                };
-                text.fmt(f)
-            }
-            MapFault::PolygonPoint(fault) => PointText(*fault).fmt(f),
-            MapFault::Cell(odds) => CellText(*odds).fmt(f),
-            MapFault::Face(fault) => fault.fmt(f),
-        }
+        let row = row(self);
+        write!(f, "map fault {} {}{}", row.code, row.name, row.about)
     }
 }
 
 impl fmt::Debug for MapFault {
     fn fmt<W: fmt::Write>(&self, f: &mut fmt::Formatter<W>) -> fmt::Result {
         fmt::Display::fmt(self, f)
-    }
-}
-
-// How G1 is printed: the TLID of each chain and the number of its segment, and where they meet.
-#[derive(Clone, Copy)]
-struct MeetText(Meet);
-
-impl fmt::Display for MeetText {
-    ghost use Rattle.std.specs.Prelude.{Some};
-    ghost use Rattle.tl_check_verdict.specs.declared.fault.MapFault.TheVariants.{Meet};
-    ghost use Rattle.tl_check_verdict.specs.Messages.{map_fault_text};
-
-    ghost output = { λ text. Some (map_fault_text (Meet text.0)) };
-
-    fn fmt<W: fmt::Write>(&self, f: &mut fmt::Formatter<W>) -> fmt::Result {
-        let (meet, at) = (self.0, self.0.at);
-        write!(
-            f,
-            "map fault G1 Meet tlid {} segment {} tlid {} segment {} at {} {} {}",
-            meet.tlid, meet.s, meet.other, meet.t, at.x, at.y, at.d
-        )
-    }
-}
-
-// How G2 is printed: the node, and the two darts.
-#[derive(Clone, Copy)]
-struct SideText {
-    node: Point,
-    first: u32,
-    next: u32,
-}
-
-impl fmt::Display for SideText {
-    ghost use Rattle.std.specs.Prelude.{Some};
-    ghost use Rattle.tl_check_verdict.specs.declared.fault.MapFault.TheVariants.{Side};
-    ghost use Rattle.tl_check_verdict.specs.Messages.{map_fault_text};
-
-    ghost output = { λ text. Some (map_fault_text (Side text.node text.first text.next)) };
-
-    fn fmt<W: fmt::Write>(&self, f: &mut fmt::Formatter<W>) -> fmt::Result {
-        let node = self.node;
-        write!(
-            f,
-            "map fault G2 Side at {} {} darts {} {}",
-            node.x, node.y, self.first, self.next
-        )
-    }
-}
-
-// How G3, G4 and G5 are printed: the code and the name of what is wrong with where a polygon's point lies, and the keys.
-#[derive(Clone, Copy)]
-struct PointText(Misplaced);
-
-impl fmt::Display for PointText {
-    ghost use Rattle.std.specs.Prelude.{Some};
-    ghost use Rattle.tl_check_verdict.specs.declared.fault.MapFault.TheVariants.{PolygonPoint};
-    ghost use Rattle.tl_check_verdict.specs.Messages.{map_fault_text};
-
-    ghost output = { λ text. Some (map_fault_text (PolygonPoint text.0)) };
-
-    fn fmt<W: fmt::Write>(&self, f: &mut fmt::Formatter<W>) -> fmt::Result {
-        match self.0 {
-            Misplaced::OnChain { polygon, tlid } => {
-                write!(f, "map fault G3 PointOnChain polygon {polygon} tlid {tlid}")
-            }
-            Misplaced::Outside { polygon } => {
-                write!(f, "map fault G4 PointOutside polygon {polygon}")
-            }
-            Misplaced::InOther { polygon, other } => {
-                write!(
-                    f,
-                    "map fault G5 PointInOther polygon {polygon} other {other}"
-                )
-            }
-        }
-    }
-}
-
-// How G6 is printed: the two darts, and their ids.
-#[derive(Clone, Copy)]
-struct CellText(CellsAtOdds);
-
-impl fmt::Display for CellText {
-    ghost use Rattle.std.specs.Prelude.{Some};
-    ghost use Rattle.tl_check_verdict.specs.declared.fault.MapFault.TheVariants.{Cell};
-    ghost use Rattle.tl_check_verdict.specs.Messages.{map_fault_text};
-
-    ghost output = { λ text. Some (map_fault_text (Cell text.0)) };
-
-    fn fmt<W: fmt::Write>(&self, f: &mut fmt::Formatter<W>) -> fmt::Result {
-        let odds = self.0;
-        write!(
-            f,
-            "map fault G6 Cell darts {} {} ids {} {}",
-            odds.first, odds.second, odds.first_id, odds.second_id
-        )
     }
 }
 

@@ -8,10 +8,12 @@
 mod fault;
 pub mod laws;
 mod reports;
+mod rows;
 mod stop;
 mod verdict;
 
 pub use fault::{CertFault, MapFault};
 pub use reports::report;
+pub use rows::{About, FaultRow, Which, row};
 pub use stop::{fault_of_records, fault_of_text};
 pub use verdict::{Report, Verdict};

@@ -1,134 +1,100 @@
-//! The lines of faults.
+//! What is told of faults: their lines, and the words in them.
 
-ghost use Rattle.std.specs.Prelude.{◌≡◌, ◌+◌, ◌≤◌, ◌++◌, codes, length};
+ghost use Rattle.std.specs.Prelude.{◌≡◌, ◌+◌, ◌≤◌, ◌++◌, length};
 ghost use Rattle.arrayvec.specs.ArrayString.{array_string_len};
-ghost use Rattle.tl_map_rules.specs.Messages.{fault_name, subject_text, fault_text, lacking_text, limited_text};
+ghost use Rattle.tl_map_rules.specs.Messages.{limited_text};
 ghost use Rattle.tl_cert_output.specs.Writing.{line_of};
-ghost use Rattle.tl_check_faces.specs.FaultTexts.{rational_text, side_text, way_text, named_face_text, face_fault_text};
-ghost use Rattle.tl_check_verdict.specs.Messages.{map_fault_text, segment_text, node_text, misplaced_text};
-ghost use Rattle.tl_check_verdict.specs.declared.fault.MapFault.TheVariants.{Meet as MeetFault, Side, PolygonPoint, Cell};
+ghost use Rattle.tl_check_faces.specs.FaultTexts.{rational_text, side_text, way_text, named_face_text};
+ghost use Rattle.tl_check_verdict.specs.Rows.{row};
+ghost use Rattle.tl_check_verdict.specs.Messages.{about_text, row_text, map_fault_text, segment_text, node_text};
+ghost use Rattle.tl_check_verdict.specs.declared.rows.About.TheVariants.{Meet as AboutMeet, Darts, Cells, Faces};
 
 use crate::line::{LINE_ROOM, push_key, push_number};
 use arrayvec::ArrayString;
 use tl_check_faces::{FaceFault, NamedFace, Way};
-use tl_check_inside::Misplaced;
 use tl_check_planar::Meet;
 use tl_check_sides::cells::CellsAtOdds;
-use tl_check_verdict::MapFault;
+use tl_check_verdict::{About, MapFault, row};
 use tl_geom::{Point, Rational};
-use tl_map_rules::{Lacking, Limited};
+use tl_map_rules::Limited;
 use tl_record_key::PolyKey;
 
 /// The line of a fault.
 pub fn fault_line(fault: &MapFault) -> ArrayString<LINE_ROOM>
     ensures { result.bytes ≡ line_of (map_fault_text fault.now) }
 {
-    let mut line = fault_words(fault);
+    let mut line = ArrayString::new();
+    line.push_str("map fault ");
+    push_row(&mut line, fault);
     line.push_str("\n");
     line
 }
 
-// The same, without its end.
-fn fault_words(fault: &MapFault) -> ArrayString<LINE_ROOM>
-    ensures bytes { result.bytes ≡ map_fault_text fault.now }
-    ensures room { array_string_len result ≤ 511 }
+/// The code and the name of a fault, and what it is about.
+pub fn fault_words(fault: &MapFault) -> ArrayString<LINE_ROOM>
+    ensures { result.bytes ≡ row_text (row fault.now) }
 {
-    match fault {
-        MapFault::Records(fault) => record_words(fault),
-        MapFault::NoRecords(lacking) => lacking_words(*lacking),
-        MapFault::Meet(meet) => meet_words(meet),
-        MapFault::Side { node, first, next } => side_words(*node, *first, *next),
-        MapFault::PolygonPoint(misplaced) => misplaced_words(misplaced),
-        MapFault::Cell(odds) => cell_words(odds),
-        MapFault::Face(fault) => face_words(fault),
-    }
+    let mut words = ArrayString::new();
+    push_row(&mut words, fault);
+    words
 }
 
-// M1 to M13: the code and the name, and what the fault is about.
-fn record_words(fault: &tl_map_rules::RecordFault) -> ArrayString<LINE_ROOM>
-    ensures bytes { result.bytes ≡ fault_text fault.now }
-    ensures room { array_string_len result ≤ 500 }
+// Adds the same.
+fn push_row(line: &mut ArrayString<LINE_ROOM>, fault: &MapFault)
+    requires { array_string_len line.old ≤ 10 }
+    ensures bytes { line.new.bytes ≡ line.old.bytes ++ row_text (row fault.now) }
+    ensures room { array_string_len line.new ≤ 520 }
 {
-    let mut line = ArrayString::new();
-    line.push_str("map fault ");
-    line.push_str(record_name(fault));
-    push_subject(&mut line, fault);
-    line
+    let says = row(fault);
+    line.push_str(says.code);
+    line.push_str(" ");
+    line.push_str(says.name);
+    push_about(line, &says.about);
 }
 
-// M14: the types of which there is no record.
-fn lacking_words(lacking: Lacking) -> ArrayString<LINE_ROOM>
-    ensures bytes { result.bytes ≡ lacking_text lacking }
-    ensures room { array_string_len result ≤ 500 }
+// Adds what a fault is about.
+fn push_about(line: &mut ArrayString<LINE_ROOM>, about: &About)
+    requires { array_string_len line.old ≤ 33 }
+    ensures bytes { line.new.bytes ≡ line.old.bytes ++ about_text about.now }
+    ensures room { array_string_len line.new ≤ 520 }
 {
-    let mut line = ArrayString::new();
-    line.push_str("map fault M14 NoRecords types");
-    line.push_str(lacking.types());
-    line
-}
-
-// The code and the name of a fault of the records.
-fn record_name<'a>(fault: &tl_map_rules::RecordFault) -> &'a str
-    ensures name { result.now ≡ fault_name fault.now }
-    ensures short { length result.now ≤ 24 }
-{
-    match fault {
-        tl_map_rules::RecordFault::DuplicateChain { .. } => "M1 DuplicateChain",
-        tl_map_rules::RecordFault::ShapeWithoutChain { .. } => "M2 ShapeWithoutChain",
-        tl_map_rules::RecordFault::ShapeSequence { .. } => "M3 ShapeSequence",
-        tl_map_rules::RecordFault::ShapeGap { .. } => "M4 ShapeGap",
-        tl_map_rules::RecordFault::ChainWithoutSides { .. } => "M5 ChainWithoutSides",
-        tl_map_rules::RecordFault::SidesWithoutChain { .. } => "M6 SidesWithoutChain",
-        tl_map_rules::RecordFault::DuplicateSides { .. } => "M7 DuplicateSides",
-        tl_map_rules::RecordFault::DuplicatePolygon { .. } => "M8 DuplicatePolygon",
-        tl_map_rules::RecordFault::SideWithoutPolygon { .. } => "M9 SideWithoutPolygon",
-        tl_map_rules::RecordFault::LinkWithoutLandmark { .. } => "M10 LinkWithoutLandmark",
-        tl_map_rules::RecordFault::LinkWithoutPolygon { .. } => "M11 LinkWithoutPolygon",
-        tl_map_rules::RecordFault::DegenerateChain { .. } => "M12 DegenerateChain",
-        tl_map_rules::RecordFault::TooMany(_) => "M13 TooMany",
-    }
-}
-
-// Adds what a fault of the records is about.
-fn push_subject(line: &mut ArrayString<LINE_ROOM>, fault: &tl_map_rules::RecordFault)
-    requires { array_string_len line.old ≤ 40 }
-    ensures bytes { line.new.bytes ≡ line.old.bytes ++ subject_text fault.now }
-    ensures room { array_string_len line.new ≤ 400 }
-{
-    match fault {
-        tl_map_rules::RecordFault::DuplicateChain { tlid }
-        | tl_map_rules::RecordFault::ShapeWithoutChain { tlid }
-        | tl_map_rules::RecordFault::ShapeSequence { tlid }
-        | tl_map_rules::RecordFault::ShapeGap { tlid }
-        | tl_map_rules::RecordFault::ChainWithoutSides { tlid }
-        | tl_map_rules::RecordFault::SidesWithoutChain { tlid }
-        | tl_map_rules::RecordFault::DuplicateSides { tlid }
-        | tl_map_rules::RecordFault::DegenerateChain { tlid } => push_number(line, " tlid ", *tlid),
-        tl_map_rules::RecordFault::DuplicatePolygon { polygon } => push_key(
-            line,
-            " polygon ",
-            *polygon,
-        ),
-        tl_map_rules::RecordFault::SideWithoutPolygon { tlid, polygon } => {
+    match about {
+        About::Tlid(tlid, _) => push_number(line, " tlid ", *tlid),
+        About::Polygon(polygon) => push_key(line, " polygon ", *polygon),
+        About::TlidPolygon(tlid, polygon) => {
             push_number(line, " tlid ", *tlid);
             push_key(line, " polygon ", *polygon);
         }
-        tl_map_rules::RecordFault::LinkWithoutLandmark { land } => push_number(
-            line, " land ", *land,
-        ),
-        tl_map_rules::RecordFault::LinkWithoutPolygon { polygon, land } => {
+        About::Land(land) => push_number(line, " land ", *land),
+        About::PolygonLand(polygon, land) => {
             push_key(line, " polygon ", *polygon);
             push_number(line, " land ", *land);
         }
-        tl_map_rules::RecordFault::TooMany(what) => {
+        About::Limit(what) => {
             line.push_str(" ");
             line.push_str(limited_word(*what));
         }
+        About::Types(lacking) => {
+            line.push_str(" types");
+            line.push_str(lacking.types());
+        }
+        About::Meet(meet) => push_meet(line, meet),
+        About::Darts { node, first, next } => push_darts(line, *node, *first, *next),
+        About::PolygonTlid(polygon, tlid) => {
+            push_key(line, " polygon ", *polygon);
+            push_number(line, " tlid ", *tlid);
+        }
+        About::PolygonOther(polygon, other) => {
+            push_key(line, " polygon ", *polygon);
+            push_key(line, " other ", *other);
+        }
+        About::Cells(odds) => push_cells(line, odds),
+        About::Faces(fault) => push_faces(line, fault),
     }
 }
 
-// What there are too many of.
-fn limited_word<'a>(what: Limited) -> &'a str
+/// What there are too many of.
+pub fn limited_word(what: Limited) -> &'static str
     ensures word { result.now ≡ limited_text what }
     ensures short { length result.now ≤ 9 }
 {
@@ -140,19 +106,18 @@ fn limited_word<'a>(what: Limited) -> &'a str
     }
 }
 
-// G1: the TLID of each chain and the number of its segment, and where they meet.
-fn meet_words(meet: &Meet) -> ArrayString<LINE_ROOM>
-    ensures bytes { result.bytes ≡ map_fault_text (MeetFault meet.now) }
-    ensures room { array_string_len result ≤ 500 }
+// Adds two segments, and where they meet.
+fn push_meet(line: &mut ArrayString<LINE_ROOM>, meet: &Meet)
+    requires { array_string_len line.old ≤ 33 }
+    ensures bytes { line.new.bytes ≡ line.old.bytes ++ about_text (AboutMeet meet.now) }
+    ensures room { array_string_len line.new ≤ 500 }
 {
-    let mut line = ArrayString::new();
-    line.push_str("map fault G1 Meet ");
-    push_segment(&mut line, meet.tlid, meet.s);
     line.push_str(" ");
-    push_segment(&mut line, meet.other, meet.t);
+    push_segment(line, meet.tlid, meet.s);
+    line.push_str(" ");
+    push_segment(line, meet.other, meet.t);
     line.push_str(" at ");
-    push_rational(&mut line, &meet.at);
-    line
+    push_rational(line, &meet.at);
 }
 
 // Adds a segment: the TLID of its chain, and its number among all segments.
@@ -167,7 +132,7 @@ fn push_segment(line: &mut ArrayString<LINE_ROOM>, tlid: u64, number: u32)
 
 // Adds a rational point: two numerators and their denominator.
 fn push_rational(line: &mut ArrayString<LINE_ROOM>, at: &Rational)
-    requires { array_string_len line.old ≤ 388 }
+    requires { array_string_len line.old ≤ 400 }
     ensures bytes { line.new.bytes ≡ line.old.bytes ++ rational_text at.now }
     ensures room { array_string_len line.new ≤ array_string_len line.old + 122 }
 {
@@ -176,17 +141,16 @@ fn push_rational(line: &mut ArrayString<LINE_ROOM>, at: &Rational)
     push_number(line, " ", at.d);
 }
 
-// G2: the node, and the two darts.
-fn side_words(node: Point, first: u32, next: u32) -> ArrayString<LINE_ROOM>
-    ensures bytes { result.bytes ≡ map_fault_text (Side node first next) }
-    ensures room { array_string_len result ≤ 500 }
+// Adds a node, and two darts there.
+fn push_darts(line: &mut ArrayString<LINE_ROOM>, node: Point, first: u32, next: u32)
+    requires { array_string_len line.old ≤ 33 }
+    ensures bytes { line.new.bytes ≡ line.old.bytes ++ about_text (Darts node first next) }
+    ensures room { array_string_len line.new ≤ 500 }
 {
-    let mut line = ArrayString::new();
-    line.push_str("map fault G2 Side at ");
-    push_node(&mut line, node);
-    push_number(&mut line, " darts ", first);
-    push_number(&mut line, " ", next);
-    line
+    line.push_str(" at ");
+    push_node(line, node);
+    push_number(line, " darts ", first);
+    push_number(line, " ", next);
 }
 
 // Adds the point of a node: its longitude and its latitude.
@@ -199,66 +163,42 @@ fn push_node(line: &mut ArrayString<LINE_ROOM>, node: Point)
     push_number(line, " ", node.y);
 }
 
-// G3, G4 and G5: what is wrong with where a polygon's point lies, and the keys.
-fn misplaced_words(misplaced: &Misplaced) -> ArrayString<LINE_ROOM>
-    ensures bytes { result.bytes ≡ map_fault_text (PolygonPoint misplaced.now) }
-    ensures room { array_string_len result ≤ 500 }
+// Adds two darts, and their ids.
+fn push_cells(line: &mut ArrayString<LINE_ROOM>, odds: &CellsAtOdds)
+    requires { array_string_len line.old ≤ 33 }
+    ensures bytes { line.new.bytes ≡ line.old.bytes ++ about_text (Cells odds.now) }
+    ensures room { array_string_len line.new ≤ 500 }
 {
-    let mut line = ArrayString::new();
-    match misplaced {
-        Misplaced::OnChain { polygon, tlid } => {
-            push_key(&mut line, "map fault G3 PointOnChain polygon ", *polygon);
-            push_number(&mut line, " tlid ", *tlid);
-        }
-        Misplaced::Outside { polygon } => {
-            push_key(&mut line, "map fault G4 PointOutside polygon ", *polygon);
-        }
-        Misplaced::InOther { polygon, other } => {
-            push_key(&mut line, "map fault G5 PointInOther polygon ", *polygon);
-            push_key(&mut line, " other ", *other);
-        }
-    }
-    line
+    push_number(line, " darts ", odds.first);
+    push_number(line, " ", odds.second);
+    push_number(line, " ids ", odds.first_id);
+    push_number(line, " ", odds.second_id);
 }
 
-// G6: the two darts, and their ids.
-fn cell_words(odds: &CellsAtOdds) -> ArrayString<LINE_ROOM>
-    ensures bytes { result.bytes ≡ map_fault_text (Cell odds.now) }
-    ensures room { array_string_len result ≤ 500 }
+// Adds what each of two segments names toward the other, or one alone toward the outside, and the way there.
+fn push_faces(line: &mut ArrayString<LINE_ROOM>, fault: &FaceFault)
+    requires { array_string_len line.old ≤ 33 }
+    ensures bytes { line.new.bytes ≡ line.old.bytes ++ about_text (Faces fault.now) }
+    ensures room { array_string_len line.new ≤ 520 }
 {
-    let mut line = ArrayString::new();
-    push_number(&mut line, "map fault G6 Cell darts ", odds.first);
-    push_number(&mut line, " ", odds.second);
-    push_number(&mut line, " ids ", odds.first_id);
-    push_number(&mut line, " ", odds.second_id);
-    line
-}
-
-// G7: what each of two segments names toward the other, or one alone toward the outside, and the way there.
-fn face_words(fault: &FaceFault) -> ArrayString<LINE_ROOM>
-    ensures bytes { result.bytes ≡ face_fault_text fault.now }
-    ensures room { array_string_len result ≤ 511 }
-{
-    let mut line = ArrayString::new();
-    line.push_str("map fault G7 FaceDisagree ");
+    line.push_str(" ");
     match fault {
         FaceFault::Facing { first, last } => {
-            push_face(&mut line, first);
+            push_face(line, first);
             line.push_str(" ");
-            push_face(&mut line, last);
+            push_face(line, last);
         }
         FaceFault::Outward { face, way } => {
-            push_face(&mut line, face);
+            push_face(line, face);
             line.push_str(" outside ");
             line.push_str(way_word(*way));
         }
     }
-    line
 }
 
 // Adds a face: the TLID of its chain, what it names, and a place of it.
 fn push_face(line: &mut ArrayString<LINE_ROOM>, face: &NamedFace)
-    requires { array_string_len line.old ≤ 268 }
+    requires { array_string_len line.old ≤ 280 }
     ensures bytes { line.new.bytes ≡ line.old.bytes ++ named_face_text face.now }
     ensures room { array_string_len line.new ≤ array_string_len line.old + 241 }
 {
@@ -271,7 +211,7 @@ fn push_face(line: &mut ArrayString<LINE_ROOM>, face: &NamedFace)
 
 // Adds a polygon, or that it is the outside.
 fn push_side(line: &mut ArrayString<LINE_ROOM>, polygon: Option<PolyKey>)
-    requires { array_string_len line.old ≤ 320 }
+    requires { array_string_len line.old ≤ 330 }
     ensures bytes { line.new.bytes ≡ line.old.bytes ++ side_text polygon }
     ensures room { array_string_len line.new ≤ array_string_len line.old + 69 }
 {
@@ -281,8 +221,8 @@ fn push_side(line: &mut ArrayString<LINE_ROOM>, polygon: Option<PolyKey>)
     }
 }
 
-// The word of a way.
-fn way_word<'a>(way: Way) -> &'a str
+/// The word of a way.
+pub fn way_word(way: Way) -> &'static str
     ensures word { result.now ≡ way_text way }
     ensures short { length result.now ≤ 4 }
 {

@@ -1,7 +1,7 @@
 //! The answer where all that is wrong with a county is asked for, and how it is printed.
 //!
-//! A [`Listing`] says that the county is sound, or has all its faults or all its lines that are refused. [`print_listing`]
-//! says exactly which bytes are written of it, and an error comes exactly where a write failed.
+//! A [`Listing`] says that the county is sound, or has all its faults or all its lines that are refused. [`add_listing`]
+//! says exactly which bytes it adds to what is printed.
 //!
 //! Nothing here takes memory.
 #![tactic(auto)]
@@ -11,7 +11,7 @@ mod line;
 mod listing;
 mod print;
 
-pub use faults::fault_line;
+pub use faults::{fault_line, fault_words, limited_word, way_word};
 pub use line::{LINE_ROOM, push_key, push_number};
 pub use listing::Listing;
-pub use print::{first_of, print_listing, text_of_end};
+pub use print::{add_listing, first_of, text_of_end};

@@ -10,11 +10,11 @@ use itoa::{Buffer, Integer};
 use tl_record::PolyKey;
 
 /// More bytes than a line may have: what adds to one requires that there is room, so none is cut.
-pub const LINE_ROOM: usize = 512;
+pub const LINE_ROOM: usize = 576;
 
 /// Adds a word and a number.
 pub fn push_number<I: Integer>(line: &mut ArrayString<LINE_ROOM>, word: &str, number: I)
-    requires { array_string_len line.old + length word.now ≤ 470 }
+    requires { array_string_len line.old + length word.now ≤ 530 }
     ensures bytes { line.new.bytes ≡ line.old.bytes ++ word.now ++ I.text number }
     ensures room { array_string_len line.new ≤ array_string_len line.old + length word.now + 40 }
 {

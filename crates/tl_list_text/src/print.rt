@@ -1,10 +1,8 @@
 //! Listings on their way out.
 
-ghost use Rattle.std.specs.Prelude.{◌≡◌, ◌≤◌, ◌++◌, None, IfErr, codes, length};
+ghost use Rattle.std.specs.Prelude.{◌≡◌, ◌≤◌, ◌++◌, None, codes, length};
 ghost use Rattle.arrayvec.specs.ArrayString.{array_string_len};
-ghost use Rattle.tl_cert_output.specs.declared.stop.Stop.TheVariants.{Device};
 ghost use Rattle.tl_cert_output.specs.Printing.{Prints};
-ghost use Rattle.tl_cert_output.specs.Texts.{PrintsText};
 ghost use Rattle.tl_check_verdict.specs.Messages.{map_fault_text};
 ghost use Rattle.tl_list_text.specs.declared.listing.Listing.TheVariants.{Sound};
 ghost use Rattle.tl_list_text.specs.Texts.{lines, told_refusal, printed, printed_text, touched_text, count_line, listing_text};
@@ -13,23 +11,18 @@ use crate::faults::fault_line;
 use crate::line::{LINE_ROOM, push_number};
 use crate::listing::Listing;
 use arrayvec::ArrayString;
-use tl_cert_output::{Printer, Stop, refusal_line};
+use tl_cert_output::{Printer, refusal_line};
 use tl_check_verdict::{MapFault, Report};
 use tl_record::{Refusal, Sink};
 
-/// Prints the line of a sound county, or a line for each fault or refusal and how many there are; where a number is given, only
-/// so many of their lines, and how many those are. The error is that a write failed.
-pub fn print_listing<S: Sink>(listing: &Listing, most: Option<u64>, out: &mut S) -> Result<(), Stop>
-    ensures prints { PrintsText S.contents S.failure_count out.old out.new (listing_text most listing.now) result }
-    ensures stop { IfErr result (λ stop. stop ≡ Device) }
-{
-    let mut printer = Printer::new();
-    print_lines(listing, most, &mut printer, out);
-    printer.finish(out)
-}
-
-// Prints the same.
-fn print_lines<S: Sink>(listing: &Listing, most: Option<u64>, printer: &mut Printer, out: &mut S)
+/// Adds the line of a sound county, or a line for each fault or refusal and how many there are; where a number is given, only
+/// so many of their lines, and how many those are.
+pub fn add_listing<S: Sink>(
+    listing: &Listing,
+    most: Option<u64>,
+    printer: &mut Printer,
+    out: &mut S,
+)
     ensures { Prints S.contents S.failure_count (out.old, printer.old) (out.new, printer.new)
         (listing_text most listing.now) }
 {

@@ -13,7 +13,7 @@ use Rattle.tl_map_join.specs.Told.{joined_records}
 use Rattle.tl_map_county.specs.TheMap.{TheMap}
 use Rattle.tl_map_rules.specs.MapOf.{IsMapOf}
 use Rattle.tl_check_parts.specs.Sound.{IsSoundWithFaces, AreSoundWithFaces}
-use Rattle.tigertopo_text.specs.Joining.{joined}
+use Rattle.tigertopo_files.specs.Joining.{joined}
 use Rattle.tigertopo_border.specs.Parts.{is_of_no_landmark, without_landmarks, all_records, HaveNoFaultButMany}
 use Rattle.tigertopo_border.specs.InParts.{joining, line_records, records_together, border_texts, IsDrawnTogether, AreReadApart, AreNames, EmptyComeLast, IsDrawnInParts}
 use Rattle.tigertopo_border.proofs.Joining.SeveralLemmas.{all_at}

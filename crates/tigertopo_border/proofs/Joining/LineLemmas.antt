@@ -24,7 +24,7 @@ use Rattle.tl_record.specs.Judgement.{number_at, point_at, sequence_number, shap
 use Rattle.tl_record.specs.Records.{Records, records_judged, judgements, records_of_lines, lines_read}
 use Rattle.tl_record.proofs.RecordLemmas.{records_passed, records_read, records_refused}
 use Rattle.tl_map_rules.specs.Reading.{records_in}
-use Rattle.tigertopo_where.specs.LinePlaces.{lines_of_all}
+use Rattle.tigertopo_faults.specs.Places.LinePlaces.{lines_of_all}
 use Rattle.tigertopo_border.specs.Parts.{is_of_no_landmark, without_landmarks, all_records}
 use Rattle.tigertopo_border.specs.InParts.{joining, line_records}
 

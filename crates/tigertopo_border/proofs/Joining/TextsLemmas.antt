@@ -12,9 +12,9 @@ use Rattle.tl_map_county.specs.TheMap.{TheMap}
 use Rattle.tl_map_rules.specs.MapOf.{IsMapOf}
 use Rattle.tl_map_rules.specs.Reading.{records_in}
 use Rattle.tl_check_parts.specs.Joined.{IsJoined}
-use Rattle.tigertopo_text.specs.Joining.{joined}
-use Rattle.tigertopo_where.specs.LinePlaces.{lines_of_all}
-use Rattle.tigertopo_where.proofs.PlaceLemmas.{joined_lines_are}
+use Rattle.tigertopo_files.specs.Joining.{joined}
+use Rattle.tigertopo_faults.specs.Places.LinePlaces.{lines_of_all}
+use Rattle.tigertopo_faults.proofs.PlaceLemmas.{joined_lines_are}
 use Rattle.tigertopo_border.specs.Parts.{all_records, homes_of, joined_if, DrawParts, HaveNoFaultButMany}
 use Rattle.tigertopo_border.specs.InParts.{joining, line_records, IsDrawnTogether, IsReadTogether, AreReadApart}
 use Rattle.tigertopo_border.proofs.Joining.DrawnLemmas.{item_beside}

@@ -14,8 +14,8 @@ use Rattle.tl_map_county.specs.declared.polygons.Polygon.{Polygon}
 use Rattle.tl_map_county.specs.declared.sides.Side.{Side}
 use Rattle.tl_geom.specs.declared.point.Point.{Point}
 use Rattle.tl_map_county.specs.TheMap.{TheMap, MapChain, IsChain}
-use Rattle.tigertopo_geojson.specs.Features.{chain_feature}
-use Rattle.tigertopo_geojson.proofs.TextLemmas.{each_next}
+use Rattle.tigertopo_pictures.specs.Geojson.Features.{chain_feature}
+use Rattle.tigertopo_pictures.proofs.GeojsonLemmas.TextLemmas.{each_next}
 use Rattle.tigertopo_faults.specs.Geojson.Texts.{is_among, named_chain, chains_text}
 
 -- a number that lies between those before a place and those from it on is none of them

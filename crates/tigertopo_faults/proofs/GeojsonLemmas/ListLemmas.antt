@@ -7,9 +7,9 @@ use Rattle.std.proofs.lemmas.Option.{slice_get-map, slice_get-get_or}
 use Rattle.std.specs.List.{flat_map}
 use Rattle.std.proofs.lemmas.List.{take_all}
 use Rattle.std.proofs.lemmas.Grind.{flat_map-append}
-use Rattle.tigertopo_geojson.specs.Features.{separated}
+use Rattle.tigertopo_pictures.specs.Items.{separated}
 use Rattle.tigertopo_faults.specs.Geojson.Named.{Pair, listed}
-use Rattle.tigertopo_geojson.proofs.TextLemmas.{each_at}
+use Rattle.tigertopo_pictures.proofs.GeojsonLemmas.TextLemmas.{each_at}
 
 module _ {X : Type 0} (text : X → List ℕ) where
   -- an item behind a comma

@@ -1,18 +1,18 @@
 -- Lines that are held are those of the text, which is that of the files that are read again.
 use Rattle.std.proofs.Common.{◌⊎◌, ℕ, List, Option, None, Some, IfSome, Result, Ok, Err, IfOk, IfErr, subst, inl, inr}
 use Rattle.std.specs.Prelude.{IsSomeAnd}
-use Rattle.tigertopo_text.specs.Joining.{joined}
-use Rattle.tigertopo_text.proofs.JoiningLemmas.{joined_bytes-known}
+use Rattle.tigertopo_files.specs.Joining.{joined}
+use Rattle.tigertopo_files.proofs.JoiningLemmas.{joined_bytes-known}
 use Rattle.tigertopo_files.specs.Files.{bytes_under}
 use Rattle.tigertopo_files.specs.Reading.{DoesAgain, text_under}
 use Rattle.tigertopo_files.specs.World.{World, Failed}
 use Rattle.tl_cert_output.specs.declared.stop.Stop.{Stop}
 use Rattle.tl_cert_output.specs.Stops.{StopsFor}
 use Rattle.tl_cert_output.proofs.StopLemmas.{stops_for}
-use Rattle.tigertopo_where.specs.Hint.Again.{FailsAgain}
-use Rattle.tigertopo_where.specs.Hint.Telling.{HaveTexts}
-use Rattle.tigertopo_where.proofs.HintLemmas.HintLemmas.{none_passing}
-use Rattle.tigertopo_where.proofs.HintLemmas.AgainLemmas.{stops_again}
+use Rattle.tigertopo_faults.specs.Hint.Again.{FailsAgain}
+use Rattle.tigertopo_faults.specs.Hint.Telling.{HaveTexts}
+use Rattle.tigertopo_faults.proofs.HintLemmas.HintLemmas.{none_passing}
+use Rattle.tigertopo_faults.proofs.HintLemmas.AgainLemmas.{stops_again}
 
 -- ---- files that are read as one text once more
 

@@ -6,9 +6,9 @@ use Rattle.tl_check_verdict.specs.declared.fault.MapFault.{MapFault}
 use Rattle.tl_check_verdict.specs.declared.fault.MapFault.TheVariants.{Records, NoRecords, Meet, Side, PolygonPoint, Cell, Face}
 use Rattle.tl_check_planar.specs.declared.meet.Meet.{Meet as TheMeet}
 use Rattle.tl_map_county.specs.TheMap.{MapChain}
-use Rattle.tigertopo_records.specs.declared.subject.Subject.{Subject}
-use Rattle.tigertopo_records.specs.declared.line.RecordLine.{RecordLine}
-use Rattle.tigertopo_records.specs.SpokenOf.{Subjects, subjects_of}
+use Rattle.tigertopo_faults.specs.declared.records.subject.Subject.{Subject}
+use Rattle.tigertopo_faults.specs.declared.records.line.RecordLine.{RecordLine}
+use Rattle.tigertopo_faults.specs.Records.SpokenOf.{Subjects, subjects_of}
 use Rattle.tigertopo_faults.specs.Lines.Places.{place_at}
 use Rattle.tigertopo_faults.specs.Lines.Texts.{lines_for, placed_fault_text, placed_faults_text, record_line_text, record_lines_text, spoken_of}
 

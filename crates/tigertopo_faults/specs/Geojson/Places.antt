@@ -1,7 +1,7 @@
 -- Where a fault lies.
 use Rattle.std.specs.Prelude.{ℕ, List, ◌++◌, Option, None, Some, codes, if◌then◌else◌}
 use Rattle.tl_geom.specs.declared.rational.Rational.{Rational}
-use Rattle.tigertopo_where.specs.Degrees.{degrees_text, is_in_reach}
+use Rattle.tigertopo_faults.specs.Places.Degrees.{degrees_text, is_in_reach}
 use Rattle.tl_check_faces.specs.FaultTexts.{rational_text}
 
 -- a position: the longitude, then the latitude, in degrees with twelve places

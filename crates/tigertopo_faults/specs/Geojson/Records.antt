@@ -5,15 +5,15 @@ use Rattle.tl_record.specs.declared.record.Record.{Record}
 use Rattle.tl_record.specs.declared.record.Record.TheVariants.{Chain, Shape, Sides, PolyPoint, Landmark, AreaLink}
 use Rattle.tl_map_county.specs.TheMap.{MapChain}
 use Rattle.tl_check_verdict.specs.declared.fault.MapFault.{MapFault}
-use Rattle.tigertopo_where.specs.LinePlaces.{place_of}
-use Rattle.tigertopo_records.specs.declared.line.RecordLine.{RecordLine}
-use Rattle.tigertopo_records.specs.declared.subject.Subject.{Subject}
-use Rattle.tigertopo_records.specs.declared.line.SegmentEnds.{SegmentEnds}
-use Rattle.tigertopo_records.specs.declared.line.Part.{Part}
-use Rattle.tigertopo_records.specs.declared.line.Part.TheVariants.{Start, Pair, End}
+use Rattle.tigertopo_faults.specs.Places.LinePlaces.{place_of}
+use Rattle.tigertopo_faults.specs.declared.records.line.RecordLine.{RecordLine}
+use Rattle.tigertopo_faults.specs.declared.records.subject.Subject.{Subject}
+use Rattle.tigertopo_faults.specs.declared.records.line.SegmentEnds.{SegmentEnds}
+use Rattle.tigertopo_faults.specs.declared.records.line.Part.{Part}
+use Rattle.tigertopo_faults.specs.declared.records.line.Part.TheVariants.{Start, Pair, End}
 use Rattle.tigertopo_faults.specs.Lines.Texts.{spoken_of}
-use Rattle.tigertopo_shown.specs.Json.{string_text}
-use Rattle.tigertopo_geojson.specs.Features.{separated}
+use Rattle.tigertopo_words.specs.Json.{string_text}
+use Rattle.tigertopo_pictures.specs.Items.{separated}
 
 -- a record's type
 abbrev pub type_text : Record → List ℕ

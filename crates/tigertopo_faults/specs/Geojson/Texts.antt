@@ -5,40 +5,42 @@ use Rattle.std.specs.List.{flat_map, list_any}
 use Rattle.tl_map_county.specs.declared.polygons.Polygon.{Polygon}
 use Rattle.tl_map_county.specs.TheMap.{TheMap, MapChain}
 use Rattle.tl_check_verdict.specs.declared.fault.MapFault.{MapFault}
-use Rattle.tigertopo_records.specs.declared.line.RecordLine.{RecordLine}
-use Rattle.tigertopo_records.specs.declared.subject.Subject.{Subject}
-use Rattle.tigertopo_records.specs.SpokenOf.{chains_of}
+use Rattle.tl_check_verdict.specs.declared.rows.About.{About}
+use Rattle.tl_check_verdict.specs.Rows.{Row, row}
+use Rattle.tl_check_verdict.specs.Messages.{row_text}
+use Rattle.tigertopo_faults.specs.declared.records.line.RecordLine.{RecordLine}
+use Rattle.tigertopo_faults.specs.declared.records.subject.Subject.{Subject}
+use Rattle.tigertopo_faults.specs.Records.SpokenOf.{chains_of}
 use Rattle.tl_geom.specs.declared.rational.Rational.{Rational}
 use Rattle.tigertopo_faults.specs.Lines.Places.{place_at}
-use Rattle.tigertopo_shown.specs.Json.{string_text}
-use Rattle.tigertopo_geojson.specs.Strings.{key_string}
-use Rattle.tigertopo_geojson.specs.Features.{separated, features_below, chain_text, collection_opening, collection_closing}
+use Rattle.tigertopo_words.specs.Json.{string_text}
+use Rattle.tigertopo_pictures.specs.Geojson.Strings.{key_string}
+use Rattle.tigertopo_pictures.specs.Geojson.Features.{features_below, chain_text, collection_opening, collection_closing}
+use Rattle.tigertopo_pictures.specs.Items.{separated}
 use Rattle.tigertopo_faults.specs.Geojson.Named.{listed, tlids_of, keys_of, land_of}
-use Rattle.tigertopo_where.specs.Words.{first_word, behind_word}
-use Rattle.tigertopo_faults.specs.Geojson.Words.{told_text}
 use Rattle.tigertopo_faults.specs.Geojson.Places.{geometry_text, exact_text}
 use Rattle.tigertopo_faults.specs.Geojson.Records.{spoken_lines, records_text}
 
 -- the code, the name and the text of a fault
-unfoldable pub words_text : List ℕ → List ℕ
-words_text told =
-    codes "\"code\":" ++ string_text (first_word told) ++ codes ",\"name\":" ++ string_text (first_word (behind_word told))
-    ++ codes ",\"fault\":" ++ string_text told
+unfoldable pub words_text : Row → List ℕ
+words_text row =
+    codes "\"code\":" ++ string_text row.0 ++ codes ",\"name\":" ++ string_text row.1
+    ++ codes ",\"fault\":" ++ string_text (row_text row)
 
 -- the TLIDs, the keys and the LAND that a fault names
-unfoldable pub names_text : List MapChain → MapFault → List ℕ
-names_text chains fault =
-    codes "\"tlids\":[" ++ separated decimal (listed (tlids_of chains fault))
-    ++ codes "],\"polygons\":[" ++ separated key_string (listed (keys_of fault))
-    ++ codes "],\"landmarks\":[" ++ separated decimal (option_to_list (land_of fault)) ++ codes "]"
+unfoldable pub names_text : List MapChain → About → List ℕ
+names_text chains about =
+    codes "\"tlids\":[" ++ separated decimal (listed (tlids_of chains about))
+    ++ codes "],\"polygons\":[" ++ separated key_string (listed (keys_of about))
+    ++ codes "],\"landmarks\":[" ++ separated decimal (option_to_list (land_of about)) ++ codes "]"
 
 -- a fault: the point where it lies, its words, what it names and the records that it speaks of
 unfoldable pub fault_text : List (List ℕ) → List ℕ → List MapChain → (Subject → List RecordLine) → Option Rational → MapFault → List ℕ
 fault_text names counts chains about at fault =
     codes "{\"type\":\"Feature\",\"geometry\":" ++ geometry_text at
-    ++ codes ",\"properties\":{" ++ words_text (told_text fault)
+    ++ codes ",\"properties\":{" ++ words_text (row fault)
     ++ codes ",\"at\":" ++ exact_text at
-    ++ codes "," ++ names_text chains fault ++ records_text names counts (spoken_lines chains about fault) ++ codes "}}"
+    ++ codes "," ++ names_text chains (row fault).2 ++ records_text names counts (spoken_lines chains about fault) ++ codes "}}"
 
 -- the fault with this number, at the place with it
 abbrev pub fault_feature : List (List ℕ) → List ℕ → List MapChain → (Subject → List RecordLine) → List (Option Rational) → List MapFault → ℕ → List ℕ
@@ -46,7 +48,7 @@ fault_feature names counts chains about places faults n = option_map_or (fault_t
 
 -- the TLIDs that faults name
 abbrev pub named_tlids : List MapChain → List MapFault → List ℕ
-named_tlids chains faults = flat_map (λ fault. listed (tlids_of chains fault)) faults
+named_tlids chains faults = flat_map (λ fault. listed (tlids_of chains (row fault).2)) faults
 
 -- is a TLID one of these
 abbrev pub is_among : ℕ → List ℕ → Bool

@@ -2,15 +2,15 @@
 use Rattle.std.specs.Prelude.{◌≡◌, ℕ, List, Option, IsSomeAnd, map}
 use Rattle.tl_record.specs.declared.layout.Layout.{Layout}
 use Rattle.tl_record.specs.Records.{lines_read}
-use Rattle.tigertopo_text.specs.Joining.{joined}
+use Rattle.tigertopo_files.specs.Joining.{joined}
 use Rattle.tl_map_county.specs.TheMap.{TheMap, MapChain}
 use Rattle.tigertopo_files.specs.Files.{Under}
 use Rattle.tl_check_verdict.specs.declared.fault.MapFault.{MapFault}
-use Rattle.tigertopo_where.specs.LinePlaces.{line_count}
+use Rattle.tigertopo_faults.specs.Places.LinePlaces.{line_count}
 use Rattle.tl_record.specs.Left.{left_from}
-use Rattle.tigertopo_where.specs.Hint.Telling.{HaveTexts}
-use Rattle.tigertopo_records.specs.Finding.{HoldsAll}
-use Rattle.tigertopo_records.specs.SpokenOf.{chains_of}
+use Rattle.tigertopo_faults.specs.Hint.Telling.{HaveTexts}
+use Rattle.tigertopo_faults.specs.Records.Finding.{HoldsAll}
+use Rattle.tigertopo_faults.specs.Records.SpokenOf.{chains_of}
 use Rattle.tigertopo_faults.specs.Lines.Places.{fault_place}
 use Rattle.tigertopo_faults.specs.declared.lines.again.HeldLines.{HeldLines}
 use Rattle.tigertopo_faults.specs.declared.lines.again.Spoken.{Spoken}

@@ -14,7 +14,7 @@ use Rattle.tl_check_inside.specs.declared.misplaced.Misplaced.TheVariants.{OnCha
 use Rattle.tl_check_faces.specs.declared.fault.FaceFault.TheVariants.{Facing, Outward}
 use Rattle.tl_check_verdict.specs.declared.fault.MapFault.{MapFault}
 use Rattle.tl_check_verdict.specs.declared.fault.MapFault.TheVariants.{Records, NoRecords, Meet, Side, PolygonPoint, Cell, Face}
-use Rattle.tigertopo_records.specs.SpokenOf.{chains_of}
+use Rattle.tigertopo_faults.specs.Records.SpokenOf.{chains_of}
 
 -- the polygons of a map, where there is one
 abbrev pub polygons_of : Option TheMap → List Polygon

@@ -10,18 +10,18 @@ use Rattle.tl_cert_output.specs.Writing.{line_of}
 use Rattle.tl_check_verdict.specs.declared.fault.MapFault.{MapFault}
 use Rattle.tl_check_verdict.specs.declared.fault.MapFault.TheVariants.{Meet}
 use Rattle.tl_check_verdict.specs.Messages.{map_fault_text}
-use Rattle.tigertopo_where.specs.LinePlaces.{place_of}
-use Rattle.tigertopo_where.specs.Degrees.{is_in_reach, location_text}
-use Rattle.tigertopo_records.specs.declared.line.RecordLine.{RecordLine}
-use Rattle.tigertopo_records.specs.declared.line.SegmentEnds.{SegmentEnds}
-use Rattle.tigertopo_records.specs.declared.line.Part.{Part}
-use Rattle.tigertopo_records.specs.declared.line.Part.TheVariants.{Start, Pair, End}
-use Rattle.tigertopo_records.specs.declared.subject.Subject.{Subject}
-use Rattle.tigertopo_records.specs.declared.subject.Subject.TheVariants.{Drawn}
-use Rattle.tigertopo_records.specs.Ends.{segment_lines, segment_within}
-use Rattle.tigertopo_records.specs.SpokenOf.{subjects_of}
+use Rattle.tigertopo_faults.specs.Places.LinePlaces.{place_of}
+use Rattle.tigertopo_faults.specs.Places.Degrees.{is_in_reach, location_text}
+use Rattle.tigertopo_faults.specs.declared.records.line.RecordLine.{RecordLine}
+use Rattle.tigertopo_faults.specs.declared.records.line.SegmentEnds.{SegmentEnds}
+use Rattle.tigertopo_faults.specs.declared.records.line.Part.{Part}
+use Rattle.tigertopo_faults.specs.declared.records.line.Part.TheVariants.{Start, Pair, End}
+use Rattle.tigertopo_faults.specs.declared.records.subject.Subject.{Subject}
+use Rattle.tigertopo_faults.specs.declared.records.subject.Subject.TheVariants.{Drawn}
+use Rattle.tigertopo_faults.specs.Records.Ends.{segment_lines, segment_within}
+use Rattle.tigertopo_faults.specs.Records.SpokenOf.{subjects_of}
 use Rattle.tigertopo_faults.specs.Lines.Places.{place_at}
-use Rattle.tigertopo_shown.specs.Names.{shown_name}
+use Rattle.tigertopo_words.specs.Names.{shown_name}
 use Rattle.tigertopo_words.specs.declared.budget.Told.{Told}
 use Rattle.tigertopo_words.specs.declared.budget.Told.TheVariants.{One, All}
 use Rattle.tl_list_text.specs.Texts.{printed, touched_text, count_line}

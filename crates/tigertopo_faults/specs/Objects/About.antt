@@ -3,17 +3,16 @@ use Rattle.std.specs.Prelude.{ℕ, Bool, true, false, List, [], ◌++◌, Option
 use Rattle.std.specs.Fmt.{signed_decimal}
 use Rattle.tl_geom.specs.declared.point.Point.{Point}
 use Rattle.tl_record_key.specs.declared.key.PolyKey.{PolyKey}
-use Rattle.tl_map_rules.specs.declared.fault.RecordFault.{RecordFault}
-use Rattle.tl_map_rules.specs.declared.fault.RecordFault.TheVariants.{TooMany}
+use Rattle.tl_map_rules.specs.declared.fault.Limited.{Limited}
 use Rattle.tl_map_rules.specs.declared.lacking.Lacking.{Lacking}
 use Rattle.tl_map_rules.specs.Messages.{limited_text}
 use Rattle.tl_check_faces.specs.declared.fault.NamedFace.{NamedFace}
 use Rattle.tl_check_faces.specs.declared.fault.FaceFault.{FaceFault}
 use Rattle.tl_check_faces.specs.declared.fault.FaceFault.TheVariants.{Facing, Outward}
 use Rattle.tl_check_faces.specs.FaultTexts.{way_text}
-use Rattle.tl_check_verdict.specs.declared.fault.MapFault.{MapFault}
-use Rattle.tl_check_verdict.specs.declared.fault.MapFault.TheVariants.{Records, NoRecords, Meet, Side, PolygonPoint, Cell, Face}
-use Rattle.tigertopo_geojson.specs.Strings.{key_string}
+use Rattle.tl_check_verdict.specs.declared.rows.About.{About}
+use Rattle.tl_check_verdict.specs.declared.rows.About.TheVariants.{Limit, Types, Meet, Darts, Cells, Faces}
+use Rattle.tigertopo_pictures.specs.Geojson.Strings.{key_string}
 use Rattle.tigertopo_faults.specs.Objects.Places.{fractions_text}
 
 -- a list of two numbers
@@ -21,9 +20,8 @@ unfoldable pub pair_text : (name : List ℕ) → ℕ → ℕ → List ℕ
 pair_text name one other = name ++ codes "[" ++ decimal one ++ codes "," ++ decimal other ++ codes "]"
 
 -- what there are too many of
-abbrev pub limit_text : RecordFault → List ℕ
-limit_text (TooMany what) = codes ",\"limit\":\"" ++ limited_text what ++ codes "\""
-limit_text other = []
+abbrev pub limit_text : Limited → List ℕ
+limit_text what = codes ",\"limit\":\"" ++ limited_text what ++ codes "\""
 
 -- the types of which there is no record
 abbrev pub type_strings : (chains sides polygons : Bool) → List ℕ
@@ -60,11 +58,11 @@ faces_text (Outward face way) = codes ",\"faces\":[" ++ face_text face ++ codes 
 
 -- the segments by their numbers through all chains, the node, the darts, the ids of zero-cells, the faces, what there are too many of, or
 -- the types of which there is no record
-abbrev pub details_text : MapFault → List ℕ
-details_text (Records fault) = limit_text fault
-details_text (NoRecords lacking) = lacking_members lacking
+abbrev pub details_text : About → List ℕ
+details_text (Limit what) = limit_text what
+details_text (Types lacking) = lacking_members lacking
 details_text (Meet meet) = pair_text (codes ",\"segments\":") meet.s meet.t
-details_text (Side node first next) = node_text node ++ pair_text (codes ",\"darts\":") first next
-details_text (PolygonPoint misplaced) = []
-details_text (Cell odds) = pair_text (codes ",\"darts\":") odds.first odds.second ++ pair_text (codes ",\"ids\":") odds.first_id odds.second_id
-details_text (Face fault) = faces_text fault
+details_text (Darts node first next) = node_text node ++ pair_text (codes ",\"darts\":") first next
+details_text (Cells odds) = pair_text (codes ",\"darts\":") odds.first odds.second ++ pair_text (codes ",\"ids\":") odds.first_id odds.second_id
+details_text (Faces fault) = faces_text fault
+details_text other = []

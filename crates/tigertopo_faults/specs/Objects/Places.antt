@@ -2,7 +2,7 @@
 use Rattle.std.specs.Prelude.{ℕ, ℤ, List, ◌++◌, Option, None, Some, codes, if◌then◌else◌}
 use Rattle.std.specs.Fmt.{signed_decimal}
 use Rattle.tl_geom.specs.declared.rational.Rational.{Rational}
-use Rattle.tigertopo_where.specs.Degrees.{is_in_reach}
+use Rattle.tigertopo_faults.specs.Places.Degrees.{is_in_reach}
 use Rattle.tigertopo_faults.specs.Geojson.Places.{position_text}
 
 -- a fraction of millionths of a degree

@@ -4,12 +4,13 @@ use Rattle.std.specs.Option.{option_map_or}
 use Rattle.tl_geom.specs.declared.rational.Rational.{Rational}
 use Rattle.tl_map_county.specs.TheMap.{MapChain}
 use Rattle.tl_check_verdict.specs.declared.fault.MapFault.{MapFault}
+use Rattle.tl_check_verdict.specs.declared.rows.About.{About}
+use Rattle.tl_check_verdict.specs.Rows.{row}
 use Rattle.tigertopo_words.specs.declared.budget.Told.{Told}
-use Rattle.tigertopo_records.specs.declared.line.RecordLine.{RecordLine}
-use Rattle.tigertopo_records.specs.declared.subject.Subject.{Subject}
+use Rattle.tigertopo_faults.specs.declared.records.line.RecordLine.{RecordLine}
+use Rattle.tigertopo_faults.specs.declared.records.subject.Subject.{Subject}
 use Rattle.tigertopo_faults.specs.Lines.Places.{place_at}
 use Rattle.tigertopo_faults.specs.Lines.Texts.{chosen}
-use Rattle.tigertopo_faults.specs.Geojson.Words.{told_text}
 use Rattle.tigertopo_faults.specs.Geojson.Records.{spoken_lines, records_text}
 use Rattle.tigertopo_faults.specs.Geojson.Texts.{words_text, names_text}
 use Rattle.tigertopo_faults.specs.Objects.About.{details_text}
@@ -17,13 +18,13 @@ use Rattle.tigertopo_faults.specs.Objects.Places.{place_text}
 use Rattle.tigertopo_faults.specs.Objects.Ends.{faults_end}
 
 -- what a fault is about
-unfoldable pub about_text : List MapChain → MapFault → List ℕ
-about_text chains fault = codes ",\"about\":{" ++ names_text chains fault ++ details_text fault ++ codes "}"
+unfoldable pub about_text : List MapChain → About → List ℕ
+about_text chains about = codes ",\"about\":{" ++ names_text chains about ++ details_text about ++ codes "}"
 
 -- a fault: its words, what it is about, where it lies and the records that it speaks of
 unfoldable pub object_text : List (List ℕ) → List ℕ → List MapChain → (Subject → List RecordLine) → Option Rational → MapFault → List ℕ
 object_text names counts chains about at fault =
-    codes "{\"is\":\"fault\"," ++ words_text (told_text fault) ++ about_text chains fault ++ codes ",\"place\":" ++ place_text at
+    codes "{\"is\":\"fault\"," ++ words_text (row fault) ++ about_text chains (row fault).2 ++ codes ",\"place\":" ++ place_text at
     ++ records_text names counts (spoken_lines chains about fault) ++ codes "}\n"
 
 -- the fault with this number, at the place with it

@@ -5,16 +5,16 @@ ghost use Rattle.std.specs.Option.{option_map_or};
 ghost use Rattle.std.specs.List.{flat_map};
 ghost use Rattle.std.specs.List.Sorted.{IsPermutation, IsSorted};
 ghost use Rattle.std.specs.Ordering.{nat_cmp};
-ghost use Rattle.tigertopo_records.specs.SpokenOf.{chains_of};
+ghost use Rattle.tigertopo_faults.specs.Records.SpokenOf.{chains_of};
 ghost use Rattle.tl_cert_output.specs.Printing.{Prints};
 ghost use Rattle.tigertopo_faults.specs.Geojson.Named.{listed};
 ghost use Rattle.tigertopo_faults.specs.Geojson.Texts.{named_tlids, is_among, named_chain, chains_text};
 
 use crate::geojson::named::tlids_of;
 use std::alloc::{AllocError, Global};
-use tigertopo_geojson::print_chain;
+use tigertopo_pictures::geojson::print_chain;
 use tl_cert_output::Printer;
-use tl_check_verdict::MapFault;
+use tl_check_verdict::{MapFault, row};
 use tl_map_county::Map;
 use tl_record::Sink;
 
@@ -42,7 +42,7 @@ fn list_in_order(
 {
     let mut tlids = Vec::new(alloc);
     for fault in faults {
-        push_both(&mut tlids, tlids_of(drawn, fault))?;
+        push_both(&mut tlids, tlids_of(drawn, &row(fault).about))?;
     }
     Ok(tlids)
 }

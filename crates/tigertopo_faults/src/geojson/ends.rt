@@ -4,7 +4,7 @@ ghost use Rattle.std.specs.Prelude.{◌≡◌};
 ghost use Rattle.tl_cert_output.specs.Printing.{Prints};
 ghost use Rattle.tigertopo_faults.specs.Geojson.Records.{ends_text, other_text, part_text};
 
-use tigertopo_records::{Part, SegmentEnds};
+use crate::records::{Part, SegmentEnds};
 use tl_cert_output::Printer;
 use tl_record::Sink;
 

@@ -1,11 +1,12 @@
 //! A fault as a feature.
 
 ghost use Rattle.std.specs.Prelude.{map, string_bytes, option_copied, option_to_list, decimal, length};
-ghost use Rattle.tigertopo_records.specs.SpokenOf.{chains_of};
-ghost use Rattle.tigertopo_records.specs.Keeping.{held};
+ghost use Rattle.tigertopo_faults.specs.Records.SpokenOf.{chains_of};
+ghost use Rattle.tigertopo_faults.specs.Records.Keeping.{held};
 ghost use Rattle.tl_cert_output.specs.Printing.{Prints};
-ghost use Rattle.tigertopo_geojson.specs.Strings.{key_string};
-ghost use Rattle.tigertopo_geojson.specs.Features.{separated, features_below};
+ghost use Rattle.tigertopo_pictures.specs.Geojson.Strings.{key_string};
+ghost use Rattle.tigertopo_pictures.specs.Geojson.Features.{features_below};
+ghost use Rattle.tigertopo_pictures.specs.Items.{separated};
 ghost use Rattle.tigertopo_faults.specs.Geojson.Named.{listed};
 ghost use Rattle.tigertopo_faults.specs.Geojson.Records.{spoken_lines, records_text};
 ghost use Rattle.tigertopo_faults.specs.Geojson.Texts.{names_text, fault_text, fault_feature};
@@ -13,14 +14,13 @@ ghost use Rattle.tigertopo_faults.specs.Geojson.Texts.{names_text, fault_text, f
 use crate::geojson::named::{keys_of, land_of, tlids_of};
 use crate::geojson::place::{print_exact, print_geometry};
 use crate::geojson::record::print_records;
-use crate::geojson::words::{print_words, rest_of};
+use crate::geojson::words::print_words;
 use crate::lines::{lines_for, place_at, segment_spoken};
-use tigertopo_geojson::{print_key, print_lead};
-use tigertopo_records::{RecordLines, subjects_of};
+use crate::records::{RecordLines, subjects_of};
+use tigertopo_pictures::geojson::{print_key, print_lead};
 use tl_cert_output::Printer;
-use tl_check_verdict::MapFault;
+use tl_check_verdict::{About, MapFault, row};
 use tl_geom::Rational;
-use tl_list_text::fault_line;
 use tl_map_county::Map;
 use tl_record::{PolyKey, Sink};
 
@@ -60,35 +60,29 @@ fn print_fault<S: Sink>(
     ensures { Prints S.contents S.failure_count (out.old, printer.old) (out.new, printer.new)
         (fault_text (map string_bytes names.now) counts.now (chains_of (option_copied drawn.entry)) (held lines.now) at fault.now) }
 {
-    let line = fault_line(fault);
     printer.add(b"{\"type\":\"Feature\",\"geometry\":", out);
     print_geometry(at, printer, out);
     printer.add(b",\"properties\":{", out);
-    print_words(rest_of(line.as_str().as_bytes()), printer, out);
+    print_words(fault, printer, out);
     printer.add(b",\"at\":", out);
     print_exact(at, printer, out);
     printer.add(b",", out);
-    print_names(drawn, fault, printer, out);
+    print_names(drawn, &row(fault).about, printer, out);
     print_spoken(names, counts, drawn, lines, fault, printer, out);
     printer.add(b"}}", out);
 }
 
 /// Prints the TLIDs, the keys and the LAND that a fault names.
-pub fn print_names<S: Sink>(
-    drawn: Option<&Map>,
-    fault: &MapFault,
-    printer: &mut Printer,
-    out: &mut S,
-)
+pub fn print_names<S: Sink>(drawn: Option<&Map>, about: &About, printer: &mut Printer, out: &mut S)
     ensures { Prints S.contents S.failure_count (out.old, printer.old) (out.new, printer.new)
-        (names_text (chains_of (option_copied drawn.entry)) fault.now) }
+        (names_text (chains_of (option_copied drawn.entry)) about.now) }
 {
     printer.add(b"\"tlids\":[", out);
-    print_numbers(tlids_of(drawn, fault), printer, out);
+    print_numbers(tlids_of(drawn, about), printer, out);
     printer.add(b"],\"polygons\":[", out);
-    print_keys(keys_of(fault), printer, out);
+    print_keys(keys_of(about), printer, out);
     printer.add(b"],\"landmarks\":[", out);
-    print_number(land_of(fault), printer, out);
+    print_number(land_of(about), printer, out);
     printer.add(b"]", out);
 }
 

@@ -1,15 +1,15 @@
 //! Faults as one FeatureCollection.
 
 ghost use Rattle.std.specs.Prelude.{◌≡◌, map, string_bytes, option_copied};
-ghost use Rattle.tigertopo_records.specs.Keeping.{held};
+ghost use Rattle.tigertopo_faults.specs.Records.Keeping.{held};
 ghost use Rattle.tl_cert_output.specs.Texts.{PrintsText};
 ghost use Rattle.tigertopo_faults.specs.Geojson.Texts.{behind_faults, closing_text, faults_text};
 
 use crate::geojson::chains::{list_tlids, print_chains};
 use crate::geojson::fault::print_features;
+use crate::records::RecordLines;
 use arrayvec::ArrayString;
 use std::alloc::Global;
-use tigertopo_records::RecordLines;
 use tl_cert_output::{Printer, Stop};
 use tl_check_verdict::MapFault;
 use tl_geom::Rational;

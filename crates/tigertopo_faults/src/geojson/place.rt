@@ -3,12 +3,12 @@
 ghost use Rattle.std.specs.Prelude.{◌≡◌, true, Some};
 ghost use Rattle.std.specs.Fmt.{signed_decimal};
 ghost use Rattle.tl_check_faces.specs.FaultTexts.{rational_text};
-ghost use Rattle.tigertopo_where.specs.Degrees.{degrees_text, is_in_reach};
+ghost use Rattle.tigertopo_faults.specs.Places.Degrees.{degrees_text, is_in_reach};
 ghost use Rattle.tl_cert_output.specs.Printing.{Prints};
 ghost use Rattle.tigertopo_faults.specs.Geojson.Places.{position_text, point_text, geometry_text, exact_text};
 
+use crate::places::{COORDINATE_ROOM, is_in_reach, push_degrees};
 use arrayvec::ArrayString;
-use tigertopo_where::{COORDINATE_ROOM, is_in_reach, push_degrees};
 use tl_cert_output::Printer;
 use tl_geom::Rational;
 use tl_record::Sink;

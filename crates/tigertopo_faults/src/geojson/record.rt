@@ -2,15 +2,15 @@
 
 ghost use Rattle.std.specs.Prelude.{◌≡◌, ◌++◌, map, string_bytes, codes};
 ghost use Rattle.std.specs.List.{flat_map};
-ghost use Rattle.tigertopo_where.specs.LinePlaces.{place_pair};
+ghost use Rattle.tigertopo_faults.specs.Places.LinePlaces.{place_pair};
 ghost use Rattle.tl_cert_output.specs.Printing.{Prints};
-ghost use Rattle.tigertopo_geojson.specs.Features.{separated};
+ghost use Rattle.tigertopo_pictures.specs.Items.{separated};
 ghost use Rattle.tigertopo_faults.specs.Geojson.Records.{type_text, unknown_text, known_text, line_text, record_text, records_text};
 
 use crate::geojson::ends::print_ends;
-use tigertopo_geojson::print_string;
-use tigertopo_records::RecordLine;
-use tigertopo_where::{TextLine, place_of};
+use crate::places::{TextLine, place_of};
+use crate::records::RecordLine;
+use tigertopo_pictures::geojson::print_string;
 use tl_cert_output::Printer;
 use tl_record::{Record, Sink};
 

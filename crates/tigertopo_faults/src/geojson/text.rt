@@ -1,8 +1,8 @@
 //! The faults of a county as a text that is printed.
 
 use crate::geojson::faults::print_faults;
+use crate::records::RecordLines;
 use std::alloc::Global;
-use tigertopo_records::RecordLines;
 use tl_cert_output::{Stop, Text};
 use tl_check_verdict::MapFault;
 use tl_geom::Rational;
@@ -31,7 +31,7 @@ pub struct FaultsText<'a> {
 
 impl Text for FaultsText<'_> {
     ghost use Rattle.std.specs.Prelude.{⊤, map as map_list, string_bytes, option_copied};
-    ghost use Rattle.tigertopo_records.specs.Keeping.{held};
+    ghost use Rattle.tigertopo_faults.specs.Records.Keeping.{held};
     ghost use Rattle.tigertopo_faults.specs.Geojson.Texts.{faults_text};
 
     ghost text = { λ told. faults_text (map_list string_bytes told.names.now) told.counts.now (option_copied told.drawn)

@@ -4,8 +4,8 @@ ghost use Rattle.std.specs.Prelude.{◌≡◌, ◌++◌, OnOk};
 ghost use Rattle.tigertopo_faults.specs.Lines.Texts.{ends_text, parts_text, part_text};
 
 use crate::lines::line::push_count;
+use crate::records::{Part, SegmentEnds};
 use std::alloc::AllocError;
-use tigertopo_records::{Part, SegmentEnds};
 
 /// Adds the ends that a record holds of the segment that is spoken of, and that segment, where one is.
 pub(crate) fn push_ends(text: &mut Vec<u8>, ends: Option<SegmentEnds>) -> Result<(), AllocError>

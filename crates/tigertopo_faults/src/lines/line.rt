@@ -1,16 +1,16 @@
 //! The lines of records.
 
 ghost use Rattle.std.specs.Prelude.{◌≡◌, ◌++◌, OnOk, map, string_bytes, decimal};
-ghost use Rattle.tigertopo_where.specs.LinePlaces.{place_pair};
+ghost use Rattle.tigertopo_faults.specs.Places.LinePlaces.{place_pair};
 ghost use Rattle.tigertopo_faults.specs.Lines.Texts.{record_text, at_text, number_text, named_text, where_text, record_line_text, record_lines_text};
 
 use crate::lines::ends::push_ends;
+use crate::places::{TextLine, is_in_reach, place_of, push_location};
+use crate::records::RecordLine;
 use arrayvec::ArrayString;
 use itoa::Buffer;
 use std::alloc::AllocError;
-use tigertopo_records::RecordLine;
-use tigertopo_shown::push_name;
-use tigertopo_where::{TextLine, is_in_reach, place_of, push_location};
+use tigertopo_words::push_name;
 use tl_geom::Rational;
 use tl_list_text::{LINE_ROOM, push_key, push_number};
 use tl_record::Record;

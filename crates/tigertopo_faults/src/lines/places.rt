@@ -3,7 +3,7 @@
 ghost use Rattle.std.specs.Prelude.{◌≡◌, IfOk, map as map_list, option_copied, option_map};
 ghost use Rattle.tl_geom.specs.Plane.{whole};
 ghost use Rattle.tl_map_county.specs.Darts.{dart_start};
-ghost use Rattle.tigertopo_records.specs.SpokenOf.{chains_of};
+ghost use Rattle.tigertopo_faults.specs.Records.SpokenOf.{chains_of};
 ghost use Rattle.tigertopo_faults.specs.Lines.Places.{fault_place, place_at, point_of_key, polygon_of, polygons_of};
 ghost use Rattle.tigertopo_faults.specs.Lines.Keyed.{IsIndexOf};
 

@@ -1,12 +1,12 @@
 //! The records that a fault speaks of.
 
 ghost use Rattle.std.specs.Prelude.{◌≡◌, option_copied};
-ghost use Rattle.tigertopo_records.specs.SpokenOf.{chains_of};
-ghost use Rattle.tigertopo_records.specs.Keeping.{held};
+ghost use Rattle.tigertopo_faults.specs.Records.SpokenOf.{chains_of};
+ghost use Rattle.tigertopo_faults.specs.Records.Keeping.{held};
 ghost use Rattle.tigertopo_faults.specs.Lines.Texts.{lines_for, segment_spoken};
 
+use crate::records::{RecordLine, RecordLines, Subject, segment_within};
 use arrayvec::ArrayVec;
-use tigertopo_records::{RecordLine, RecordLines, Subject, segment_within};
 use tl_map_county::Map;
 
 /// The records that hold the ends of this segment of the chain with this TLID, of each county that tells it, in the order of their

@@ -1,15 +1,15 @@
 //! What is printed of faults with the records that they speak of.
 
 ghost use Rattle.std.specs.Prelude.{◌≡◌, ◌++◌, IfOk, OnOk, map, string_bytes, option_copied};
-ghost use Rattle.tigertopo_records.specs.SpokenOf.{chains_of};
-ghost use Rattle.tigertopo_records.specs.Keeping.{held};
+ghost use Rattle.tigertopo_faults.specs.Records.SpokenOf.{chains_of};
+ghost use Rattle.tigertopo_faults.specs.Records.Keeping.{held};
 ghost use Rattle.tigertopo_faults.specs.Lines.Texts.{placed_fault_text, placed_faults_text, spoken_text, placed_text, chosen, end_text};
 
 use crate::lines::line::push_record_lines;
 use crate::lines::places::place_at;
 use crate::lines::spoken::{lines_for, segment_spoken};
+use crate::records::{RecordLines, subjects_of};
 use std::alloc::{AllocError, Global};
-use tigertopo_records::{RecordLines, subjects_of};
 use tigertopo_words::Told;
 use tl_check_verdict::MapFault;
 use tl_geom::Rational;

@@ -2,67 +2,53 @@
 
 ghost use Rattle.std.specs.Prelude.{◌≡◌, codes};
 ghost use Rattle.tl_cert_output.specs.Printing.{Prints};
-ghost use Rattle.tl_map_rules.specs.Messages.{limited_text};
-ghost use Rattle.tl_check_faces.specs.FaultTexts.{way_text};
 ghost use Rattle.tigertopo_faults.specs.Objects.About.{details_text, face_text, faces_text, lacking_members, limit_text, named_text, node_text, pair_text, type_strings};
 
 use crate::objects::place::print_fractions;
-use tigertopo_geojson::print_key;
+use tigertopo_pictures::geojson::print_key;
 use tl_cert_output::Printer;
-use tl_check_faces::{FaceFault, NamedFace, Way};
-use tl_check_verdict::MapFault;
+use tl_check_faces::{FaceFault, NamedFace};
+use tl_check_verdict::About;
 use tl_geom::Point;
+use tl_list_text::{limited_word, way_word};
 use tl_map_rules::{Lacking, Limited};
 use tl_record::{PolyKey, Sink};
 
 /// Prints the segments by their numbers through all chains, the node, the darts, the ids of zero-cells, the faces, what there are too many
 /// of, or the types of which there is no record.
-pub fn print_details<S: Sink>(fault: &MapFault, printer: &mut Printer, out: &mut S)
-    ensures { Prints S.contents S.failure_count (out.old, printer.old) (out.new, printer.new) (details_text fault.now) }
+pub fn print_details<S: Sink>(about: &About, printer: &mut Printer, out: &mut S)
+    ensures { Prints S.contents S.failure_count (out.old, printer.old) (out.new, printer.new) (details_text about.now) }
 {
-    match fault {
-        MapFault::Records(fault) => print_limit(fault, printer, out),
-        MapFault::NoRecords(lacking) => print_types(*lacking, printer, out),
-        MapFault::Meet(meet) => print_pair(
+    match about {
+        About::Limit(what) => print_limit(*what, printer, out),
+        About::Types(lacking) => print_types(*lacking, printer, out),
+        About::Meet(meet) => print_pair(
             b",\"segments\":",
             u64::from(meet.s),
             u64::from(meet.t),
             printer,
             out,
         ),
-        MapFault::Side { node, first, next } => {
+        About::Darts { node, first, next } => {
             print_node(*node, printer, out);
             print_darts(*first, *next, printer, out);
         }
-        MapFault::PolygonPoint(_) => {}
-        MapFault::Cell(odds) => {
+        About::Cells(odds) => {
             print_darts(odds.first, odds.second, printer, out);
             print_pair(b",\"ids\":", odds.first_id, odds.second_id, printer, out);
         }
-        MapFault::Face(fault) => print_faces(fault, printer, out),
+        About::Faces(fault) => print_faces(fault, printer, out),
+        _ => {}
     }
 }
 
-// Prints what there are too many of, where the records have a fault of that.
-fn print_limit<S: Sink>(fault: &tl_map_rules::RecordFault, printer: &mut Printer, out: &mut S)
-    ensures { Prints S.contents S.failure_count (out.old, printer.old) (out.new, printer.new) (limit_text fault.now) }
+// Prints what there are too many of.
+fn print_limit<S: Sink>(what: Limited, printer: &mut Printer, out: &mut S)
+    ensures { Prints S.contents S.failure_count (out.old, printer.old) (out.new, printer.new) (limit_text what) }
 {
-    if let tl_map_rules::RecordFault::TooMany(what) = fault {
-        printer.add(b",\"limit\":\"", out);
-        printer.add(limit_word(*what), out);
-        printer.add(b"\"", out);
-    }
-}
-
-fn limit_word<'a>(what: Limited) -> &'a [u8]
-    ensures { result.now ≡ limited_text what }
-{
-    match what {
-        Limited::Chains => b"chains",
-        Limited::Segments => b"segments",
-        Limited::Polygons => b"polygons",
-        Limited::Landmarks => b"landmarks",
-    }
+    printer.add(b",\"limit\":\"", out);
+    printer.add(limited_word(what).as_bytes(), out);
+    printer.add(b"\"", out);
 }
 
 // Prints the types of which there is no record.
@@ -140,18 +126,9 @@ fn print_faces<S: Sink>(fault: &FaceFault, printer: &mut Printer, out: &mut S)
         FaceFault::Outward { face, way } => {
             print_face(face, printer, out);
             printer.add(b"],\"outside\":\"", out);
-            printer.add(way_word(*way), out);
+            printer.add(way_word(*way).as_bytes(), out);
             printer.add(b"\"", out);
         }
-    }
-}
-
-fn way_word<'a>(way: Way) -> &'a [u8]
-    ensures { result.now ≡ way_text way }
-{
-    match way {
-        Way::West => b"west",
-        Way::East => b"east",
     }
 }
 

@@ -2,19 +2,18 @@
 
 ghost use Rattle.std.specs.Prelude.{map, string_bytes, option_copied, length};
 ghost use Rattle.tl_cert_output.specs.Printing.{Prints};
-ghost use Rattle.tigertopo_records.specs.SpokenOf.{chains_of};
-ghost use Rattle.tigertopo_records.specs.Keeping.{held};
+ghost use Rattle.tigertopo_faults.specs.Records.SpokenOf.{chains_of};
+ghost use Rattle.tigertopo_faults.specs.Records.Keeping.{held};
 ghost use Rattle.tigertopo_faults.specs.Objects.Texts.{about_text, fault_object, object_text, objects_below};
 
-use crate::geojson::{print_names, print_spoken, print_words, rest_of};
+use crate::geojson::{print_names, print_spoken, print_words};
 use crate::lines::place_at;
 use crate::objects::about::print_details;
 use crate::objects::place::print_place;
-use tigertopo_records::RecordLines;
+use crate::records::RecordLines;
 use tl_cert_output::Printer;
-use tl_check_verdict::MapFault;
+use tl_check_verdict::{About, MapFault, row};
 use tl_geom::Rational;
-use tl_list_text::fault_line;
 use tl_map_county::Map;
 use tl_record::Sink;
 
@@ -53,10 +52,9 @@ fn print_object<S: Sink>(
     ensures { Prints S.contents S.failure_count (out.old, printer.old) (out.new, printer.new)
         (object_text (map string_bytes names.now) counts.now (chains_of (option_copied drawn.entry)) (held lines.now) at fault.now) }
 {
-    let line = fault_line(fault);
     printer.add(b"{\"is\":\"fault\",", out);
-    print_words(rest_of(line.as_str().as_bytes()), printer, out);
-    print_about(drawn, fault, printer, out);
+    print_words(fault, printer, out);
+    print_about(drawn, &row(fault).about, printer, out);
     printer.add(b",\"place\":", out);
     print_place(at, printer, out);
     print_spoken(names, counts, drawn, lines, fault, printer, out);
@@ -64,12 +62,12 @@ fn print_object<S: Sink>(
 }
 
 // Prints what a fault is about.
-fn print_about<S: Sink>(drawn: Option<&Map>, fault: &MapFault, printer: &mut Printer, out: &mut S)
+fn print_about<S: Sink>(drawn: Option<&Map>, about: &About, printer: &mut Printer, out: &mut S)
     ensures { Prints S.contents S.failure_count (out.old, printer.old) (out.new, printer.new)
-        (about_text (chains_of (option_copied drawn.entry)) fault.now) }
+        (about_text (chains_of (option_copied drawn.entry)) about.now) }
 {
     printer.add(b",\"about\":{", out);
-    print_names(drawn, fault, printer, out);
-    print_details(fault, printer, out);
+    print_names(drawn, about, printer, out);
+    print_details(about, printer, out);
     printer.add(b"}", out);
 }

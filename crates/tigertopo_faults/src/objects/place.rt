@@ -5,7 +5,7 @@ ghost use Rattle.tl_cert_output.specs.Printing.{Prints};
 ghost use Rattle.tigertopo_faults.specs.Objects.Places.{degrees_text, fraction_text, fractions_text, place_text};
 
 use crate::geojson::{print_position, print_signed};
-use tigertopo_where::is_in_reach;
+use crate::places::is_in_reach;
 use tl_cert_output::Printer;
 use tl_geom::Rational;
 use tl_record::Sink;

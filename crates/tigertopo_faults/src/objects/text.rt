@@ -3,8 +3,8 @@
 use crate::lines::chosen;
 use crate::objects::end::faults_end;
 use crate::objects::fault::print_objects;
+use crate::records::RecordLines;
 use std::alloc::Global;
-use tigertopo_records::RecordLines;
 use tigertopo_words::Told;
 use tl_cert_output::{Printer, Stop, Text};
 use tl_check_verdict::MapFault;
@@ -33,8 +33,8 @@ pub struct FaultObjects<'a> {
 
 impl Text for FaultObjects<'_> {
     ghost use Rattle.std.specs.Prelude.{⊤, map as map_list, string_bytes, option_copied};
-    ghost use Rattle.tigertopo_records.specs.SpokenOf.{chains_of};
-    ghost use Rattle.tigertopo_records.specs.Keeping.{held};
+    ghost use Rattle.tigertopo_faults.specs.Records.SpokenOf.{chains_of};
+    ghost use Rattle.tigertopo_faults.specs.Records.Keeping.{held};
     ghost use Rattle.tigertopo_faults.specs.Objects.Texts.{objects_text};
 
     ghost text = { λ told. objects_text (map_list string_bytes told.names.now) told.counts.now (chains_of (option_copied told.drawn))

@@ -1,5 +1,5 @@
 -- What comes of a border.
-use Rattle.std.proofs.Common.{◌≡◌, inl, inr, ℕ, Bool, List, [], Option, Some, None, Result, Ok, Err, refl, sym, ap, subst, append-nil}
+use Rattle.std.proofs.Common.{inl, inr, ℕ, Bool, List, [], Option, Some, None, Result, Ok, Err, refl, sym, ap, subst, append-nil}
 use Rattle.std.specs.Bool.{⊤}
 use Rattle.std.proofs.lemmas.Option.{IfSome_then}
 use Rattle.tl_record.specs.declared.options.Options.{Options}
@@ -16,20 +16,19 @@ use Rattle.tigertopo_files.specs.Files.{Under}
 use Rattle.tigertopo_files.specs.Log.{Log}
 use Rattle.tigertopo_files.specs.World.{World, Does}
 use Rattle.tigertopo_files.proofs.WorldLemmas.{does_then, does_read, unmade_from, none_made}
-use Rattle.tigertopo_outcome.specs.declared.outcome.Outcome.TheVariants.{Verdict}
-use Rattle.tigertopo_outcome.specs.declared.said.Answer.{Answer}
-use Rattle.tigertopo_outcome.specs.declared.said.Said.{Said}
-use Rattle.tigertopo_outcome.specs.Answers.{IsSaid, IsReadMap, answer_of}
-use Rattle.tigertopo_outcome.specs.Records.{IsOfRecords, IsTrueFault, IsDoneWhereSound, StopsNever, StopsRecords}
-use Rattle.tigertopo_command.proofs.DecideLemmas.LawLemmas.{done, undone}
-use Rattle.tigertopo_program.specs.Border.Borders.{BorderAnswers, IsBorderAnswerOf, Wanted}
+use Rattle.tigertopo_program.specs.declared.answer.Answer.TheVariants.{Verdict}
+use Rattle.tigertopo_program.specs.declared.answer.Answer.{Answer}
+use Rattle.tigertopo_program.specs.Answers.{IsSaid, IsReadMap}
+use Rattle.tigertopo_program.specs.Records.{IsOfRecords, IsTrueFault, IsDoneWhereSound, StopsNever, StopsRecords}
+use Rattle.tigertopo_program.proofs.DecideLemmas.LawLemmas.{done, undone}
+use Rattle.tigertopo_program.specs.Borders.{BorderAnswers, IsBorderAnswerOf, Wanted}
 
 -- ---- what is answered of a map, with no file read before
 
 -- a fault, and no file is made
 pub border_faulty : (u : Under) (l : Log) (k : Bool) (wanted : Wanted) (faces : Bool) (m : TheMap) (fault : TheMapFault) → IsTrueOfMap faces m fault
     → Does (record { before = u; after = u; log = l; logged = l; knows = k }) [] (Some wanted.name) (IsBorderAnswerOf (record { before = u; after = u; log = l; logged = l; knows = k }) wanted faces m) StopsNever
-    (Ok (answer_of (Verdict (MapFault fault))))
+    (Ok (Verdict (MapFault fault)))
 border_faulty u l k wanted faces m fault true = record {
   answered = inr (fault, true, (λ other apart. refl), refl);
   stopped = tt;
@@ -54,41 +53,39 @@ true_fault options known (Face fault) of = absurd of
 -- they were read, and no file was made
 pub border_of_fault : (w : World) (names : List (List ℕ)) (wanted : Wanted) (options : Options) (known : Option (List ℕ)) (fault : TheMapFault)
     → Does w names None (IsReadMap (layout_with options) known) (StopsRecords (layout_with options) known) (Ok (Err fault))
-    → Does w names (Some wanted.name) (IsSaid (BorderAnswers w options known wanted)) (StopsRecords (layout_with options) known) (Ok (answer_of (Verdict (MapFault fault))))
+    → Does w names (Some wanted.name) (IsSaid (BorderAnswers w options known wanted)) (StopsRecords (layout_with options) known) (Ok (Verdict (MapFault fault)))
 border_of_fault w names wanted options known fault first =
-    does_read w names (IsReadMap (layout_with options) known) (StopsRecords (layout_with options) known) (Some wanted.name) (Err fault) first (IsSaid (BorderAnswers w options known wanted)) (answer_of (Verdict (MapFault fault)))
-    (inr (record { fault = fault; holds = true_fault options known fault first.answered; unmade = none_made w (Some wanted.name) first.keeps; is = refl; line = refl }), tt)
+    does_read w names (IsReadMap (layout_with options) known) (StopsRecords (layout_with options) known) (Some wanted.name) (Err fault) first (IsSaid (BorderAnswers w options known wanted)) (Verdict (MapFault fault))
+    (inr (record { fault = fault; holds = true_fault options known fault first.answered; unmade = none_made w (Some wanted.name) first.keeps; is = refl; line = refl }))
 
 module _ (u v after : Under) (l m q : Log) (k : Bool) (names : List (List ℕ)) (wanted : Wanted) (options : Options) (known : Option (List ℕ)) (map : TheMap)
     (first : Does (record { before = u; after = v; log = l; logged = m; knows = k }) names None (IsReadMap (layout_with options) known) (StopsRecords (layout_with options) known) (Ok (Ok map))) where
   -- what is answered of their map is answered of them
-  said_of : (answer : Answer Said) → IsBorderAnswerOf (record { before = v; after = after; log = m; logged = q; knows = k }) wanted options.faces map answer
+  said_of : (answer : Answer) → IsBorderAnswerOf (record { before = v; after = after; log = m; logged = q; knows = k }) wanted options.faces map answer
       → IsSaid (BorderAnswers (record { before = u; after = after; log = l; logged = q; knows = k }) options known wanted) answer
   said_of answer (inl (bordered, is)) =
       subst (IsSaid (BorderAnswers (record { before = u; after = after; log = l; logged = q; knows = k }) options known wanted)) (sym is) (
-        inl (record {
-          map = map;
-          drawn = first.answered;
-          bordered = record { sound = bordered.sound; kept = bordered.kept };
-          is = refl;
-          line = refl;
-        }),
-        tt,
+      inl (record {
+        map = map;
+        drawn = first.answered;
+        bordered = record { sound = bordered.sound; kept = bordered.kept };
+        is = refl;
+        line = refl;
+      })
       )
   said_of answer (inr (fault, true, unmade, is)) =
       subst (IsSaid (BorderAnswers (record { before = u; after = after; log = l; logged = q; knows = k }) options known wanted)) (sym is) (
-        inr (record {
-          fault = fault;
-          holds = IfSome_then known first.answered (λ text read. true_of_records options.faces (records_of (layout_with options) text) map fault read true);
-          unmade = unmade_from u v after m q k (Some wanted.name) first.keeps unmade l;
-          is = refl;
-          line = refl;
-        }),
-        tt,
+      inr (record {
+        fault = fault;
+        holds = IfSome_then known first.answered (λ text read. true_of_records options.faces (records_of (layout_with options) text) map fault read true);
+        unmade = unmade_from u v after m q k (Some wanted.name) first.keeps unmade l;
+        is = refl;
+        line = refl;
+      })
       )
 
   -- they were read, and then a border was made of their map, or none
-  pub border_of_read : (r : Result (Answer Said) Stop)
+  pub border_of_read : (r : Result Answer Stop)
       → Does (record { before = v; after = after; log = m; logged = q; knows = k }) [] (Some wanted.name) (IsBorderAnswerOf (record { before = v; after = after; log = m; logged = q; knows = k }) wanted options.faces map) StopsNever r
       → Does (record { before = u; after = after; log = l; logged = q; knows = k }) names (Some wanted.name) (IsSaid (BorderAnswers (record { before = u; after = after; log = l; logged = q; knows = k }) options known wanted)) (StopsRecords (layout_with options) known) r
   border_of_read r second =

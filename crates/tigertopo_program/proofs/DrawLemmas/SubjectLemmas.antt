@@ -29,7 +29,7 @@ use Rattle.tl_list.specs.Findings.{AreFindingsOf, IsMapIfAny, IsOfNoMap, BeginWi
 use Rattle.tl_list.specs.Telling.{IsTrueAmongFaults}
 use Rattle.tl_list.proofs.Listed.{no_map, each_true}
 use Rattle.tigertopo_files.specs.World.{MayStop}
-use Rattle.tigertopo_outcome.specs.Records.{IsOfRecords, StopsRecords}
+use Rattle.tigertopo_program.specs.Records.{IsOfRecords, StopsRecords}
 use Rattle.tigertopo_program.specs.Draw.Subjects.{AreFaultsOf, AreToShow}
 use Rattle.tigertopo_program.specs.Draw.Keeping.{listed_faults, listed_touched, stop_of_refusal, first_listed}
 

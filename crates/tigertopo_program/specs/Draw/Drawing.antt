@@ -15,18 +15,17 @@ use Rattle.tigertopo_words.specs.declared.asked.View.{View}
 use Rattle.tl_check_verdict.specs.declared.fault.MapFault.{MapFault}
 use Rattle.tl_check_verdict.specs.Sound.{IsSound}
 use Rattle.tigertopo_faults.specs.Lines.Places.{fault_place}
-use Rattle.tigertopo_svg.specs.declared.frame.Frame.{Frame}
-use Rattle.tigertopo_svg.specs.declared.picture.Picture.{Picture}
-use Rattle.tigertopo_svg.specs.Frames.{fitted, frame_at}
-use Rattle.tigertopo_svg.specs.Pictures.{picture_of, chain_count, fault_count}
-use Rattle.tigertopo_svg.specs.Fills.{Filling, IsFillingOf}
-use Rattle.tigertopo_svg.specs.Whole.{picture_text}
-use Rattle.tigertopo_outcome.specs.declared.outcome.Drawn.{Drawn}
-use Rattle.tigertopo_outcome.specs.declared.outcome.Outcome.TheVariants.{Drawn as Drawing}
-use Rattle.tigertopo_outcome.specs.declared.said.Answer.{Answer}
-use Rattle.tigertopo_outcome.specs.declared.said.Said.{Said}
-use Rattle.tigertopo_outcome.specs.Answers.{answer_of, TellsRecordFault}
-use Rattle.tigertopo_outcome.specs.Outcomes.{drawn_text}
+use Rattle.tigertopo_pictures.specs.declared.svg.frame.Frame.{Frame}
+use Rattle.tigertopo_pictures.specs.declared.svg.picture.Picture.{Picture}
+use Rattle.tigertopo_pictures.specs.Svg.Frames.{fitted, frame_at}
+use Rattle.tigertopo_pictures.specs.Svg.Pictures.{picture_of, chain_count, fault_count}
+use Rattle.tigertopo_pictures.specs.Svg.Fills.{Filling, IsFillingOf}
+use Rattle.tigertopo_pictures.specs.Svg.Whole.{picture_text}
+use Rattle.tigertopo_program.specs.declared.answer.Drawn.{Drawn}
+use Rattle.tigertopo_program.specs.declared.answer.Answer.TheVariants.{Drawn as Drawing}
+use Rattle.tigertopo_program.specs.declared.answer.Answer.{Answer}
+use Rattle.tigertopo_program.specs.Answers.{TellsRecordFault}
+use Rattle.tigertopo_program.specs.Texts.{drawn_text}
 use Rattle.tigertopo_program.specs.declared.draw.subject.Subject.{Subject}
 use Rattle.tigertopo_program.specs.Draw.Subjects.{AreToShow}
 
@@ -73,11 +72,11 @@ pub record Wanted : Type 0 where
   pub shows : Bool
 
 -- the picture of a map with these faults stands, and this is answered
-pub record IsDrawnOf (w : World) (wanted : Wanted) (subject : Subject) (answer : Answer Said) : Type 0 where
+pub record IsDrawnOf (w : World) (wanted : Wanted) (subject : Subject) (answer : Answer) : Type 0 where
   pub filling : Option Filling
   pub filled : IsFilled subject.map filling
   pub kept : StandsUnder w.after wanted.name (picture_with subject.map (picture_by wanted.view subject.map subject.faults.items) filling subject.faults.items)
-  pub is : answer ≡ answer_of (Drawing (drawn_of (picture_by wanted.view subject.map subject.faults.items) wanted.shows subject))
+  pub is : answer ≡ (Drawing (drawn_of (picture_by wanted.view subject.map subject.faults.items) wanted.shows subject))
 
 -- with the status 0 the line of what the picture shows: that of the map that the records draw, with the faults to show, which stands
 pub record TellsDrawn (w : World) (options : Options) (known : Option (List ℕ)) (wanted : Wanted) (status : ℕ) (text : List ℕ) : Type 0 where

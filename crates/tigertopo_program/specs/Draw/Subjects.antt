@@ -8,7 +8,7 @@ use Rattle.tl_map_county.specs.TheMap.{TheMap}
 use Rattle.tl_check_verdict.specs.declared.fault.MapFault.{MapFault}
 use Rattle.tl_check_verdict.specs.Sound.{IsSound, IsSoundFor}
 use Rattle.tl_list_map.specs.MapFaults.{AreFaultsFor}
-use Rattle.tigertopo_outcome.specs.Records.{IsOfRecords}
+use Rattle.tigertopo_program.specs.Records.{IsOfRecords}
 use Rattle.tigertopo_program.specs.declared.draw.subject.Subject.{Subject}
 
 -- these are all faults of a map, which touch so many polygons, and there are none where it keeps what is asked of it; `faces` says whether

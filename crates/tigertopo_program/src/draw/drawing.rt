@@ -8,23 +8,25 @@ ghost use Rattle.tl_record.specs.Layout.{layout_with};
 ghost use Rattle.tigertopo_files.specs.Files.{IsFree};
 ghost use Rattle.tigertopo_files.specs.World.{Does, world};
 ghost use Rattle.tigertopo_files.specs.declared.beginning.FileKind.TheVariants.{Picture as PictureKind};
-ghost use Rattle.tigertopo_outcome.specs.Answers.{IsSaid};
+ghost use Rattle.tigertopo_program.specs.Answers.{IsSaid};
 ghost use Rattle.tigertopo_files.specs.Reading.{text_under};
-ghost use Rattle.tigertopo_outcome.specs.Records.{StopsNever, StopsRecords};
-ghost use Rattle.tigertopo_svg.specs.Fills.{AreFillsOf};
-ghost use Rattle.tigertopo_svg.specs.Whole.{picture_text};
+ghost use Rattle.tigertopo_program.specs.Records.{StopsNever, StopsRecords};
+ghost use Rattle.tigertopo_pictures.specs.Svg.Fills.{AreFillsOf};
+ghost use Rattle.tigertopo_pictures.specs.Svg.Whole.{picture_text};
 ghost use Rattle.tigertopo_program.specs.Draw.Subjects.{IsKnownOf};
 ghost use Rattle.tigertopo_program.specs.Draw.Drawing.{DrawAnswers, IsDrawnOf, IsFilled, drawn_of, picture_by, places_of};
 
+use crate::answer::{Answer, Drawn};
 use crate::draw::subject::{Subject, SubjectOf};
+use crate::making::answer_with_file;
+use crate::reading::over_records;
 use std::alloc::Global;
 use std::hash::RandomState;
 use tigertopo_faults::lines::fault_places;
-use tigertopo_files::{FileKind, FileSystem, make_file};
-use tigertopo_outcome::outcome::{Drawn, Outcome};
-use tigertopo_outcome::reading::over_records;
-use tigertopo_outcome::said::{Answer, Said};
-use tigertopo_svg::{Fills, Frame, Picture, chain_count, fault_count, picture_of, print_picture};
+use tigertopo_files::{FileKind, FileSystem};
+use tigertopo_pictures::svg::{
+    Fills, Frame, Picture, chain_count, fault_count, picture_of, print_picture,
+};
 use tigertopo_words::View;
 use tl_build::{find_walks, planar_walks};
 use tl_cert_output::{Stop, Text};
@@ -72,7 +74,7 @@ pub fn draw<F: FileSystem>(
     made: &String,
     view: Option<View>,
     shows_faults: bool,
-) -> Result<Answer<Said>, Stop>
+) -> Result<Answer, Stop>
     requires { IsFree (F.under files.old) (string_bytes made.now) (map string_bytes names.now) PictureKind }
     ensures { let w = world F.under F.log F.knows files.old files.new in
         let known = text_under (F.under files.old) (map string_bytes names.now) in
@@ -95,7 +97,7 @@ pub fn draw<F: FileSystem>(
             shows_faults,
             &subject,
         ),
-        Err(fault) => Ok(Answer::of(Outcome::fault(fault))),
+        Err(fault) => Ok(Answer::fault(fault)),
     }
 }
 
@@ -109,7 +111,7 @@ fn draw_subject<F: FileSystem>(
     view: Option<View>,
     shows_faults: bool,
     subject: &Subject,
-) -> Result<Answer<Said>, Stop>
+) -> Result<Answer, Stop>
     requires free { IsFree (F.under files.old) (string_bytes made.now) (map string_bytes names.now) PictureKind }
     requires known { IsKnownOf subject.now.map subject.now.is_sound }
     ensures { let w = world F.under F.log F.knows files.old files.new in
@@ -126,8 +128,16 @@ fn draw_subject<F: FileSystem>(
         faults: subject.faults.as_slice(),
         places: places.as_slice(),
     };
-    make_file(files, alloc, made.as_str(), names, FileKind::Picture, &text)?;
-    Ok(Answer::of(Outcome::Drawn(drawn_of(picture, places.as_slice(), shows_faults, subject))))
+    let drawn = drawn_of(picture, places.as_slice(), shows_faults, subject);
+    answer_with_file(
+        files,
+        alloc,
+        made,
+        names,
+        FileKind::Picture,
+        &text,
+        Answer::Drawn(drawn),
+    )
 }
 
 // What the polygons of a map are filled by, if it is sound, as may be known.

@@ -6,13 +6,13 @@ ghost use Rattle.tl_record.specs.Layout.{layout_with};
 ghost use Rattle.tl_list.specs.Findings.{AreFindingsOf, AreOfMap, BeginWithRecords, SaysWhy};
 ghost use Rattle.tigertopo_files.specs.World.{MayStop};
 ghost use Rattle.tl_cert_output.specs.declared.stop.Stop.TheVariants.{Device};
-ghost use Rattle.tigertopo_outcome.specs.Records.{StopsRecords};
+ghost use Rattle.tigertopo_program.specs.Records.{StopsRecords};
 ghost use Rattle.tigertopo_program.specs.Draw.Keeping.{listed_faults, listed_touched, stop_of_refusal, first_listed};
 ghost use Rattle.tigertopo_program.specs.Draw.Subjects.{IsSubjectOf};
 
+use crate::reading::Question;
 use std::alloc::Global;
 use std::hash::RandomState;
-use tigertopo_outcome::reading::Question;
 use tl_cert_output::Stop;
 use tl_check_verdict::{MapFault, fault_of_records};
 use tl_list::{Findings, has_sound_map, list_with_map};

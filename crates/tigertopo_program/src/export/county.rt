@@ -7,21 +7,21 @@ ghost use Rattle.tigertopo_files.specs.World.{Does, world};
 ghost use Rattle.tigertopo_files.specs.declared.beginning.FileKind.TheVariants.{Collection};
 ghost use Rattle.tl_check_verdict.specs.Sound.{IsSound};
 ghost use Rattle.tl_check_sides.specs.Walks.{AreWalks};
-ghost use Rattle.tigertopo_geojson.specs.Holes.{AreShapes};
-ghost use Rattle.tigertopo_outcome.specs.Answers.{IsSaid};
+ghost use Rattle.tigertopo_pictures.specs.Geojson.Holes.{AreShapes};
+ghost use Rattle.tigertopo_program.specs.Answers.{IsSaid};
 ghost use Rattle.tigertopo_files.specs.Reading.{text_under};
-ghost use Rattle.tigertopo_outcome.specs.Records.{StopsNever, StopsRecords};
-ghost use Rattle.tigertopo_program.specs.Export.Exports.{ExportAnswers, IsExportedOf, asked_of, counts_of};
+ghost use Rattle.tigertopo_program.specs.Records.{StopsNever, StopsRecords};
+ghost use Rattle.tigertopo_program.specs.Exports.{ExportAnswers, IsExportedOf, asked_of, counts_of};
 
+use crate::answer::{Answer, Exported};
+use crate::making::answer_with_file;
+use crate::reading::over_records;
+use crate::records::MapOf;
 use std::alloc::Global;
 use std::hash::RandomState;
-use tigertopo_files::{FileKind, FileSystem, make_file};
-use tigertopo_geojson::{CountyText, CountyTextWith, Shapes};
-use tigertopo_outcome::outcome::{Exported, Outcome};
-use tigertopo_outcome::reading::over_records;
-use tigertopo_outcome::records::MapOf;
-use tigertopo_outcome::said::{Answer, Said};
-use tigertopo_shown::Layer;
+use tigertopo_files::{FileKind, FileSystem};
+use tigertopo_pictures::geojson::{CountyText, CountyTextWith, Shapes};
+use tigertopo_words::Layer;
 use tl_build::find_walks;
 use tl_cert_output::Stop;
 use tl_map_county::Map;
@@ -38,7 +38,7 @@ pub fn export<F: FileSystem>(
     names: &[String],
     made: &String,
     layer: Option<Layer>,
-) -> Result<Answer<Said>, Stop>
+) -> Result<Answer, Stop>
     requires { IsFree (F.under files.old) (string_bytes made.now) (map_list string_bytes names.now) Collection }
     ensures { let w = world F.under F.log F.knows files.old files.new in
         let known = text_under (F.under files.old) (map_list string_bytes names.now) in
@@ -48,7 +48,7 @@ pub fn export<F: FileSystem>(
 {
     match over_records(files, alloc, hasher, names, &MapOf { options })? {
         Ok(map) => export_map(files, alloc, names, made, layer, &map),
-        Err(fault) => Ok(Answer::of(Outcome::fault(fault))),
+        Err(fault) => Ok(Answer::fault(fault)),
     }
 }
 
@@ -60,7 +60,7 @@ fn export_map<F: FileSystem>(
     made: &String,
     layer: Option<Layer>,
     map: &Map,
-) -> Result<Answer<Said>, Stop>
+) -> Result<Answer, Stop>
     requires { IsFree (F.under files.old) (string_bytes made.now) (map_list string_bytes names.now) Collection }
     ensures { let w = world F.under F.log F.knows files.old files.new in
         let asked = asked_of (map_list string_bytes names.now) (string_bytes made.now) layer in
@@ -81,7 +81,7 @@ fn export_walked<F: FileSystem>(
     layer: Option<Layer>,
     map: &Map,
     walks: &[Vec<u32>],
-) -> Result<Answer<Said>, Stop>
+) -> Result<Answer, Stop>
     requires free { IsFree (F.under files.old) (string_bytes made.now) (map_list string_bytes names.now) Collection }
     requires sound { IsSound map.now }
     requires walks { AreWalks map.now.chains (map_list (λ w. w.items) walks.now) }
@@ -105,7 +105,7 @@ fn export_sound<F: FileSystem>(
     map: &Map,
     walks: &[Vec<u32>],
     shapes: &Shapes,
-) -> Result<Answer<Said>, Stop>
+) -> Result<Answer, Stop>
     requires free { IsFree (F.under files.old) (string_bytes made.now) (map_list string_bytes names.now) Collection }
     requires sound { IsSound map.now }
     requires walks { AreWalks map.now.chains (map_list (λ w. w.items) walks.now) }
@@ -122,15 +122,16 @@ fn export_sound<F: FileSystem>(
         walks,
         shapes,
     };
-    make_file(
+    let counts = counts(map, Some(shapes.rings()));
+    answer_with_file(
         files,
         alloc,
-        made.as_str(),
+        made,
         names,
         FileKind::Collection,
         &text,
-    )?;
-    Ok(Answer::of(Outcome::Exported(counts(map, Some(shapes.rings())))))
+        Answer::Exported(counts),
+    )
 }
 
 // Exports a map that isn't sound.
@@ -141,7 +142,7 @@ fn export_faulty<F: FileSystem>(
     made: &String,
     layer: Option<Layer>,
     map: &Map,
-) -> Result<Answer<Said>, Stop>
+) -> Result<Answer, Stop>
     requires free { IsFree (F.under files.old) (string_bytes made.now) (map_list string_bytes names.now) Collection }
     requires faulty { ¬ IsSound map.now }
     ensures { let w = world F.under F.log F.knows files.old files.new in
@@ -150,15 +151,16 @@ fn export_faulty<F: FileSystem>(
 {
     let file = first_name(names);
     let text = CountyText { map, layer, file };
-    make_file(
+    let counts = counts(map, None);
+    answer_with_file(
         files,
         alloc,
-        made.as_str(),
+        made,
         names,
         FileKind::Collection,
         &text,
-    )?;
-    Ok(Answer::of(Outcome::Exported(counts(map, None))))
+        Answer::Exported(counts),
+    )
 }
 
 // The name that stands for all files: that of the first.

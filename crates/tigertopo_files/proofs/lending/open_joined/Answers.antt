@@ -1,5 +1,5 @@
 use Rattle.std.proofs.Common.{◌∙◌, string_bytes}
-use Rattle.tigertopo_text.proofs.FailureLemmas.{none_counted}
+use Rattle.tigertopo_files.proofs.FailureLemmas.{none_counted}
 use Rattle.tigertopo_files.proofs.LendingLemmas.{joined_under}
 use Rattle.tigertopo_files.proofs.lending.open_joined.Goals as goal
 

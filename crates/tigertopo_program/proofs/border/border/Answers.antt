@@ -4,10 +4,10 @@ use Rattle.tigertopo_files.specs.Files.{IsFree}
 use Rattle.tigertopo_files.specs.World.{world}
 use Rattle.tigertopo_files.specs.declared.beginning.FileKind.TheVariants.{Records}
 use Rattle.tigertopo_files.proofs.WorldLemmas.{does_stop}
-use Rattle.tigertopo_outcome.specs.Answers.{IsReadMap, IsSaid}
+use Rattle.tigertopo_program.specs.Answers.{IsReadMap, IsSaid}
 use Rattle.tigertopo_files.specs.Reading.{text_under}
-use Rattle.tigertopo_outcome.specs.Records.{StopsRecords}
-use Rattle.tigertopo_program.specs.Border.Borders.{BorderAnswers, Wanted}
+use Rattle.tigertopo_program.specs.Records.{StopsRecords}
+use Rattle.tigertopo_program.specs.Borders.{BorderAnswers, Wanted}
 use Rattle.tigertopo_program.proofs.BorderLemmas.BorderLemmas.{border_of_fault, border_of_read}
 use Rattle.tigertopo_program.proofs.border.border.Goals as goal
 
@@ -37,4 +37,4 @@ returns-in-Err g c =
     let w = world g.F.FileSystem.under g.F.FileSystem.log g.F.FileSystem.knows c.args.files.now c.over_records.new.files in
     let known = text_under w.before (map string_bytes c.args.names.now) in
     let wanted : Wanted = record { name = string_bytes c.args.made.now; cenid = c.args.cenid } in
-    rw (c.of.ensures, c.fault.ensures) (border_of_fault w (map string_bytes c.args.names.now) wanted c.args.options known c.in-Err.fault (rw c.in-Err.is at c.in_ok-map.ensures))
+    rw c.fault.ensures (border_of_fault w (map string_bytes c.args.names.now) wanted c.args.options known c.in-Err.fault (rw c.in-Err.is at c.in_ok-map.ensures))

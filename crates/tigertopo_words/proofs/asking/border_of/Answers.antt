@@ -1,18 +1,16 @@
-use Rattle.std.proofs.Common.{codes, Option, List, ℕ, refl, sym, subst, ◌∙◌}
-use Rattle.clap.specs.Matches.{found_of}
-use Rattle.clap.proofs.WalkLemmas.{first_value-rows}
+use Rattle.std.proofs.Common.{Option, List, ℕ, refl, sym, subst}
 use Rattle.tigertopo_words.specs.Arguments.{IsCenid}
 use Rattle.tigertopo_words.proofs.ArgumentLemmas.{word_given}
 use Rattle.tigertopo_words.proofs.asking.border_of.Goals as goal
 
 pub returns-in_default : goal.returns-in_default
 returns-in_default c = λ needs.
-    let name = c.get_str.ensures ∙ first_value-rows (found_of c.args.found.now) (codes "name") in
+    let name = c.given.ensures in
     c.in_default.ensures needs.1.0 (subst (λ (given : Option (List ℕ)). IsCenid given needs.1.0) (sym name) needs.1.1)
 
 pub returns-in-Some-2 : goal.returns-in-Some-2
 returns-in-Some-2 c =
-    let name = c.get_str.ensures ∙ first_value-rows (found_of c.args.found.now) (codes "name") in (
+    let name = c.given.ensures in (
       refl,
       record {
         to = word_given c.in_ok-made.field-0 _ c.in-Some-2.made c.in_ok-made.ensures c.in-Some-2.is;

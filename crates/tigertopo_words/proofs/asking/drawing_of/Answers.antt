@@ -1,20 +1,18 @@
-use Rattle.std.proofs.Common.{codes, refl, sym, ◌∙◌}
-use Rattle.clap.specs.Matches.{found_of}
-use Rattle.clap.proofs.WalkLemmas.{first_value-rows}
+use Rattle.std.proofs.Common.{refl, sym}
 use Rattle.tigertopo_words.proofs.ArgumentLemmas.{word_given, seen_the_same, with_faults, without_faces}
 use Rattle.tigertopo_words.proofs.asking.drawing_of.Goals as goal
 use Rattle.tigertopo_words.proofs.asking.drawing_of.Goals.{else-switch_of-via-then-switch_of+else-not-faults, else-switch_of-via-else-switch_of}
 
 pub returns-in_default : goal.returns-in_default
 returns-in_default c = λ needs.
-    let center = c.get_str.ensures ∙ first_value-rows (found_of c.args.found.now) (codes "at") in
-    let width = c.get_str-2.ensures ∙ first_value-rows (found_of c.args.found.now) (codes "width") in
+    let center = c.given.ensures in
+    let width = c.given-2.ensures in
     c.in_default.ensures needs.1.0 (seen_the_same needs.1.0 _ _ _ _ (sym center) (sym width) needs.1.1)
 
 pub returns-in-Some-2 : goal.returns-in-Some-2
 returns-in-Some-2 c =
-    let center = c.get_str.ensures ∙ first_value-rows (found_of c.args.found.now) (codes "at") in
-    let width = c.get_str-2.ensures ∙ first_value-rows (found_of c.args.found.now) (codes "width") in (
+    let center = c.given.ensures in
+    let width = c.given-2.ensures in (
       refl,
       record {
         to = word_given c.in_ok-made.field-0 _ c.in-Some-2.made c.in_ok-made.ensures c.in-Some-2.is;

@@ -1,18 +1,16 @@
-use Rattle.std.proofs.Common.{codes, Option, List, ℕ, refl, sym, subst, ◌∙◌}
-use Rattle.clap.specs.Matches.{found_of}
-use Rattle.clap.proofs.WalkLemmas.{first_value-rows}
+use Rattle.std.proofs.Common.{Option, List, ℕ, refl, sym, subst}
 use Rattle.tigertopo_words.specs.Arguments.{IsLayer}
 use Rattle.tigertopo_words.proofs.ArgumentLemmas.{word_given}
 use Rattle.tigertopo_words.proofs.asking.export_of.Goals as goal
 
 pub returns-in_default : goal.returns-in_default
 returns-in_default c = λ needs.
-    let layer = c.get_str.ensures ∙ first_value-rows (found_of c.args.found.now) (codes "layer") in
+    let layer = c.given.ensures in
     c.in_default.ensures needs.1.0 (subst (λ (given : Option (List ℕ)). IsLayer given needs.1.0) (sym layer) needs.1.1)
 
 pub returns-in-Some-2 : goal.returns-in-Some-2
 returns-in-Some-2 c =
-    let layer = c.get_str.ensures ∙ first_value-rows (found_of c.args.found.now) (codes "layer") in (
+    let layer = c.given.ensures in (
       refl,
       record {
         to = word_given c.in_ok-made.field-0 _ c.in-Some-2.made c.in_ok-made.ensures c.in-Some-2.is;

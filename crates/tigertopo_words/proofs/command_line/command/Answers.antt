@@ -1,10 +1,14 @@
-use Rattle.std.proofs.Common.{[], ◌∷◌}
-use Rattle.tigertopo_words.specs.Commands.{program}
-use Rattle.tigertopo_words.specs.declared.command_line.Named.TheVariants.{Show, Landmarks, Locate, Audit, Build, Check, Convert, Export, Draw, Border}
+use Rattle.std.proofs.Common.{◌≡◌, List, map, subst}
+use Rattle.std.specs.Prelude.{IfOk}
+use Rattle.clap.specs.Simple.{app_of}
+use Rattle.clap.specs.Walk.{Rule, Text}
+use Rattle.tigertopo_words.specs.Commands.{program, with_commands}
+use Rattle.tigertopo_words.specs.Keeping.{row_given}
 use Rattle.tigertopo_words.proofs.CommandsLemmas.{whole_made}
 use Rattle.tigertopo_words.proofs.command_line.command.Goals as goal
 
 pub returns-in-Ok : goal.returns-in-Ok
 returns-in-Ok c =
-    let names = Show ∷ Landmarks ∷ Locate ∷ Audit ∷ Build ∷ Check ∷ Convert ∷ Export ∷ Draw ∷ Border ∷ [] in
-    whole_made c.program.result c.with_commands.result names program c.program.ensures (c.with_commands.ensures names c.in-Ok.ensures)
+    let rows = c.rows.result.now in
+    subst (λ (given : List (Text × List Rule)). IfOk c.with_commands.result (λ command. app_of command ≡ with_commands program given)) c.rows.ensures.given
+    (whole_made c.program.result c.with_commands.result (map row_given rows) program c.program.ensures (c.with_commands.ensures rows c.in-Ok.ensures))

@@ -1,6 +1,6 @@
 use Rattle.std.proofs.Common.{◌≡◌, ◌-◌, suc, subst, sym, arith}
 use Rattle.std.proofs.lemmas.Int.{ints}
-use Rattle.tigertopo_shown.specs.Points.{AreDegreesOf}
+use Rattle.tigertopo_words.specs.Points.{AreDegreesOf}
 use Rattle.tigertopo_words.proofs.degrees.below_zero.Goals as goal
 
 pub returns-in_err-distance : goal.returns-in_err-distance

@@ -1,7 +1,7 @@
 use Rattle.std.proofs.Common.{◌≤◌, w32, to_z, of_z, unsigned_abs, rules, arith}
 use Rattle.tl_record.specs.Limits.{greatest_longitude, greatest_latitude}
 use Rattle.std.proofs.lemmas.Str.Pattern.{strip_prefix_char}
-use Rattle.tigertopo_shown.specs.Points.{AreMillionths}
+use Rattle.tigertopo_words.specs.Points.{AreMillionths}
 use Rattle.tigertopo_words.proofs.PointLemmas.{no_front, with_front, no_split, both, spells_both, millionths_no_comma}
 use Rattle.tigertopo_words.proofs.point.point_in_millionths.Goals as goal
 

@@ -1,6 +1,6 @@
 use Rattle.std.proofs.Common.{◌≡◌, take}
 use Rattle.std.specs.Prelude.{option_copied}
-use Rattle.tigertopo_records.specs.SpokenOf.{chains_of}
+use Rattle.tigertopo_faults.specs.Records.SpokenOf.{chains_of}
 use Rattle.tigertopo_faults.specs.Geojson.Texts.{named_tlids}
 use Rattle.tigertopo_faults.proofs.geojson.chains.list_in_order.Given as goal
 

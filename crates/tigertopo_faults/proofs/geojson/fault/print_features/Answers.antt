@@ -1,9 +1,9 @@
 use Rattle.std.proofs.Common.{map, string_bytes, arith}
 use Rattle.std.specs.Prelude.{option_copied}
-use Rattle.tigertopo_records.specs.SpokenOf.{chains_of}
-use Rattle.tigertopo_records.specs.Keeping.{held}
+use Rattle.tigertopo_faults.specs.Records.SpokenOf.{chains_of}
+use Rattle.tigertopo_faults.specs.Records.Keeping.{held}
 use Rattle.tl_cert_output.proofs.PrinterLemmas.{both, as_text}
-use Rattle.tigertopo_geojson.proofs.FeatureLemmas.{one_feature_more}
+use Rattle.tigertopo_pictures.proofs.GeojsonLemmas.FeatureLemmas.{one_feature_more}
 use Rattle.tigertopo_faults.specs.Lines.Places.{place_at}
 use Rattle.tigertopo_faults.specs.Geojson.Texts.{fault_text, fault_feature}
 use Rattle.tigertopo_faults.proofs.GeojsonLemmas.ListLemmas.{text_at}

@@ -1,9 +1,9 @@
 use Rattle.std.proofs.Common.{map, string_bytes}
 use Rattle.std.specs.Prelude.{option_copied}
 use Rattle.tl_cert_output.specs.Printing.{Prints}
-use Rattle.tigertopo_geojson.specs.Features.{features_below}
-use Rattle.tigertopo_records.specs.SpokenOf.{chains_of}
-use Rattle.tigertopo_records.specs.Keeping.{held}
+use Rattle.tigertopo_pictures.specs.Geojson.Features.{features_below}
+use Rattle.tigertopo_faults.specs.Records.SpokenOf.{chains_of}
+use Rattle.tigertopo_faults.specs.Records.Keeping.{held}
 use Rattle.tigertopo_faults.specs.Geojson.Texts.{fault_feature}
 use Rattle.tigertopo_faults.proofs.geojson.fault.print_features.Given as goal
 

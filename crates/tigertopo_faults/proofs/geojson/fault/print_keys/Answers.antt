@@ -1,4 +1,4 @@
-use Rattle.tigertopo_geojson.specs.Strings.{key_string}
+use Rattle.tigertopo_pictures.specs.Geojson.Strings.{key_string}
 use Rattle.tl_cert_output.proofs.PrinterLemmas.{both, as_text}
 use Rattle.tigertopo_faults.proofs.GeojsonLemmas.ListLemmas.{two_separated}
 use Rattle.tigertopo_faults.proofs.geojson.fault.print_keys.Goals as goal

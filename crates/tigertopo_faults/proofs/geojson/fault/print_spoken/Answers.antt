@@ -1,8 +1,8 @@
 use Rattle.std.proofs.Common.{List, ◌++◌, ap, map, string_bytes}
 use Rattle.std.specs.Prelude.{option_copied}
-use Rattle.tigertopo_records.specs.declared.line.RecordLine.{RecordLine}
-use Rattle.tigertopo_records.specs.SpokenOf.{chains_of}
-use Rattle.tigertopo_records.specs.Keeping.{held}
+use Rattle.tigertopo_faults.specs.declared.records.line.RecordLine.{RecordLine}
+use Rattle.tigertopo_faults.specs.Records.SpokenOf.{chains_of}
+use Rattle.tigertopo_faults.specs.Records.Keeping.{held}
 use Rattle.tigertopo_faults.specs.Geojson.Records.{records_text}
 use Rattle.tl_cert_output.proofs.PrinterLemmas.{as_text}
 use Rattle.tigertopo_faults.proofs.LinesLemmas.SpokenLemmas.{spoken_parts}

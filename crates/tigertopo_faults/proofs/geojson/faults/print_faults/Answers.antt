@@ -1,6 +1,6 @@
 use Rattle.std.proofs.Common.{◌≡◌, ◌∙◌, ap, sym}
 use Rattle.std.specs.Prelude.{option_copied}
-use Rattle.tigertopo_records.specs.SpokenOf.{chains_of}
+use Rattle.tigertopo_faults.specs.Records.SpokenOf.{chains_of}
 use Rattle.tl_cert_output.proofs.PrinterLemmas.{both, as_text, ends_text}
 use Rattle.tigertopo_faults.specs.Geojson.Texts.{named_tlids, chains_text, faults_text}
 use Rattle.tigertopo_faults.proofs.GeojsonLemmas.ChainLemmas.{chains_same}

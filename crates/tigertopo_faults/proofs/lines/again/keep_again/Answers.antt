@@ -5,14 +5,14 @@ use Rattle.tl_cert_output.proofs.StopLemmas.{by_stop, stops_for}
 use Rattle.tigertopo_files.specs.Files.{Under, bytes_under}
 use Rattle.tigertopo_files.specs.World.{world}
 use Rattle.tl_record.specs.Left.{numbers_of}
-use Rattle.tigertopo_where.specs.Hint.Again.{FailsAgain}
+use Rattle.tigertopo_faults.specs.Hint.Again.{FailsAgain}
 use Rattle.std.proofs.lemmas.List.{length-append}
-use Rattle.tigertopo_where.proofs.FoundLemmas.{found_in_all, found_more}
-use Rattle.tigertopo_where.proofs.PlacedLemmas.{behind_slice}
-use Rattle.tigertopo_where.proofs.HintLemmas.HintLemmas.{among, same_count, text_at}
-use Rattle.tigertopo_where.proofs.HintLemmas.AgainLemmas.{fails_among, fails_behind, passing_among, stops_logged, stops_one}
-use Rattle.tigertopo_records.specs.declared.read.FileRecords.{FileRecords}
-use Rattle.tigertopo_records.proofs.ReadingLemmas.{fewer_behind, kept_all, kept_more, numbers_from}
+use Rattle.tigertopo_faults.proofs.FoundLemmas.{found_in_all, found_more}
+use Rattle.tigertopo_faults.proofs.PlacedLemmas.{behind_slice}
+use Rattle.tigertopo_faults.proofs.HintLemmas.HintLemmas.{among, same_count, text_at}
+use Rattle.tigertopo_faults.proofs.HintLemmas.AgainLemmas.{fails_among, fails_behind, passing_among, stops_logged, stops_one}
+use Rattle.tigertopo_faults.specs.declared.records.read.FileRecords.{FileRecords}
+use Rattle.tigertopo_faults.proofs.ReadingLemmas.{fewer_behind, kept_all, kept_more, numbers_from}
 use Rattle.tigertopo_faults.proofs.lines.again.keep_again.Goals as goal
 
 pub returns-in_err-part-clause-stops : goal.returns-in_err-part-clause-stops

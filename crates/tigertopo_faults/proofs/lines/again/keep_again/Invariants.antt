@@ -1,10 +1,10 @@
 use Rattle.std.proofs.Common.{◌≡◌, ◌≤◌, [], ℕ, List, length, true, map, string_bytes}
 use Rattle.tl_record.specs.Left.{numbers_of}
-use Rattle.tigertopo_where.specs.Hint.Telling.{HaveTexts}
-use Rattle.tigertopo_records.specs.declared.subject.Subject.{Subject}
-use Rattle.tigertopo_records.specs.Kept.{is_wanted}
-use Rattle.tigertopo_where.proofs.FoundLemmas.{FoundSoFar}
-use Rattle.tigertopo_records.proofs.ReadingLemmas.{KeptSoFar}
+use Rattle.tigertopo_faults.specs.Hint.Telling.{HaveTexts}
+use Rattle.tigertopo_faults.specs.declared.records.subject.Subject.{Subject}
+use Rattle.tigertopo_faults.specs.Records.Kept.{is_wanted}
+use Rattle.tigertopo_faults.proofs.FoundLemmas.{FoundSoFar}
+use Rattle.tigertopo_faults.proofs.ReadingLemmas.{KeptSoFar}
 use Rattle.tigertopo_faults.proofs.lines.again.keep_again.Given as goal
 
 abbrev pub invariant-loop-name : goal.invariant-loop-name

@@ -3,9 +3,9 @@ use Rattle.std.proofs.lemmas.Result.{err_from_is_err_and}
 use Rattle.std.specs.Prelude.{option_copied}
 use Rattle.tl_record.specs.Layout.{layout_with}
 use Rattle.tl_record.specs.Left.{numbers_of}
-use Rattle.tigertopo_where.specs.LinePlaces.{line_count}
-use Rattle.tigertopo_records.specs.SpokenOf.{chains_of}
-use Rattle.tigertopo_records.proofs.ReadingLemmas.{then_all}
+use Rattle.tigertopo_faults.specs.Places.LinePlaces.{line_count}
+use Rattle.tigertopo_faults.specs.Records.SpokenOf.{chains_of}
+use Rattle.tigertopo_faults.proofs.ReadingLemmas.{then_all}
 use Rattle.tigertopo_faults.proofs.lines.again.lines_again.Goals as goal
 
 pub returns-clause-held : goal.returns-clause-held

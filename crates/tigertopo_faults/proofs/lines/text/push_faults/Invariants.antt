@@ -1,7 +1,7 @@
 use Rattle.std.proofs.Common.{◌≡◌, ◌++◌, drop, map, string_bytes}
 use Rattle.std.specs.Prelude.{option_copied}
-use Rattle.tigertopo_records.specs.SpokenOf.{chains_of}
-use Rattle.tigertopo_records.specs.Keeping.{held}
+use Rattle.tigertopo_faults.specs.Records.SpokenOf.{chains_of}
+use Rattle.tigertopo_faults.specs.Records.Keeping.{held}
 use Rattle.tigertopo_faults.specs.Lines.Texts.{placed_faults_text}
 use Rattle.tigertopo_faults.proofs.lines.text.push_faults.Given as goal
 

@@ -1,5 +1,6 @@
-use Rattle.tl_cert_output.proofs.PrinterLemmas.{both}
+use Rattle.std.proofs.Common.{◌∙◌}
+use Rattle.tl_cert_output.proofs.PrinterLemmas.{both, as_text}
 use Rattle.tigertopo_faults.proofs.objects.about.print_limit.Goals as goal
 
-pub returns-in-TooMany : goal.returns-in-TooMany
-returns-in-TooMany g c = rw c.in-TooMany.is (both (both c.add.ensures (rw c.limit_word.ensures at c.add-in-TooMany.ensures)) c.add-in-TooMany-2.ensures)
+pub returns : goal.returns
+returns g c = both (both c.add.ensures (as_text c.add-2.ensures (c.as_bytes.ensures.value ∙ c.limited_word.ensures.word))) c.add-3.ensures

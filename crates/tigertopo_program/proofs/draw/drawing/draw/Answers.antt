@@ -3,8 +3,8 @@ use Rattle.tl_record.specs.Layout.{layout_with}
 use Rattle.tigertopo_files.specs.World.{world}
 use Rattle.tigertopo_files.proofs.WorldLemmas.{does_then}
 use Rattle.tigertopo_files.specs.Reading.{text_under}
-use Rattle.tigertopo_outcome.specs.Answers.{IsSaid}
-use Rattle.tigertopo_outcome.specs.Records.{StopsNever, StopsRecords}
+use Rattle.tigertopo_program.specs.Answers.{IsSaid}
+use Rattle.tigertopo_program.specs.Records.{StopsNever, StopsRecords}
 use Rattle.tigertopo_program.specs.Draw.Drawing.{DrawAnswers, IsDrawnOf, Wanted}
 use Rattle.tigertopo_program.specs.Draw.Subjects.{IsSubjectOf}
 use Rattle.tigertopo_program.proofs.DrawLemmas.DrawLemmas.{says_drawn}

@@ -7,7 +7,7 @@ use Rattle.tl_cert_output.specs.declared.stop.Stop.TheVariants.{Device}
 use Rattle.tl_cert_output.proofs.StopLemmas.{by_stop}
 use Rattle.tl_list.specs.Findings.{SaysWhy}
 use Rattle.tigertopo_files.specs.World.{MayStop}
-use Rattle.tigertopo_outcome.specs.Records.{StopsRecords}
+use Rattle.tigertopo_program.specs.Records.{StopsRecords}
 use Rattle.tigertopo_program.proofs.DrawLemmas.SubjectLemmas.{first_no_device, subject_found, subject_missing}
 use Rattle.tigertopo_program.proofs.draw.subject.subject_of.Goals as goal
 

@@ -4,10 +4,10 @@ use Rattle.tigertopo_files.specs.Files.{IsFree}
 use Rattle.tigertopo_files.specs.World.{world}
 use Rattle.tigertopo_files.specs.declared.beginning.FileKind.TheVariants.{Collection}
 use Rattle.tigertopo_files.proofs.WorldLemmas.{does_stop}
-use Rattle.tigertopo_outcome.specs.Answers.{IsReadMap, IsSaid}
+use Rattle.tigertopo_program.specs.Answers.{IsReadMap, IsSaid}
 use Rattle.tigertopo_files.specs.Reading.{text_under}
-use Rattle.tigertopo_outcome.specs.Records.{StopsRecords}
-use Rattle.tigertopo_program.specs.Export.Exports.{ExportAnswers, asked_of}
+use Rattle.tigertopo_program.specs.Records.{StopsRecords}
+use Rattle.tigertopo_program.specs.Exports.{ExportAnswers, asked_of}
 use Rattle.tigertopo_program.proofs.ExportLemmas.ExportLemmas.{export_of_fault, export_of_read}
 use Rattle.tigertopo_program.proofs.export.county.export.Goals as goal
 
@@ -34,4 +34,4 @@ pub returns-in-Err : goal.returns-in-Err
 returns-in-Err g c =
     let w = world g.F.FileSystem.under g.F.FileSystem.log g.F.FileSystem.knows c.args.files.now c.over_records.new.files in
     let known = text_under w.before (map string_bytes c.args.names.now) in
-    rw (c.of.ensures, c.fault.ensures) (export_of_fault w (map string_bytes c.args.names.now) (asked_of (map string_bytes c.args.names.now) (string_bytes c.args.made.now) c.args.layer) (layout_with c.args.options) known c.in-Err.fault (rw c.in-Err.is at c.in_ok-map.ensures))
+    rw c.fault.ensures (export_of_fault w (map string_bytes c.args.names.now) (asked_of (map string_bytes c.args.names.now) (string_bytes c.args.made.now) c.args.layer) (layout_with c.args.options) known c.in-Err.fault (rw c.in-Err.is at c.in_ok-map.ensures))

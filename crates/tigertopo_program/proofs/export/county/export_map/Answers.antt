@@ -1,6 +1,6 @@
 use Rattle.std.proofs.Common.{map, string_bytes}
 use Rattle.tigertopo_files.specs.World.{world}
-use Rattle.tigertopo_program.specs.Export.Exports.{IsExportedOf, asked_of}
+use Rattle.tigertopo_program.specs.Exports.{IsExportedOf, asked_of}
 use Rattle.tigertopo_program.proofs.ExportLemmas.ExportLemmas.{export_stopped}
 use Rattle.tigertopo_program.proofs.export.county.export_map.Goals as goal
 

@@ -1,32 +1,19 @@
-use Rattle.std.proofs.Common.{Some, [], Ok, map, string_bytes, ◌∙◌}
-use Rattle.tigertopo_geojson.specs.Rings.{county_text_with}
-use Rattle.tigertopo_files.specs.Files.{StandsUnder}
+use Rattle.std.proofs.Common.{[], map, string_bytes, ap, sym, subst, ◌∙◌}
 use Rattle.tigertopo_files.specs.World.{world}
-use Rattle.tigertopo_files.proofs.WorldLemmas.{does_make, does_fail, does_answer}
-use Rattle.tigertopo_outcome.specs.Records.{StopsNever}
-use Rattle.tigertopo_program.specs.Export.Exports.{IsExportedOf, asked_of}
+use Rattle.tigertopo_files.proofs.WorldLemmas.{does_so}
+use Rattle.tigertopo_program.specs.declared.answer.Exported.{Exported as Counts}
+use Rattle.tigertopo_program.specs.declared.answer.Answer.TheVariants.{Exported}
+use Rattle.tigertopo_program.specs.Records.{StopsNever}
+use Rattle.tigertopo_program.specs.Exports.{IsExportedOf, asked_of}
 use Rattle.tigertopo_program.proofs.ExportLemmas.ExportLemmas.{exported_whole}
 use Rattle.tigertopo_program.proofs.export.county.export_sound.Goals as goal
 
-pub returns-in_err-make_file : goal.returns-in_err-make_file
-returns-in_err-make_file g c =
-    let w = world g.F.FileSystem.under g.F.FileSystem.log g.F.FileSystem.knows c.args.files.now c.make_file.new.files in
-    let asked = asked_of (map string_bytes c.args.names.now) (string_bytes c.args.made.now) c.args.layer in
-    let text = county_text_with asked.file asked.layer c.args.map.now (map (λ w. w.items) c.args.walks.now) in
-    let made = rw c.as_str.ensures.value at c.in_err-make_file.ensures.made in
-    does_fail w [] (Some asked.name) (λ done. StandsUnder w.after asked.name text) StopsNever c.in_err-make_file.field-0.0
-    (does_make {T = Unit {0}} w.before w.after w.log w.logged w.knows asked.name text StopsNever _ made c.in_err-make_file.ensures.logged)
-    _ c.from_residual.result c.from_residual.ensures.1
-
 pub returns : goal.returns
 returns g c =
-    let w = world g.F.FileSystem.under g.F.FileSystem.log g.F.FileSystem.knows c.args.files.now c.make_file.new.files in
+    let w = world g.F.FileSystem.under g.F.FileSystem.log g.F.FileSystem.knows c.args.files.now c.answer_with_file.new.files in
     let asked = asked_of (map string_bytes c.args.names.now) (string_bytes c.args.made.now) c.args.layer in
-    let name = asked.name in
     let walks = map (λ w. w.items) c.args.walks.now in
-    let text = county_text_with asked.file asked.layer c.args.map.now walks in
-    let made = rw (c.as_str.ensures.value, c.first_name-file.ensures) at c.in_ok-make_file.ensures.made in
-    does_answer w [] (Some name) (λ (done : Unit {0}). StandsUnder w.after name text) StopsNever tt
-    (does_make {T = Unit {0}} w.before w.after w.log w.logged w.knows name text StopsNever (Ok tt) made c.in_ok-make_file.ensures.logged)
-    (IsExportedOf w asked c.args.map.now) c.of.result
-    (rw (c.of.ensures, c.counts.ensures) (exported_whole w asked c.args.map.now walks c.rings.result c.requires.sound c.requires.walks (c.rings.ensures ∙ c.requires.shapes.counted) made.1))
+    does_so w [] _ _ _ StopsNever StopsNever
+    (λ told so. subst (IsExportedOf w asked c.args.map.now) (sym (so.is ∙ ap (λ (n : Counts). Exported n) c.counts-counts.ensures))
+    (exported_whole w asked c.args.map.now walks c.rings.result c.requires.sound c.requires.walks (c.rings.ensures ∙ c.requires.shapes.counted) (rw c.first_name-file.ensures at so.kept)))
+    (λ s never. never) _ c.answer_with_file.ensures

@@ -1,7 +1,7 @@
 use Rattle.std.proofs.Common.{Err, refl, map, string_bytes}
 use Rattle.tl_cert_output.specs.declared.stop.Stop.TheVariants.{Memory}
 use Rattle.tigertopo_files.specs.World.{world}
-use Rattle.tigertopo_program.specs.Export.Exports.{IsExportedOf, asked_of}
+use Rattle.tigertopo_program.specs.Exports.{IsExportedOf, asked_of}
 use Rattle.tigertopo_program.proofs.ExportLemmas.ExportLemmas.{export_stopped}
 use Rattle.tigertopo_program.proofs.export.county.export_walked.Goals as goal
 

@@ -1,6 +1,6 @@
 use Rattle.std.specs.Bool.{⊤}
 use Rattle.tl_record.specs.Layout.{layout_with}
-use Rattle.tigertopo_outcome.proofs.RecordLemmas.{fault_of, any_fault}
+use Rattle.tigertopo_program.proofs.RecordLemmas.{fault_of, any_fault}
 use Rattle.tigertopo_program.proofs.draw.subject.SubjectOfQuestion.ask.Goals as goal
 
 pub returns-then-self-clause-answered : goal.returns-then-self-clause-answered

@@ -1,3 +1,0 @@
--- Lemmas on commands.
-mod PlainLemmas
-pub mod DecideLemmas

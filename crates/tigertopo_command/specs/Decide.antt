@@ -1,2 +1,0 @@
--- What the contracts of what is made cite.
-pub mod Building

@@ -1,3 +1,0 @@
--- What the contracts of commands cite.
-pub mod Commands
-pub mod Decide

@@ -1,9 +1,0 @@
-use Rattle.std.proofs.Common.{option_map}
-use Rattle.tl_cert_output.specs.Printing.{Prints}
-use Rattle.tigertopo_geojson.specs.Features.{features_below, polygon_feature}
-use Rattle.tigertopo_geojson.proofs.polygons.print_polygons.Given as goal
-
-abbrev pub invariant-loop-number : goal.invariant-loop-number
-invariant-loop-number g l =
-    Prints g.S.Sink.contents g.S.Sink.failure_count (l.initial.out, l.initial.printer) (l.out, l.printer)
-    (features_below l.before (polygon_feature (option_map (λ name. name.now) l.file) l.map) l.number)

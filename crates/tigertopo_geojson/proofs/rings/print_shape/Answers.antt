@@ -1,9 +1,0 @@
-use Rattle.std.proofs.Common.{ap, ◌∙◌}
-use Rattle.tigertopo_geojson.specs.Rings.{shape_opening, shape_closing}
-use Rattle.tl_cert_output.proofs.PrinterLemmas.{both, as_text}
-use Rattle.tigertopo_geojson.proofs.rings.print_shape.Goals as goal
-
-pub returns : goal.returns
-returns g c ns goes =
-    let one = c.has_one-is_one.ensures ns goes in
-    both (both (as_text c.add.ensures (c.opening.ensures ∙ ap shape_opening one)) (c.print_parts.ensures ns goes)) (as_text c.add-2.ensures (c.closing.ensures ∙ ap shape_closing one))

@@ -1,7 +1,0 @@
-use Rattle.tigertopo_shown.specs.Json.{string_text}
-use Rattle.tl_cert_output.proofs.PrinterLemmas.{both}
-use Rattle.tigertopo_geojson.proofs.strings.print_string.Goals as goal
-
-pub returns : goal.returns
-unfolding string_text
-returns g c = both (both c.add.ensures c.print_bytes.ensures) c.add-2.ensures

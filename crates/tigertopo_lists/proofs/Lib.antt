@@ -1,3 +1,0 @@
--- Lemmas on lists.
-pub mod ListLemmas
-pub mod LineLemmas

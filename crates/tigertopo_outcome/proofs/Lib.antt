@@ -1,4 +1,0 @@
--- Lemmas on answers.
-pub mod TellingLemmas
-pub mod RecordLemmas
-pub mod ConvertLemmas

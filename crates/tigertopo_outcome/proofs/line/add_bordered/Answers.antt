@@ -1,5 +1,0 @@
-use Rattle.tl_cert_output.proofs.PrinterLemmas.{both}
-use Rattle.tigertopo_outcome.proofs.line.add_bordered.Goals as goal
-
-pub returns : goal.returns
-returns g c = both (both c.add_number.ensures c.add_number-2.ensures) c.add.ensures

@@ -1,0 +1,18 @@
+use Rattle.std.proofs.Common.{arith}
+use Rattle.tl_map_county.specs.Darts.{directed}
+use Rattle.tigertopo_pictures.proofs.PieceLemmas.{at_start, piece_more, at_end}
+use Rattle.tigertopo_pictures.proofs.RingLemmas.{line_step, line_end}
+use Rattle.tigertopo_pictures.proofs.rings.print_line.Goals as goal
+
+pub loop-place-init : goal.loop-place-init
+loop-place-init g c = (omega arith, at_start _ _ _)
+
+pub loop-place-preserved : goal.loop-place-preserved
+loop-place-preserved g c = (
+  omega arith,
+  piece_more _ (line_step (g.P.Pen.pen c.args.pen.now) (directed c.args.is_along c.args.points.now) c.loop-place.place _ _ c.loop-place.invariant.0 c.point_at-from.ensures c.point_at-to.ensures)
+      c.loop-place.invariant.1 c.step.ensures,
+)
+
+pub returns : goal.returns
+returns g c = at_end (line_end (g.P.Pen.pen c.args.pen.now) c.args.is_along c.args.points.now c.loop-place.place (omega arith)) c.loop-place.invariant.1

@@ -1,0 +1,8 @@
+use Rattle.tl_cert_output.proofs.PrinterLemmas.{both, as_text}
+use Rattle.tigertopo_pictures.specs.Rings.{ring_text}
+use Rattle.tigertopo_pictures.proofs.RingLemmas.{start_is}
+use Rattle.tigertopo_pictures.proofs.rings.print_ring.Goals as goal
+
+pub returns : goal.returns
+unfolding ring_text
+returns g c = both (as_text c.start.ensures (start_is (g.P.Pen.pen c.args.pen.now) c.args.map.now.chains c.args.walk.now _ _ c.requires.some c.dart_start.ensures)) c.print_darts.ensures

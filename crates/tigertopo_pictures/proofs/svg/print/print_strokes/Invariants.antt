@@ -1,0 +1,14 @@
+use Rattle.std.proofs.Common.{length}
+use Rattle.std.specs.Prelude.{flat_map}
+use Rattle.tigertopo_pictures.specs.Svg.Strokes.{strokes_left}
+use Rattle.tigertopo_pictures.specs.Svg.Texts.{stroke_text}
+use Rattle.tigertopo_pictures.proofs.PieceLemmas.{PrintsUpTo}
+use Rattle.tigertopo_pictures.proofs.svg.print.print_strokes.Given as goal
+
+abbrev pub invariant-loop-stroke : goal.invariant-loop-stroke
+invariant-loop-stroke g l =
+    PrintsUpTo g.S.Sink.contents g.S.Sink.failure_count (l.initial.out, l.initial.printer) (l.out, l.printer)
+    (flat_map stroke_text (strokes_left l.initial.walk)) (flat_map stroke_text (strokes_left l.walk))
+
+abbrev pub decreases-loop-stroke : goal.decreases-loop-stroke
+decreases-loop-stroke g l = length (strokes_left l.walk)

@@ -1,0 +1,14 @@
+use Rattle.std.proofs.Common.{◌≡◌, ◌∙◌, ap, pos, ◌+ℤ◌, ◌-ℤ◌, rules}
+use Rattle.std.specs.Int.{w64, w128}
+use mir.Val.{to_z, of_z}
+use Rattle.tigertopo_pictures.proofs.SvgLemmas.TextLemmas.{west_parts}
+use Rattle.tigertopo_pictures.proofs.svg.text.west_label.Goals as goal
+
+pub returns : goal.returns
+returns c =
+    let kx : to_z w128 (of_z w128 c.short_of.result) ≡ c.short_of.result = search rules in
+    let ky : to_z w128 (of_z w128 c.beyond.result) ≡ c.beyond.result = search rules in
+    let x : to_z w64 (of_z w64 c.args.spot.x) ≡ c.args.spot.x = search rules in
+    let y : to_z w64 (of_z w64 c.args.spot.y) ≡ c.args.spot.y = search rules in
+    west_parts c.args.spot _ _ _ _ _ (rw c.new-text.ensures at c.push_number.ensures.bytes) c.push_number-2.ensures.bytes c.push_str.ensures.bytes
+    (kx ∙ c.short_of.ensures ∙ ap (λ z. z -ℤ pos 80) x) (ky ∙ c.beyond.ensures ∙ ap (λ z. z +ℤ pos 45) y)

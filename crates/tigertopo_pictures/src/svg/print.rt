@@ -1,0 +1,190 @@
+//! Pictures on their way out.
+
+ghost use Rattle.std.specs.Prelude.{◌≡◌, ◌++◌, IfErr, IfSome, codes, flat_map, length, option_map};
+ghost use Rattle.tl_cert_output.specs.declared.stop.Stop.TheVariants.{Device};
+ghost use Rattle.tl_cert_output.specs.Printing.{Prints};
+ghost use Rattle.tl_cert_output.specs.Texts.{PrintsText};
+ghost use Rattle.tigertopo_pictures.specs.Svg.Strokes.{strokes_left};
+ghost use Rattle.tigertopo_pictures.specs.Svg.Pictures.{drawn};
+ghost use Rattle.tigertopo_pictures.specs.Svg.Texts.{stroke_text, drawing_text, size_text, style_text};
+ghost use Rattle.tigertopo_pictures.specs.Svg.Texts.{chains_part, nodes_part, points_part, marks_part, faults_part, key_part};
+ghost use Rattle.tigertopo_pictures.specs.Svg.Fills.{AreFillsOf, fills_part};
+ghost use Rattle.tigertopo_pictures.specs.Svg.Whole.{picture_text};
+
+use crate::svg::chains::walk_along;
+use crate::svg::filled::print_fills;
+use crate::svg::fills::Fills;
+use crate::svg::frame::Frame;
+use crate::svg::key::print_key;
+use crate::svg::marks::{print_faults, print_nodes, print_points};
+use crate::svg::pairs::print_stroke;
+use crate::svg::picture::Picture;
+use crate::svg::text::size_text;
+use crate::svg::walk::Walk;
+use tl_cert_output::{Printer, Stop};
+use tl_check_verdict::MapFault;
+use tl_geom::Rational;
+use tl_map_county::Map;
+use tl_record::Sink;
+
+// How each part is drawn.
+const STYLE: &[u8] =
+    b"<style>path,circle{fill:none;vector-effect:non-scaling-stroke;stroke-linecap:round;stroke-linejoin:round}\
+text{font:130px sans-serif;fill:#333;stroke:#fff;stroke-width:25px;paint-order:stroke}\
+.chains,.chain{stroke:#333;stroke-width:1}.nodes,.node{stroke:#000;stroke-width:3.2}\
+.points,.point{stroke:#07c;stroke-width:4}.scale{stroke:#333;stroke-width:1.5}\
+circle,.fault{stroke:#d00;stroke-width:2;fill:#d00;fill-opacity:.2}.code{fill:#a00}\
+.polygons path{fill-rule:evenodd}\
+@media(max-width:700px){text{font-size:240px}circle{r:95px}}\
+@media(min-width:1500px){text{font-size:90px}circle{r:45px}}</style>\n\
+<rect x=\"-100\" y=\"-600\" width=\"100%\" height=\"100%\" fill=\"#fff\"/>\n";
+
+/// Prints the picture of a map with these faults, which lie at these places, and its polygons filled where there is something to fill
+/// them by. The error is that a write failed.
+pub fn print_picture<S: Sink>(
+    map: &Map,
+    picture: Picture,
+    fills: Option<&Fills>,
+    faults: &[MapFault],
+    places: &[Option<Rational>],
+    out: &mut S,
+) -> Result<(), Stop>
+    requires places { length places.now ≡ length faults.now }
+    requires fills { IfSome fills (λ f. AreFillsOf map.now f.now) }
+    ensures prints { PrintsText S.contents S.failure_count out.old out.new
+        (picture_text map.now picture (option_map (λ f. f.now.filling) fills.entry) faults.now places.now) result }
+    ensures stop { IfErr result (λ stop. stop ≡ Device) }
+{
+    let mut printer = Printer::new();
+    print_whole(map, picture, fills, faults, places, &mut printer, out);
+    printer.finish(out)
+}
+
+// Prints the same.
+fn print_whole<S: Sink>(
+    map: &Map,
+    picture: Picture,
+    fills: Option<&Fills>,
+    faults: &[MapFault],
+    places: &[Option<Rational>],
+    printer: &mut Printer,
+    out: &mut S,
+)
+    requires places { length places.now ≡ length faults.now }
+    requires fills { IfSome fills (λ f. AreFillsOf map.now f.now) }
+    ensures { Prints S.contents S.failure_count (out.old, printer.old) (out.new, printer.new)
+        (picture_text map.now picture (option_map (λ f. f.now.filling) fills.entry) faults.now places.now) }
+{
+    print_front(map, picture, fills, printer, out);
+    print_back(map, picture, faults, places, printer, out);
+}
+
+// Prints the beginning of the file, how each part is drawn, the polygons that are filled, and the lines of chains.
+fn print_front<S: Sink>(
+    map: &Map,
+    picture: Picture,
+    fills: Option<&Fills>,
+    printer: &mut Printer,
+    out: &mut S,
+)
+    requires { IfSome fills (λ f. AreFillsOf map.now f.now) }
+    ensures { Prints S.contents S.failure_count (out.old, printer.old) (out.new, printer.new)
+        (size_text picture.frame ++ style_text ++ fills_part picture.frame map.now (option_map (λ f. f.now.filling) fills.entry)
+        ++ chains_part picture map.now) }
+{
+    let size = size_text(picture.frame);
+    printer.add(size.as_str().as_bytes(), out);
+    print_style(printer, out);
+    print_fills(map, picture.frame, fills, printer, out);
+    print_chains(map, picture, printer, out);
+}
+
+// Prints how each part is drawn.
+fn print_style<S: Sink>(printer: &mut Printer, out: &mut S)
+    ensures { Prints S.contents S.failure_count (out.old, printer.old) (out.new, printer.new) style_text }
+{
+    printer.add(STYLE, out);
+}
+
+// Prints what is marked, and the end of the file.
+fn print_back<S: Sink>(
+    map: &Map,
+    picture: Picture,
+    faults: &[MapFault],
+    places: &[Option<Rational>],
+    printer: &mut Printer,
+    out: &mut S,
+)
+    requires { length places.now ≡ length faults.now }
+    ensures { Prints S.contents S.failure_count (out.old, printer.old) (out.new, printer.new)
+        (marks_part picture map.now ++ faults_part picture.frame faults.now places.now ++ key_part picture faults.now ++ codes "</svg>\n") }
+{
+    print_marks(map, picture, printer, out);
+    print_faults(picture.frame, faults, places, printer, out);
+    print_key(picture, faults, printer, out);
+    printer.add(b"</svg>\n", out);
+}
+
+// Prints the lines of chains.
+fn print_chains<S: Sink>(map: &Map, picture: Picture, printer: &mut Printer, out: &mut S)
+    ensures { Prints S.contents S.failure_count (out.old, printer.old) (out.new, printer.new)
+        (chains_part picture map.now) }
+{
+    printer.add(b"<path class=\"chains\" d=\"", out);
+    print_drawings(map, picture, printer, out);
+    printer.add(b"\"/>\n", out);
+}
+
+// Prints the strokes of all chains.
+fn print_drawings<S: Sink>(map: &Map, picture: Picture, printer: &mut Printer, out: &mut S)
+    ensures { Prints S.contents S.failure_count (out.old, printer.old) (out.new, printer.new)
+        (flat_map drawing_text (drawn picture map.now)) }
+{
+    for number in 0..map.chains() {
+        let points = map.chain(number).points;
+        let mut walk = walk_along(picture.frame, points);
+        print_strokes(&mut walk, printer, out);
+    }
+}
+
+// Prints the strokes that a walk comes to.
+#[inline(always)]
+fn print_strokes<S: Sink>(walk: &mut Walk<'_>, printer: &mut Printer, out: &mut S)
+    ensures { Prints S.contents S.failure_count (out.old, printer.old) (out.new, printer.new)
+        (flat_map stroke_text (strokes_left walk.old)) }
+{
+    while let Some(stroke) = walk.next() {
+        print_stroke(stroke, printer, out);
+    }
+}
+
+// Prints the dots of nodes and of polygons' points, where they are marked.
+fn print_marks<S: Sink>(map: &Map, picture: Picture, printer: &mut Printer, out: &mut S)
+    ensures { Prints S.contents S.failure_count (out.old, printer.old) (out.new, printer.new)
+        (marks_part picture map.now) }
+{
+    if picture.is_marked {
+        print_nodes_part(map, picture, printer, out);
+        print_points_part(map, picture.frame, printer, out);
+    }
+}
+
+// Prints the dots of nodes.
+fn print_nodes_part<S: Sink>(map: &Map, picture: Picture, printer: &mut Printer, out: &mut S)
+    ensures { Prints S.contents S.failure_count (out.old, printer.old) (out.new, printer.new)
+        (nodes_part picture map.now) }
+{
+    printer.add(b"<path class=\"nodes\" d=\"", out);
+    print_nodes(map, picture, printer, out);
+    printer.add(b"\"/>\n", out);
+}
+
+// Prints the dots of polygons' points.
+fn print_points_part<S: Sink>(map: &Map, frame: Frame, printer: &mut Printer, out: &mut S)
+    ensures { Prints S.contents S.failure_count (out.old, printer.old) (out.new, printer.new)
+        (points_part frame map.now) }
+{
+    printer.add(b"<path class=\"points\" d=\"", out);
+    print_points(map, frame, printer, out);
+    printer.add(b"\"/>\n", out);
+}

@@ -1,0 +1,480 @@
+-- What is answered of what was found.
+use Rattle.std.proofs.Common.{◌≡◌, ◌⊎◌, inl, inr, ℕ, zero, suc, ◌+◌, ◌≤◌, take, Bool, true, List, [], ◌∷◌, ◌++◌, map, Some, None, Option, Result, Ok, Err, refl, sym, ap, subst, ◌∙◌, arith, append-nil}
+use Rattle.std.specs.Prelude.{slice_get, Vec, IfErr, codes, is_some, length, false}
+use Rattle.std.specs.List.{filter_map, enumerate_from}
+use Rattle.std.specs.Global.{Global}
+use Rattle.std.specs.Option.{IfSome}
+use Rattle.std.specs.Result.{IsErrAnd}
+use Rattle.std.proofs.lemmas.Option.{IfSome_then}
+use Rattle.std.proofs.lemmas.List.{take_all}
+use Rattle.tl_record.specs.declared.layout.Layout.{Layout}
+use Rattle.tl_record.specs.declared.options.Options.{Options}
+use Rattle.tl_record.specs.declared.refusal.Refusal.{Refusal}
+use Rattle.tl_record.specs.Layout.{layout_with}
+use Rattle.tl_record.specs.declared.stop.Cause.{Cause}
+use Rattle.tl_record.specs.declared.judge.Judgement.{Judgement}
+use Rattle.tl_record.specs.declared.judge.Judgement.TheVariants.{PassedOver, Read}
+use Rattle.tl_record.specs.declared.judge.Judgement.TheVariants.{Refused as RefusedLine}
+use Rattle.tl_record.specs.Judgement.{judgement}
+use Rattle.tl_record.specs.Records.{records_of, judgements, refusal_of}
+use Rattle.tl_record.specs.Lines.{raw_lines}
+use Rattle.tl_record.specs.Refusals.{refusals_of}
+use Rattle.tl_record.specs.Searching.{pair_of}
+use Rattle.tl_record.proofs.RefusalLemmas.{first_refusal as first_of_judged}
+use Rattle.tl_map_county.specs.TheMap.{TheMap, MapChain}
+use Rattle.tigertopo_files.specs.Files.{Under}
+use Rattle.tigertopo_files.specs.Log.{Log, LogsAgain}
+use Rattle.tigertopo_files.specs.World.{World, Does, Failed, Keeps, MayStop, Made, Unmade}
+use Rattle.tigertopo_faults.specs.Hint.Again.{FailsAgain, SomeUnread}
+use Rattle.tigertopo_files.proofs.WorldLemmas.{all_kept, none_made, may_stop, does_then}
+use Rattle.tigertopo_words.specs.declared.budget.Told.{Told}
+use Rattle.tigertopo_words.specs.declared.budget.Told.TheVariants.{One, All}
+use Rattle.tigertopo_words.specs.declared.form.Form.{Form}
+use Rattle.tigertopo_words.specs.declared.form.Form.TheVariants.{Lines as FormLines, Records as FormRecords, Objects as FormObjects}
+use Rattle.tl_cert_output.specs.declared.stop.Stop.{Stop}
+use Rattle.tl_cert_output.specs.declared.stop.Stop.TheVariants.{Record, Memory, Device, Budget}
+use Rattle.tl_cert_output.specs.Stops.{StopsFor}
+use Rattle.tl_list_text.specs.Texts.{lines, printed, told_refusal, count_line}
+use Rattle.tigertopo_faults.specs.Hint.Placed.{IsPlaced, placed_text, refused_text, RiseFrom, TellsPlaces}
+use Rattle.tigertopo_faults.specs.declared.hint.form.RefusedForm.{RefusedForm}
+use Rattle.tigertopo_faults.specs.declared.hint.found.FoundLine.{FoundLine}
+use Rattle.tigertopo_faults.specs.Hint.Found.{AreFound, found_text}
+use Rattle.tigertopo_faults.proofs.PlacedLemmas.{found_placed}
+use Rattle.tigertopo_faults.specs.declared.hint.form.RefusedForm.TheVariants.{Features as RefusedFeatures}
+use Rattle.tigertopo_faults.specs.declared.hint.form.RefusedForm.TheVariants.{Lines as RefusedLines}
+use Rattle.tigertopo_faults.specs.Hint.Telling.{HaveTexts}
+use Rattle.tl_check_verdict.specs.declared.fault.MapFault.{MapFault}
+use Rattle.tl_check_verdict.specs.declared.verdict.Report.{Report}
+use Rattle.tl_check_verdict.proofs.OneMap.{weaker}
+use Rattle.tl_list_text.specs.declared.listing.Listing.TheVariants.{Sound, Refused, Faults}
+use Rattle.tl_list.specs.Listings.{IsListingOf}
+use Rattle.tl_list.specs.Findings.{AreFindingsOf, IsLeft}
+use Rattle.tl_record.specs.Left.{numbers_of}
+use Rattle.tl_list.specs.declared.left.LeftFaults.{LeftFaults}
+use Rattle.tigertopo_program.specs.declared.lists.skipping.LeftTexts.{LeftTexts}
+use Rattle.tl_list.proofs.Listed.{sound_alone}
+use Rattle.tigertopo_faults.specs.Records.Keeping.{held}
+use Rattle.tigertopo_faults.specs.declared.lines.again.Spoken.{Spoken}
+use Rattle.tigertopo_faults.specs.Lines.Again.{AreSpoken}
+use Rattle.tigertopo_faults.specs.Geojson.Texts.{faults_text}
+use Rattle.tigertopo_program.specs.Records.{StopsNever}
+use Rattle.tigertopo_program.specs.declared.answer.Answer.{Answer}
+use Rattle.tigertopo_program.specs.declared.answer.Answer.TheVariants.{Listing, Lines}
+use Rattle.tigertopo_program.specs.Answers.{IsSaid}
+use Rattle.tigertopo_program.specs.Texts.{answer_status, answer_text}
+use Rattle.tigertopo_program.specs.Lists.Listed.{Asked, ListAnswers, IsSoundList, IsFaultList, StopsList, StopsAgain, has_places, most_of, told_text, featured, reads_again, refused_form, refusals_last, is_skipping, stops_refused}
+use Rattle.tigertopo_program.specs.Lists.Listed.{AreRefused}
+use Rattle.tigertopo_program.specs.Lists.Listed.{refused_text as refused_collection}
+use Rattle.tigertopo_program.specs.Lists.Keeping.{AnswersFound, AreFeatures, ArePrepared, IsLeftPrepared, IsPrepared, IsRefusedList, IsFirstStop, faults_answer, sought_lines}
+
+-- ---- what is done with files
+
+module _ {T : Type 0} (w : World) (same : w.after ≡ w.before) (logs : w.knows ≡ true → w.logged ≡ w.log) (made : Option (List ℕ)) (P : T → Type 0) (S : Stop → Type 0) where
+  none_opened : w.log ≡ record w.log { opened = w.log.opened ++ [] }
+  none_opened = ap (λ xs. record w.log { opened = xs }) (sym (append-nil w.log.opened))
+
+  none_failed : w.log ≡ record w.log { opened = w.log.opened ++ []; failures = w.log.failures + 0 }
+  none_failed =
+      let same : w.log.failures ≡ w.log.failures + 0 = omega arith in
+      none_opened ∙ ap (λ n. record w.log { opened = w.log.opened ++ []; failures = n }) same
+
+  -- nothing is done with files
+  pub does_nothing : (t : T) → P t → Does w [] made P S (Ok t)
+  does_nothing t so = record { answered = so; stopped = tt; device = λ e. absurd (cc); keeps = all_kept w made same; unmade = tt; logged = λ known. logs known ∙ none_opened }
+
+  -- nothing is, and nothing is answered
+  pub stops_still : (stop : Stop) → MayStop S stop → (stop ≡ Device → S Device) → Does {T = T} w [] made P S (Err stop)
+  stops_still (Record line cause) why device =
+      record { answered = tt; stopped = why; device = λ e. absurd (cc); keeps = all_kept w made same; unmade = none_made w made same; logged = λ known. (0, logs known ∙ none_opened) }
+  stops_still Memory why device =
+      record { answered = tt; stopped = tt; device = λ e. absurd (cc); keeps = all_kept w made same; unmade = none_made w made same; logged = λ known. (0, logs known ∙ none_opened) }
+  stops_still Device why device =
+      record { answered = tt; stopped = tt; device = λ e. inr (device refl); keeps = all_kept w made same; unmade = none_made w made same; logged = λ known. (0, 0, logs known ∙ none_failed) }
+  stops_still Budget why device =
+      record { answered = tt; stopped = why; device = λ e. absurd (cc); keeps = all_kept w made same; unmade = none_made w made same; logged = λ known. (0, logs known ∙ none_opened) }
+
+  -- the same of what `?` passes on
+  pub does_not : (failed : Type 0) (stop : Stop) → StopsFor failed stop → (failed → S Device) → (r : Result T Stop) → IsErrAnd r (λ told. told ≡ stop) → Does w [] made P S r
+  does_not failed stop why device (Ok t) is = absurd is
+  does_not failed stop why device (Err other) is = subst (λ s. Does {T = T} w [] made P S (Err s)) (sym is) (stops_still stop (may_stop failed S stop why) (λ e. device (subst (StopsFor failed) e why)))
+
+-- files were read again, and that failed
+fails_again : (w : World) (asked : Asked) → FailsAgain w asked.names → reads_again asked.form asked.made ≡ true → Failed w [] ⊎ StopsAgain w asked Device
+fails_again w asked (inl (inl missing)) again = inr (again, inl missing)
+fails_again w asked (inl (inr failed)) again = inl (inr failed)
+fails_again w asked (inr endless) again = inr (again, inr endless)
+
+module _ (A : Type 0) {T : Type 0} (w : World) (asked : Asked) (same : w.after ≡ w.before) (P : T → Type 0) where
+  stops_behind : (stop : Stop) → StopsFor ((reads_again asked.form asked.made ≡ true) × FailsAgain w asked.names) stop → (w.knows ≡ true → LogsAgain {T = A} w.log w.logged (Err stop))
+      → Does {T = T} w [] asked.made P (StopsAgain w asked) (Err stop)
+  stops_behind (Record line cause) why logs = absurd why
+  stops_behind Memory why logs = stops_still w same logs asked.made P (StopsAgain w asked) Memory tt (λ e. absurd (cc))
+  stops_behind Device why logs = record {
+    answered = tt;
+    stopped = tt;
+    device = λ e. fails_again w asked why.1 why.0;
+    keeps = all_kept w asked.made same;
+    unmade = none_made w asked.made same;
+    logged = λ known. let some = logs known in (0, some.0, some.1 ∙ ap (λ xs. record w.log { opened = xs; failures = w.log.failures + some.0 }) (sym (append-nil w.log.opened)));
+  }
+  stops_behind Budget why logs = absurd why
+
+  pub does_not_read_again : (stop : Stop) → StopsFor ((reads_again asked.form asked.made ≡ true) × FailsAgain w asked.names) stop → (w.knows ≡ true → LogsAgain {T = A} w.log w.logged (Err stop))
+      → (r : Result T Stop) → IsErrAnd r (λ told. told ≡ stop) → Does w [] asked.made P (StopsAgain w asked) r
+  does_not_read_again stop why logs (Ok t) is = absurd is
+  does_not_read_again stop why logs (Err other) is = subst (λ s. Does {T = T} w [] asked.made P (StopsAgain w asked) (Err s)) (sym is) (stops_behind stop why logs)
+
+-- what is made stands there, whatever was done before
+made_from : (u v after : Under) (l m q : Log) (k : Bool) (made : Option (List ℕ)) (text : List ℕ) → Made (record { before = v; after = after; log = m; logged = q; knows = k }) made text
+    → Made (record { before = u; after = after; log = l; logged = q; knows = k }) made text
+made_from u v after l m q k None text made = tt
+made_from u v after l m q k (Some name) text made = made
+
+-- a file was made, or none, behind files that were read again
+pub made_behind : {T : Type 0} (u v after : Under) (l m q : Log) (k : Bool) (asked : Asked) → v ≡ u → (k ≡ true → m ≡ l) → (text : List ℕ) (r : Result T Stop)
+    → Does (record { before = v; after = after; log = m; logged = q; knows = k }) [] asked.made (λ done. Made (record { before = v; after = after; log = m; logged = q; knows = k }) asked.made text) StopsNever r
+    → Does (record { before = u; after = after; log = l; logged = q; knows = k }) [] asked.made (λ done. Made (record { before = u; after = after; log = l; logged = q; knows = k }) asked.made text)
+    (StopsAgain (record { before = u; after = after; log = l; logged = q; knows = k }) asked) r
+made_behind u v after l m q k asked same logs text r makes =
+    does_then {A = Unit {0}} u v after l m q k [] asked.made (λ _. Unit {0}) _ tt (does_nothing (record { before = u; after = v; log = l; logged = m; knows = k }) same logs None _ _ tt tt) _ _ StopsNever r makes
+    (λ t so. made_from u v after l m q k asked.made text so) (λ s never. absurd never)
+
+-- ---- what is answered of what was found
+
+pub reads_where_placed : (form : Form) (made : Option (List ℕ)) → has_places form ≡ true → reads_again form made ≡ true
+reads_where_placed form None asks = asks
+reads_where_placed form (Some name) asks = refl
+
+pub reads_where_made : (form : Form) (made : Option (List ℕ)) → is_some made ≡ true → reads_again form made ≡ true
+reads_where_made form None asks = absurd (cc asks)
+reads_where_made form (Some name) asks = refl
+
+-- each refused line comes behind the one before, and the first is of this number or a greater one
+abbrev RiseUp : ℕ → List (ℕ × Cause) → Type 0
+RiseUp n [] = Unit {0}
+RiseUp n (refusal ∷ rest) = (n ≤ refusal.0) × RiseUp (refusal.0 + 1) rest
+
+rise_later : (n m : ℕ) (refusals : List (ℕ × Cause)) → n ≤ m → RiseUp m refusals → RiseUp n refusals
+rise_later n m [] less rise = tt
+rise_later n m (refusal ∷ rest) less rise = (omega (arith, less, rise.0), rise.1)
+
+rise_one : (n : ℕ) (judged : Judgement) (more : List (ℕ × Judgement)) → RiseUp (n + 1) (filter_map refusal_of more) → RiseUp n (filter_map refusal_of ((n, judged) ∷ more))
+rise_one n PassedOver more rise = rise_later n (n + 1) (filter_map refusal_of more) (omega arith) rise
+rise_one n (Read r) more rise = rise_later n (n + 1) (filter_map refusal_of more) (omega arith) rise
+rise_one n (RefusedLine cause) more rise = (omega arith, rise)
+
+rise_up : (layout : Layout) (n : ℕ) (text : List (List ℕ)) → RiseUp n (filter_map refusal_of (map (λ line. (line.0, judgement layout line.0 line.1)) (enumerate_from n text)))
+rise_up layout n [] = tt
+rise_up layout n (line ∷ rest) =
+    rise_one n (judgement layout n line) (map (λ line. (line.0, judgement layout line.0 line.1)) (enumerate_from (n + 1) rest)) (rise_up layout (n + 1) rest)
+
+rise_behind : (n : ℕ) (list : List Refusal) → RiseUp (n + 1) (map pair_of list) → RiseFrom n list
+rise_behind n [] rise = tt
+rise_behind n (refusal ∷ rest) rise = (omega (arith, rise.0), rise_behind refusal.line rest rise.1)
+
+rise_listed : (layout : Layout) (text : List ℕ) (list : List Refusal) → map pair_of list ≡ refusals_of layout text → RiseFrom 0 list
+rise_listed layout text list is = rise_behind 0 list (subst (RiseUp 1) (sym is) (rise_up layout 1 (raw_lines text)))
+
+rise_taken : (count n : ℕ) (list : List Refusal) → RiseFrom n list → RiseFrom n (take count list)
+rise_taken zero n list rise = tt
+rise_taken (suc count) n [] rise = tt
+rise_taken (suc count) n (refusal ∷ rest) rise = (rise.0, rise_taken count refusal.line rest rise.1)
+
+rise_printed : (most : Option ℕ) (n : ℕ) (list : List Refusal) → RiseFrom n list → RiseFrom n (printed most list)
+rise_printed None n list rise = rise
+rise_printed (Some count) n list rise = rise_taken count n list rise
+
+rise_featured : (told : Told) (n : ℕ) (list : List Refusal) → RiseFrom n list → RiseFrom n (featured told list)
+rise_featured One n list rise = rise_taken 1 n list rise
+rise_featured (All most skips) n list rise = rise
+
+-- with no places they are printed as they are listed
+pub plain_lines_are : (refusals : List Refusal) → placed_text RefusedLines refusals [] ≡ lines told_refusal refusals
+plain_lines_are [] = refl
+plain_lines_are (refusal ∷ rest) =
+    ap (λ t. t ++ placed_text RefusedLines rest []) (append-nil (refused_text RefusedLines refusal)) ∙ ap (λ t. refused_text RefusedLines refusal ++ t) (plain_lines_are rest)
+
+-- the file that is made of refused lines has the features of them, each with where it stands
+made_of : (w : World) (made : Option (List ℕ)) (layout : Layout) (under : Under) (names : List (List ℕ)) (list : List Refusal) (text : List ℕ) (collection : List ℕ → List ℕ)
+    → AreFeatures made layout under names list text → (told : List (List ℕ)) × ((is_some made ≡ true → TellsPlaces RefusedFeatures layout under names list told)
+    × (Made w made (collection text) → Made w made (collection (placed_text RefusedFeatures list told))))
+made_of w None layout under names list text collection are = ([], (λ asks. absurd (cc asks), λ made. tt))
+made_of w (Some name) layout under names list text collection are =
+    let placed = are refl in
+    (placed.0, (λ asks. placed.2, λ made. subst (λ (t : List ℕ). Made w (Some name) (collection t)) placed.1 made))
+
+first_is : (layout : Layout) (text : List ℕ) → slice_get (refusals_of layout text) 0 ≡ (records_of layout text).refusal
+first_is layout text = first_of_judged (judgements layout 0 (raw_lines text))
+
+-- refused lines as they are listed, and with where they stand
+pub plain_refused : (layout : Layout) (under : Under) (names : List (List ℕ)) (form : Form) (most : Option ℕ) (list : Vec Refusal Global) → has_places form ≡ false
+    → IsRefusedList layout under names form most list (Listing (Refused list) most)
+plain_refused layout under names FormLines most list none = record {
+  told = [];
+  stand = λ asks. absurd (cc asks);
+  plain = λ same. refl;
+  is = refl;
+  lines = ap (λ t. t ++ count_line (codes "refused=") most (length list.items)) (sym (plain_lines_are (printed most list.items)));
+}
+plain_refused layout under names FormRecords most list none = absurd (cc none)
+plain_refused layout under names FormObjects most list none = absurd (cc none)
+
+-- those that are printed, and those that stand in the file, are the first of those that are sought
+printed_first : (told : Told) (made : Option (List ℕ)) (list : List Refusal) → (count : ℕ) × (printed (most_of told) list ≡ take count (sought_lines told made list))
+printed_first told None list = let those = printed (most_of told) list in (length those, sym (take_all (length those) those (omega arith)))
+printed_first One (Some name) list = let those = take 1 list in (length those, sym (take_all (length those) those (omega arith)))
+printed_first (All None skips) (Some name) list = (length list, sym (take_all (length list) list (omega arith)))
+printed_first (All (Some most) skips) (Some name) list = (most, refl)
+
+featured_first : (told : Told) (made : Option (List ℕ)) (list : List Refusal) → is_some made ≡ true → (count : ℕ) × (featured told list ≡ take count (sought_lines told made list))
+featured_first told None list asks = absurd (cc asks)
+featured_first told (Some name) list asks = let those = featured told list in (length those, sym (take_all (length those) those (omega arith)))
+
+-- so it is told where they stand
+module _ (layout : Layout) (under : Under) (names : List (List ℕ)) (told : Told) (made : Option (List ℕ)) (list : List Refusal) (found : List FoundLine) (are : AreFound under names (sought_lines told made list) found) where
+  first_placed : (form : RefusedForm) (refusals : List Refusal) (text : List ℕ) → (count : ℕ) × (refusals ≡ take count (sought_lines told made list)) → text ≡ found_text form layout names refusals found
+      → IsPlaced form layout under names refusals text
+  first_placed form refusals text first is =
+      subst (λ (rs : List Refusal). IsPlaced form layout under names rs text) (sym first.1)
+      (found_placed form layout names under (sought_lines told made list) found first.0 text are (is ∙ ap (λ (rs : List Refusal). found_text form layout names rs found) first.1))
+
+  pub features_placed : is_some made ≡ true → (text : List ℕ) → text ≡ found_text RefusedFeatures layout names (featured told list) found → IsPlaced RefusedFeatures layout under names (featured told list) text
+  features_placed asks text is = first_placed RefusedFeatures (featured told list) text (featured_first told made list asks) is
+
+  pub printed_placed : (form : RefusedForm) → IsPlaced form layout under names (printed (most_of told) list) (found_text form layout names (printed (most_of told) list) found)
+  printed_placed form = first_placed form (printed (most_of told) list) _ (printed_first told made list) refl
+
+pub placed_refused : (layout : Layout) (asked : Asked) (list : Vec Refusal Global) (found : List FoundLine) (text : Vec ℕ Global) → has_places asked.form ≡ true
+    → text.items ≡ found_text (refused_form asked.form) layout asked.names (printed (most_of asked.told) list.items) found
+    ++ refusals_last asked.form (most_of asked.told) (length list.items) (length (printed (most_of asked.told) list.items))
+    → AnswersFound layout asked list found (Lines 3 text)
+placed_refused layout asked list found text asks is = λ under are.
+    let placed = printed_placed layout under asked.names asked.told asked.made list.items found (are asks) (refused_form asked.form) in
+    record {
+      told = placed.0;
+      stand = λ same. placed.2;
+      plain = λ none. absurd (let wrong = sym none ∙ asks in cc);
+      is = refl;
+      lines = is ∙ ap (λ t. t ++ refusals_last asked.form (most_of asked.told) (length list.items) (length (printed (most_of asked.told) list.items))) placed.1;
+    }
+
+module _ (options : Options) (known : Option (List ℕ)) (asked : Asked) where
+  -- a map is sound
+  pub sound_answers : (w : World) (report : Report) → IfSome known (λ text. IsListingOf options text (Sound report)) → (answer : Answer) → IsSoundList w asked report answer
+      → IsSaid (ListAnswers w options known asked) answer
+  sound_answers w report are answer so = inl (record {
+    report = report;
+    sound = IfSome_then known are (λ text have. weaker (records_of (layout_with options) text) _ _ (λ m is. record { sound = is.0; reported = is.1 }) have);
+    kept = so.kept;
+    is = so.is;
+    line = so.line;
+  })
+
+  -- it has faults
+  pub fault_answers : (w : World) (map : Option TheMap) (faults : Vec MapFault Global) (touched : ℕ)
+      → IfSome known (λ text. AreFindingsOf options text (record { listing = Faults faults touched; map = map })) → (answer : Answer)
+      → IsFaultList w (layout_with options) asked map (record { faults = faults; touched = touched }) answer → IsSaid (ListAnswers w options known asked) answer
+  fault_answers w map faults touched are answer so = inr (inl (record {
+    map = map;
+    faults = faults;
+    touched = touched;
+    are = are;
+    unsound = IfSome_then known are (λ text is sound. (sound_alone options text (Faults faults touched) is.told).1 sound);
+    spoken = so.spoken;
+    speak = so.speak;
+    kept = so.kept;
+    is = so.is;
+    lines = so.lines;
+  }))
+
+  pub fault_stops : (w : World) (stop : Stop) → StopsAgain w asked stop → StopsList w options known asked stop
+  fault_stops w (Record line cause) why = absurd why
+  fault_stops w Memory why = why
+  fault_stops w Device why = why
+  fault_stops w Budget why = why
+
+  -- lines are refused
+  module _ (w : World) (list : Vec Refusal Global) (are : IfSome known (λ text. IsListingOf options text (Refused list))) where
+    first_stops : (refusals : List Refusal) (stop : Stop) → stops_refused asked.told asked.form ≡ true → list.items ≡ refusals → IsFirstStop refusals stop
+        → MayStop (StopsList w options known asked) stop
+    first_stops [] stop one is first = absurd first
+    first_stops (refusal ∷ rest) stop one is first = subst (MayStop (StopsList w options known asked)) (sym first) (
+      one,
+      IfSome_then known are (λ text lists. sym (first_is (layout_with options) text) ∙ sym (ap (λ rs. slice_get rs 0) (ap (map pair_of) (sym is) ∙ lists.1))),
+    )
+
+    no_device : (refusals : List Refusal) (stop : Stop) → IsFirstStop refusals stop → stop ≡ Device → StopsList w options known asked Device
+    no_device [] stop first is = absurd first
+    no_device (refusal ∷ rest) stop first is = absurd (let wrong = sym first ∙ is in cc)
+
+    -- one alone as a line is a stop
+    pub first_refused : (same : w.after ≡ w.before) (logs : w.knows ≡ true → w.logged ≡ w.log) → stops_refused asked.told asked.form ≡ true
+        → (stop : Stop) → IsFirstStop list.items stop
+        → Does {T = Answer} w [] asked.made (IsSaid (ListAnswers w options known asked)) (StopsList w options known asked) (Err stop)
+    first_refused same logs one stop first =
+        stops_still w same logs asked.made _ (StopsList w options known asked) stop (first_stops list.items stop one refl first) (no_device list.items stop first)
+
+    -- they are told with where they stand
+    told_where : (features told : List (List ℕ)) → (is_some asked.made ≡ true → TellsPlaces RefusedFeatures (layout_with options) w.before asked.names (featured asked.told list.items) features)
+        → (has_places asked.form ≡ true → TellsPlaces (refused_form asked.form) (layout_with options) w.before asked.names (printed (most_of asked.told) list.items) told)
+        → (has_places asked.form ≡ false → told ≡ []) → AreRefused w options known asked list.items features told
+    told_where features told stand places plain = record {
+      stand = IfSome_then known are (λ text lists asks texts have. stand asks texts have (rise_featured asked.told 0 list.items (rise_listed (layout_with options) text list.items lists.1)));
+      places = IfSome_then known are (λ text lists asks texts have. places asks texts have (rise_printed (most_of asked.told) 0 list.items (rise_listed (layout_with options) text list.items lists.1)));
+      plain = plain;
+    }
+
+    -- or all are answered
+    pub refused_answers : stops_refused asked.told asked.form ≡ false → IsLeft options (is_skipping asked.told) known (Refused list) None → (prepared : Answer × Vec ℕ Global) → ArePrepared (layout_with options) w.before asked list prepared
+        → Made w asked.made (refused_collection asked.names prepared.1.items) → IsSaid (ListAnswers w options known asked) prepared.0
+    refused_answers all nothing prepared so made =
+        let drawn = made_of w asked.made (layout_with options) w.before asked.names (featured asked.told list.items) prepared.1.items (refused_collection asked.names) so.features in
+        inr (inr (inl (record {
+          told_all = all;
+          list = list;
+          are_all = are;
+          alone = nothing;
+          features = drawn.0;
+          told = so.answer.told;
+          refused = told_where drawn.0 so.answer.told drawn.1.0 so.answer.stand so.answer.plain;
+          kept = drawn.1.1 made;
+          is = so.answer.is;
+          lines = so.answer.lines;
+        })))
+
+    -- or they are skipped
+    pub left_answers : (left : LeftFaults) → IsLeft options (is_skipping asked.told) known (Refused list) (Some left) → (texts : LeftTexts)
+        → IsLeftPrepared (layout_with options) w.before asked list.items left texts
+        → Made w asked.made (faults_text asked.names texts.spoken.counts.items left.map (held texts.spoken.lines) texts.spoken.places.items (featured asked.told left.faults.items) left.touched texts.features.items)
+        → ListAnswers w options known asked 3 texts.text.items
+    left_answers left found texts so made =
+        let drawn = made_of w asked.made (layout_with options) w.before asked.names (featured asked.told list.items) texts.features.items
+        (faults_text asked.names texts.spoken.counts.items left.map (held texts.spoken.lines) texts.spoken.places.items (featured asked.told left.faults.items) left.touched) so.features in
+        inr (inr (inr (record {
+          skipped = found.0;
+          list = list;
+          are_all = are;
+          map = left.map;
+          left = record { faults = left.faults; touched = left.touched };
+          are = found.1;
+          spoken = texts.spoken;
+          speak = so.speak;
+          features = drawn.0;
+          told = so.told;
+          refused = told_where drawn.0 so.told drawn.1.0 so.stand so.plain;
+          kept = drawn.1.1 made;
+          is = refl;
+          lines = so.lines;
+        })))
+
+-- ---- the same behind reading
+
+refused_from : (u v after : Under) (l m q : Log) (k : Bool) (options : Options) (known : Option (List ℕ)) (asked : Asked) (list : List Refusal) (features told : List (List ℕ)) → v ≡ u
+    → AreRefused (record { before = v; after = after; log = m; logged = q; knows = k }) options known asked list features told
+    → AreRefused (record { before = u; after = after; log = l; logged = q; knows = k }) options known asked list features told
+refused_from u v after l m q k options known asked list features told same refused = record {
+  stand = IfSome_then known refused.stand (λ text stand asks texts have. stand asks texts (subst (λ x. HaveTexts x asked.names texts) (sym same) have));
+  places = IfSome_then known refused.places (λ text stand asks texts have. stand asks texts (subst (λ x. HaveTexts x asked.names texts) (sym same) have));
+  plain = refused.plain;
+}
+
+pub answers_from : (u v after : Under) (l m q : Log) (k : Bool) (options : Options) (known : Option (List ℕ)) (asked : Asked) (status : ℕ) (text : List ℕ) → v ≡ u
+    → ListAnswers (record { before = v; after = after; log = m; logged = q; knows = k }) options known asked status text
+    → ListAnswers (record { before = u; after = after; log = l; logged = q; knows = k }) options known asked status text
+answers_from u v after l m q k options known asked status text same (inl sound) =
+    inl (record { report = sound.report; sound = sound.sound; kept = made_from u v after l m q k asked.made _ sound.kept; is = sound.is; line = sound.line })
+answers_from u v after l m q k options known asked status text same (inr (inl faults)) = inr (inl (record {
+  map = faults.map;
+  faults = faults.faults;
+  touched = faults.touched;
+  are = faults.are;
+  unsound = faults.unsound;
+  spoken = faults.spoken;
+  speak = λ again. subst (λ x. AreSpoken (layout_with options) [] x asked.names faults.map (featured asked.told faults.faults.items) faults.spoken) same (faults.speak again);
+  kept = made_from u v after l m q k asked.made _ faults.kept;
+  is = faults.is;
+  lines = faults.lines;
+}))
+answers_from u v after l m q k options known asked status text same (inr (inr (inl refused))) = inr (inr (inl (record {
+  told_all = refused.told_all;
+  list = refused.list;
+  are_all = refused.are_all;
+  alone = refused.alone;
+  features = refused.features;
+  told = refused.told;
+  refused = refused_from u v after l m q k options known asked refused.list.items refused.features refused.told same refused.refused;
+  kept = made_from u v after l m q k asked.made _ refused.kept;
+  is = refused.is;
+  lines = refused.lines;
+})))
+answers_from u v after l m q k options known asked status text same (inr (inr (inr left))) = inr (inr (inr (record {
+  skipped = left.skipped;
+  list = left.list;
+  are_all = left.are_all;
+  map = left.map;
+  left = left.left;
+  are = left.are;
+  spoken = left.spoken;
+  speak = λ again. subst (λ x. AreSpoken (layout_with options) (numbers_of left.list.items) x asked.names left.map (featured asked.told left.left.faults.items) left.spoken) same (left.speak again);
+  features = left.features;
+  told = left.told;
+  refused = refused_from u v after l m q k options known asked left.list.items left.features left.told same left.refused;
+  kept = made_from u v after l m q k asked.made _ left.kept;
+  is = left.is;
+  lines = left.lines;
+})))
+
+pub stops_from : (u v after : Under) (l m q : Log) (k : Bool) (options : Options) (known : Option (List ℕ)) (asked : Asked) → v ≡ u → (stop : Stop)
+    → StopsList (record { before = v; after = after; log = m; logged = q; knows = k }) options known asked stop → StopsList (record { before = u; after = after; log = l; logged = q; knows = k }) options known asked stop
+stops_from u v after l m q k options known asked same (Record line cause) why = why
+stops_from u v after l m q k options known asked same Memory why = why
+stops_from u v after l m q k options known asked same Device why = (why.0, subst (λ x. SomeUnread x asked.names) same why.1)
+stops_from u v after l m q k options known asked same Budget why = why
+
+-- ---- behind what changes nothing
+
+later_keeps : (u after : Under) (l m q : Log) (k : Bool) (made : Option (List ℕ)) → Keeps (record { before = u; after = after; log = m; logged = q; knows = k }) made
+    → Keeps (record { before = u; after = after; log = l; logged = q; knows = k }) made
+later_keeps u after l m q k None keeps = keeps
+later_keeps u after l m q k (Some name) keeps = keeps
+
+later_unmade : {T : Type 0} (u after : Under) (l m q : Log) (k : Bool) (made : Option (List ℕ)) (r : Result T Stop)
+    → IfErr r (λ stop. Unmade (record { before = u; after = after; log = m; logged = q; knows = k }) made) → IfErr r (λ stop. Unmade (record { before = u; after = after; log = l; logged = q; knows = k }) made)
+later_unmade u after l m q k made (Ok t) kept = tt
+later_unmade u after l m q k None (Err stop) kept = kept
+later_unmade u after l m q k (Some name) (Err stop) kept = kept
+
+-- what is done behind it is all that is done
+pub does_later : {T : Type 0} (u after : Under) (l m q : Log) (k : Bool) (names : List (List ℕ)) (made : Option (List ℕ)) (P : T → Type 0) (S : Stop → Type 0) (r : Result T Stop) → (k ≡ true → m ≡ l)
+    → Does (record { before = u; after = after; log = m; logged = q; knows = k }) names made P S r → Does (record { before = u; after = after; log = l; logged = q; knows = k }) names made P S r
+does_later u after l m q true names made P S r same does = subst (λ (log : Log). Does (record { before = u; after = after; log = log; logged = q; knows = true }) names made P S r) (same refl) does
+does_later u after l m q false names made P S r same does = record {
+  answered = does.answered;
+  stopped = does.stopped;
+  device = λ is. failed (does.device is);
+  keeps = later_keeps u after l m q false made does.keeps;
+  unmade = later_unmade u after l m q false made r does.unmade;
+  logged = λ known. absurd (let wrong = known in cc);
+}
+  where
+    failed : Failed (record { before = u; after = after; log = m; logged = q; knows = false }) names ⊎ S Device → Failed (record { before = u; after = after; log = l; logged = q; knows = false }) names ⊎ S Device
+    failed (inl (inl missing)) = inl (inl missing)
+    failed (inl (inr fails)) = inl (inr (inl refl))
+    failed (inr why) = inr why
+
+-- ---- what is printed of faults, and what stands in the file
+
+pub faults_answered : (names : List (List ℕ)) (chains : List MapChain) (spoken : Spoken) (form : Form) (told : Told) (faults : Vec MapFault Global) (touched : ℕ) (text : Option (Vec ℕ Global))
+    → IsPrepared names chains spoken form told faults.items touched text → answer_text (faults_answer text faults touched told) ≡ told_text names chains spoken form told faults.items touched
+faults_answered names chains spoken form told faults touched (Some text) is = is
+faults_answered names chains spoken form told faults touched None is = rw (is.0, is.1.2) refl
+
+pub faults_status : (told : Told) (faults : Vec MapFault Global) (touched : ℕ) (text : Option (Vec ℕ Global)) → answer_status (faults_answer text faults touched told) ≡ 1
+faults_status told faults touched (Some text) = refl
+faults_status told faults touched None = refl
+
+-- the collection of no fault
+pub no_faults : (names : List (List ℕ)) (spoken : Spoken) (refused : List ℕ)
+    → faults_text names spoken.counts.items None (held spoken.lines) spoken.places.items [] 0 refused ≡ refused_collection names refused
+unfolding faults_text
+no_faults names spoken refused = refl

@@ -1,0 +1,40 @@
+use Rattle.std.proofs.Common.{Bool, None, map, string_bytes, subst}
+use Rattle.tl_list.specs.Findings.{IsFoundIn}
+use Rattle.tigertopo_files.proofs.WorldLemmas.{does_so, does_then, does_stop}
+use Rattle.tigertopo_program.specs.Records.{StopsNever}
+use Rattle.tigertopo_files.specs.Reading.{text_under}
+use Rattle.tigertopo_files.specs.World.{world}
+use Rattle.tigertopo_program.specs.Lists.Listed.{StopsList, wanted_of}
+use Rattle.tigertopo_program.specs.Texts.{answer_status, answer_text}
+use Rattle.tigertopo_program.proofs.ListLemmas.{answers_from, stops_from}
+use Rattle.tigertopo_program.proofs.lists.listing.list.Goals as goal
+
+pub returns-in_err-found : goal.returns-in_err-found
+returns-in_err-found g c =
+    let asked = wanted_of (map string_bytes c.args.names.now) c.args.wanted in
+    does_stop _ asked.names _ StopsNever asked.made _ c.in_err-found.field-0.0 c.in_err-found.ensures (λ s never. absurd never) _ c.from_residual.result c.from_residual.ensures.1
+
+pub returns : goal.returns
+returns g c =
+    let u = g.F.FileSystem.under c.args.files.now in
+    let v = g.F.FileSystem.under c.find_all.new.files in
+    let after = g.F.FileSystem.under c.tell_found.new.files in
+    let l = g.F.FileSystem.log c.args.files.now in
+    let m = g.F.FileSystem.log c.find_all.new.files in
+    let q = g.F.FileSystem.log c.tell_found.new.files in
+    let k = g.F.FileSystem.knows in
+    let names = map string_bytes c.args.names.now in
+    let asked = wanted_of names c.args.wanted in
+    let known = text_under u names in
+    let first = c.in_ok-found.ensures in
+    let fails = StopsList (world g.F.FileSystem.under g.F.FileSystem.log g.F.FileSystem.knows c.args.files.now c.tell_found.new.files) c.args.options known asked in
+    does_then u v after l m q k names asked.made _ fails c.in_ok-found.found
+    (does_so _ names None _ _ StopsNever fails (λ t so. so) (λ s never. absurd never) _ first)
+    _ _ _ c.tell_found.result (c.tell_found.ensures known (subst (λ (skips : Bool). IsFoundIn c.args.options skips known c.in_ok-found.found) c.is_skipping-skips.ensures first.answered))
+    (λ answer. answers_from u v after l m q k c.args.options known asked (answer_status answer) (answer_text answer) first.keeps)
+    (stops_from u v after l m q k c.args.options known asked first.keeps)
+
+pub tell_found-requires-clause-why : goal.tell_found-requires-clause-why
+tell_found-requires-clause-why g c =
+    let found = c.in_ok-found.ensures in
+    found.answered.why

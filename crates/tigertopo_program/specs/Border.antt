@@ -1,2 +1,0 @@
--- What the contracts of borders that are made cite.
-pub mod Borders

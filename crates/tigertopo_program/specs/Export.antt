@@ -1,2 +1,0 @@
--- What the contracts of exports cite.
-pub mod Exports

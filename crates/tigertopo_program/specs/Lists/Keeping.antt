@@ -1,0 +1,98 @@
+-- Kept on the way: what is prepared before it is told. No public contract cites this file.
+use Rattle.std.specs.Prelude.{◌≡◌, ℕ, Bool, true, false, is_some, length, List, [], ◌∷◌, ◌++◌, Option, Some, None, Vec}
+use Rattle.std.specs.Global.{Global}
+use Rattle.tl_map_county.specs.TheMap.{MapChain}
+use Rattle.tigertopo_words.specs.declared.budget.Told.{Told}
+use Rattle.tigertopo_words.specs.declared.budget.Told.TheVariants.{One, All}
+use Rattle.tl_check_verdict.specs.declared.fault.MapFault.{MapFault}
+use Rattle.tl_record.specs.declared.refusal.Refusal.{Refusal}
+use Rattle.tl_cert_output.specs.declared.stop.Stop.{Stop}
+use Rattle.tl_cert_output.specs.declared.stop.Stop.TheVariants.{Record}
+use Rattle.tl_list_text.specs.declared.listing.Listing.TheVariants as listing
+use Rattle.tigertopo_faults.specs.declared.lines.again.Spoken.{Spoken}
+use Rattle.tigertopo_program.specs.declared.answer.Answer.{Answer}
+use Rattle.tigertopo_program.specs.declared.answer.Answer.TheVariants as answer
+use Rattle.tigertopo_program.specs.Texts.{answer_status, answer_text}
+use Rattle.tl_list_text.specs.Texts.{lines, printed}
+use Rattle.tl_check_verdict.specs.Messages.{map_fault_text}
+use Rattle.tigertopo_faults.specs.Lines.Texts.{chosen}
+use Rattle.tigertopo_words.specs.declared.form.Form.{Form}
+use Rattle.tigertopo_words.specs.declared.form.Form.TheVariants.{Lines}
+use Rattle.tl_record.specs.declared.layout.Layout.{Layout}
+use Rattle.tigertopo_files.specs.Files.{Under}
+use Rattle.tigertopo_faults.specs.declared.hint.found.FoundLine.{FoundLine}
+use Rattle.tigertopo_faults.specs.Hint.Found.{AreFound}
+use Rattle.tigertopo_faults.specs.Hint.Placed.{IsPlaced, TellsPlaces}
+use Rattle.tigertopo_faults.specs.declared.hint.form.RefusedForm.TheVariants.{Features}
+use Rattle.tl_record.specs.Left.{numbers_of}
+use Rattle.tl_list.specs.declared.left.LeftFaults.{LeftFaults}
+use Rattle.tigertopo_program.specs.declared.lists.skipping.LeftTexts.{LeftTexts}
+use Rattle.tigertopo_faults.specs.Lines.Again.{AreSpoken}
+use Rattle.tigertopo_faults.specs.Records.SpokenOf.{chains_of}
+use Rattle.tigertopo_program.specs.Lists.Listed.{Asked, featured, has_places, most_of, reads_again, refused_form, refusals_text, skipped_text, told_text}
+
+-- the line of the first fault, or nothing where all are told
+abbrev pub IsPlain : Told → List MapFault → Option (Vec ℕ Global) → Type 0
+IsPlain One faults (Some text) = text.items ≡ lines map_fault_text (chosen One faults)
+IsPlain One faults None = ⊥
+IsPlain (All most skips) faults text = text ≡ None
+
+-- the text of faults, or nothing where they are printed as they are listed
+abbrev pub IsPrepared : List (List ℕ) → List MapChain → Spoken → Form → Told → List MapFault → ℕ → Option (Vec ℕ Global) → Type 0
+IsPrepared names chains spoken form told faults touched (Some text) = text.items ≡ told_text names chains spoken form told faults touched
+IsPrepared names chains spoken form told faults touched None = (form ≡ Lines) × ((most : Option ℕ) × (skips : Bool) × (told ≡ All most skips))
+
+-- why there is no answer, where these lines are refused: the first of them
+abbrev pub IsFirstStop : List Refusal → Stop → Type 0
+IsFirstStop [] stop = ⊥
+IsFirstStop (refusal ∷ rest) stop = stop ≡ Record refusal.line refusal.cause
+
+-- what was prepared of faults, or the listing of them
+abbrev pub faults_answer : Option (Vec ℕ Global) → Vec MapFault Global → ℕ → Told → Answer
+faults_answer (Some text) faults touched told = answer.Lines 1 text
+faults_answer None faults touched told = answer.Listing (listing.Faults faults touched) (most_of told)
+
+-- refused lines are answered, all or so many from the front, with where they stand if the form has that
+pub record IsRefusedList (layout : Layout) (under : Under) (names : List (List ℕ)) (form : Form) (most : Option ℕ) (list : Vec Refusal Global) (answer : Answer) : Type 0 where
+  pub told : List (List ℕ)
+  pub stand : has_places form ≡ true → TellsPlaces (refused_form form) layout under names (printed most list.items) told
+  pub plain : has_places form ≡ false → told ≡ []
+  pub is : answer_status answer ≡ 3
+  pub lines : answer_text answer ≡ refusals_text form most list.items told
+
+-- the refused lines of which it is told where they stand: those that stand in the file that is made, and else those that are printed
+abbrev pub sought_lines : Told → Option (List ℕ) → List Refusal → List Refusal
+sought_lines told None list = printed (most_of told) list
+sought_lines told (Some name) list = featured told list
+
+-- what is answered of refused lines, where these were found in files
+abbrev pub AnswersFound : Layout → Asked → Vec Refusal Global → List FoundLine → Answer → Type 0
+AnswersFound layout asked list found answer = (under : Under)
+    → (has_places asked.form ≡ true → AreFound under asked.names (sought_lines asked.told asked.made list.items) found)
+    → IsRefusedList layout under asked.names asked.form (most_of asked.told) list answer
+
+-- the features of refused lines, each with where it stands, if they are asked for
+abbrev pub AreFeatures : Option (List ℕ) → Layout → Under → List (List ℕ) → List Refusal → List ℕ → Type 0
+AreFeatures made layout under names refusals text = is_some made ≡ true → IsPlaced Features layout under names refusals text
+
+-- what is answered of refused lines, and the features of those that the file has
+pub record ArePrepared (layout : Layout) (under : Under) (asked : Asked) (list : Vec Refusal Global) (prepared : Answer × Vec ℕ Global) : Type 0 where
+  pub answer : IsRefusedList layout under asked.names asked.form (most_of asked.told) list prepared.0
+  pub features : AreFeatures asked.made layout under asked.names (featured asked.told list.items) prepared.1.items
+
+-- the same, where they were found in files
+abbrev pub ArePreparedOf : Layout → Asked → Vec Refusal Global → List FoundLine → Answer × Vec ℕ Global → Type 0
+ArePreparedOf layout asked list found prepared = (under : Under)
+    → (reads_again asked.form asked.made ≡ true → AreFound under asked.names (sought_lines asked.told asked.made list.items) found)
+    → ArePrepared layout under asked list prepared
+
+-- what is answered of refused lines and of what is left, the records that its faults speak of, and the features of the refused lines that
+-- the file has
+pub record IsLeftPrepared (layout : Layout) (under : Under) (asked : Asked) (list : List Refusal) (left : LeftFaults) (texts : LeftTexts) : Type 0 where
+  pub told : List (List ℕ)
+  pub stand : has_places asked.form ≡ true → TellsPlaces (refused_form asked.form) layout under asked.names (printed (most_of asked.told) list) told
+  pub plain : has_places asked.form ≡ false → told ≡ []
+  pub lines : texts.text.items ≡ refusals_text asked.form (most_of asked.told) list told
+      ++ told_text asked.names (chains_of left.map) texts.spoken asked.form asked.told left.faults.items left.touched ++ skipped_text asked.form (length list)
+  pub speak : reads_again asked.form asked.made ≡ true → AreSpoken layout (numbers_of list) under asked.names left.map (featured asked.told left.faults.items) texts.spoken
+  pub features : AreFeatures asked.made layout under asked.names (featured asked.told list) texts.features.items

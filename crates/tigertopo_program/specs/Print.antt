@@ -1,0 +1,3 @@
+-- What the contracts of printing cite.
+pub mod Printing
+pub mod Places

@@ -1,0 +1,266 @@
+//! Lists over files: what is found is answered, and the file is made.
+
+ghost use Rattle.std.specs.Prelude.{◌≡◌, [], ℕ, List, Option, None, true, IfOk, map as map_list, option_map, string_bytes};
+ghost use Rattle.tl_record.specs.declared.options.Options.{Options};
+ghost use Rattle.tl_record.specs.Layout.{layout_with};
+ghost use Rattle.tl_list.specs.Findings.{IsFoundIn, SaysWhy};
+ghost use Rattle.tigertopo_files.specs.World.{Does, MayMake, world};
+ghost use Rattle.tigertopo_files.specs.declared.beginning.FileKind.TheVariants.{Collection};
+ghost use Rattle.tigertopo_files.specs.Reading.{text_under};
+ghost use Rattle.tigertopo_program.specs.Records.{StopsNever};
+ghost use Rattle.tigertopo_program.specs.Lists.Listed.{ListAnswers, IsSoundList, IsFaultList, StopsList, StopsAgain, has_places, most_of};
+ghost use Rattle.tigertopo_program.specs.Answers.{IsSaid};
+ghost use Rattle.tigertopo_program.specs.Lists.Listed.{is_skipping, reads_again, report_text, wanted_of};
+ghost use Rattle.tigertopo_program.specs.Lists.Keeping.{faults_answer};
+
+use crate::answer::Answer;
+use crate::lists::collection::{make_collection, make_without_faults};
+use crate::lists::found::FindingsIn;
+use crate::lists::prepared::prepare;
+use crate::lists::refused::{is_skipping, tell_refused};
+use crate::lists::speaking::{featured, speak_of};
+use crate::reading::over_records;
+use crate::stop::{DONE, MAP_FAULT};
+use std::alloc::{AllocError, Global};
+use std::hash::RandomState;
+use tigertopo_faults::objects::sound_object;
+use tigertopo_files::FileSystem;
+use tigertopo_words::{Form, Told};
+use tl_cert_output::Stop;
+use tl_check_verdict::{MapFault, Report};
+use tl_list::{Findings, Found};
+use tl_list_text::Listing;
+use tl_map_county::Map;
+use tl_record::Options;
+
+/// What is asked of a list: which faults are told, the first or all or so many from the front, in which form, and the name of the file of
+/// GeoJSON that is made of them, if one is.
+#[derive(Clone, Copy)]
+pub struct Wanted<'a> {
+    pub told: Told,
+    pub form: Form,
+    pub made: &'a Option<String>,
+}
+
+/// Answers what is wrong with the county of the files of these names, and makes the file that is wanted, which it may; that takes its
+/// name when it is whole.
+pub fn list<F: FileSystem>(
+    files: &mut F,
+    alloc: Global,
+    hasher: RandomState,
+    options: Options,
+    names: &[String],
+    wanted: Wanted<'_>,
+) -> Result<Answer, Stop>
+    requires { MayMake (F.under files.old) (option_map string_bytes wanted.made.now) (map_list string_bytes names.now) Collection }
+    ensures { let w = world F.under F.log F.knows files.old files.new in
+        let known = text_under (F.under files.old) (map_list string_bytes names.now) in
+        let asked = wanted_of (map_list string_bytes names.now) wanted.entry in
+        Does w asked.names asked.made (IsSaid (ListAnswers w options known asked))
+        (StopsList w options known asked) result }
+{
+    let skips = is_skipping(wanted.told);
+    let again = reads_again(wanted.form, wanted.made);
+    let found = find_all(files, alloc, hasher, options, names, skips, again)?;
+    tell_found(files, alloc, hasher, options, names, wanted, found)
+}
+
+// All that is wrong with the records of the files of these names, and where refused lines are skipped, with what is left without them. Where
+// they are to be read again, what is read of those that can be read but once is kept.
+fn find_all<F: FileSystem>(
+    files: &mut F,
+    alloc: Global,
+    hasher: RandomState,
+    options: Options,
+    names: &[String],
+    skips: bool,
+    again: bool,
+) -> Result<Found, Stop>
+    ensures { let known = text_under (F.under files.old) (map_list string_bytes names.now) in
+        Does (world F.under F.log F.knows files.old files.new) (map_list string_bytes names.now) None
+        (IsFoundIn options skips known) StopsNever result }
+{
+    keep_where(files, again);
+    over_records(files, alloc, hasher, names, &FindingsIn { options, skips })
+}
+
+// What is read of files that can be read but once is kept, where the files are to be read again.
+fn keep_where<F: FileSystem>(files: &mut F, again: bool)
+    ensures stays { F.under files.new ≡ F.under files.old }
+    ensures logged { F.knows ≡ true → F.log files.new ≡ F.log files.old }
+{
+    if again {
+        files.keep_passing();
+    }
+}
+
+// Answers what was found in files of these names, and makes the file that is wanted.
+fn tell_found<F: FileSystem>(
+    files: &mut F,
+    alloc: Global,
+    hasher: RandomState,
+    options: Options,
+    names: &[String],
+    wanted: Wanted<'_>,
+    found: Found,
+) -> Result<Answer, Stop>
+    requires why { SaysWhy found.whole.map found.whole.listing }
+    requires made { MayMake (F.under files.old) (option_map string_bytes wanted.made.now) (map_list string_bytes names.now) Collection }
+    ensures { (known : Option (List ℕ)) → IsFoundIn options (is_skipping wanted.entry.told) known found →
+        let w = world F.under F.log F.knows files.old files.new in
+        let asked = wanted_of (map_list string_bytes names.now) wanted.entry in
+        Does w [] asked.made (IsSaid (ListAnswers w options known asked))
+        (StopsList w options known asked) result }
+{
+    let Found { whole, left } = found;
+    let Findings { listing, map } = whole;
+    match listing {
+        Listing::Sound(report) => tell_sound(files, alloc, hasher, names, wanted, report),
+        Listing::Refused(list) => {
+            tell_refused(files, alloc, hasher, options, names, wanted, list, left)
+        }
+        Listing::Faults { faults, touched } => tell_faults(
+            files, alloc, hasher, options, names, wanted, map, faults, touched,
+        ),
+    }
+}
+
+// Answers that the map is sound. Of no fault the file that is wanted has a feature.
+fn tell_sound<F: FileSystem>(
+    files: &mut F,
+    alloc: Global,
+    hasher: RandomState,
+    names: &[String],
+    wanted: Wanted<'_>,
+    report: Report,
+) -> Result<Answer, Stop>
+    requires { MayMake (F.under files.old) (option_map string_bytes wanted.made.now) (map_list string_bytes names.now) Collection }
+    ensures { let w = world F.under F.log F.knows files.old files.new in
+        let asked = wanted_of (map_list string_bytes names.now) wanted.entry in
+        Does w [] asked.made (IsSoundList w asked report) StopsNever result }
+{
+    let answer = sound_answer(alloc, wanted.form, report)?;
+    make_without_faults(files, alloc, hasher, wanted.made, names, &[])?;
+    Ok(answer)
+}
+
+// The report of a sound map, in this form.
+fn sound_answer(alloc: Global, form: Form, report: Report) -> Result<Answer, AllocError>
+    ensures { IfOk result (IsSaid (λ status text. (status ≡ 0) × (text ≡ report_text form report))) }
+{
+    match form {
+        Form::Lines | Form::Records => Ok(Answer::Listing {
+            listing: Listing::Sound(report),
+            most: None,
+        }),
+        Form::Objects => {
+            let object = sound_object(&report);
+            Ok(Answer::Lines {
+                status: DONE,
+                text: Vec::from_slice(alloc, object.as_str().as_bytes())?,
+            })
+        }
+    }
+}
+
+/// Whether in this form faults have the records that they speak of, and refused lines where they stand.
+pub(crate) fn has_places(form: Form) -> bool
+    ensures { result ≡ has_places form }
+{
+    match form {
+        Form::Lines => false,
+        Form::Records | Form::Objects => true,
+    }
+}
+
+// Answers faults, and makes the file of them that is wanted.
+fn tell_faults<F: FileSystem>(
+    files: &mut F,
+    alloc: Global,
+    hasher: RandomState,
+    options: Options,
+    names: &[String],
+    wanted: Wanted<'_>,
+    map: Option<Map>,
+    faults: Vec<MapFault>,
+    touched: u64,
+) -> Result<Answer, Stop>
+    requires { MayMake (F.under files.old) (option_map string_bytes wanted.made.now) (map_list string_bytes names.now) Collection }
+    ensures { let w = world F.under F.log F.knows files.old files.new in
+        let asked = wanted_of (map_list string_bytes names.now) wanted.entry in
+        Does w [] asked.made (IsFaultList w (layout_with options) asked map (record { faults = faults; touched = touched }))
+        (StopsAgain w asked) result }
+{
+    let drawn = map.as_ref();
+    let listed = faults.as_slice();
+    let shown = featured(wanted.told, listed);
+    let spoken = speak_of(
+        files,
+        alloc,
+        hasher,
+        names,
+        options,
+        wanted,
+        &[],
+        drawn,
+        shown,
+    )?;
+    let text = prepare(
+        alloc,
+        names,
+        drawn,
+        &spoken,
+        wanted.form,
+        wanted.told,
+        listed,
+        touched,
+    )?;
+    make_collection(
+        files,
+        alloc,
+        wanted.made,
+        names,
+        drawn,
+        &spoken,
+        shown,
+        touched,
+        &[],
+    )?;
+    Ok(faults_answer(text, faults, touched, wanted.told))
+}
+
+/// Whether the files are read again for the records that faults speak of, or for refused lines.
+pub(crate) fn reads_again(form: Form, made: &Option<String>) -> bool
+    ensures { result ≡ reads_again form (option_map string_bytes made.now) }
+{
+    match made {
+        Some(_) => true,
+        None => has_places(form),
+    }
+}
+
+// What was prepared of faults, or the listing of them, as an answer.
+fn faults_answer(text: Option<Vec<u8>>, faults: Vec<MapFault>, touched: u64, told: Told) -> Answer
+    ensures { result ≡ faults_answer text faults touched told }
+{
+    match text {
+        Some(text) => Answer::Lines {
+            status: MAP_FAULT,
+            text,
+        },
+        None => Answer::Listing {
+            listing: Listing::Faults { faults, touched },
+            most: most_of(told),
+        },
+    }
+}
+
+/// How many of a list are told, where not each is.
+pub(crate) fn most_of(told: Told) -> Option<u64>
+    ensures { result ≡ most_of told }
+{
+    match told {
+        Told::One => Some(1),
+        Told::All { most, .. } => most,
+    }
+}

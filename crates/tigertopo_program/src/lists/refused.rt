@@ -1,0 +1,271 @@
+//! Lines that are refused, as they are answered, and the file of them.
+
+ghost use Rattle.std.specs.Prelude.{◌≡◌, ◌<◌, ◌++◌, [], ℕ, List, Option, None, true, false, IfOk, IfErr, IfSome};
+ghost use Rattle.std.specs.Prelude.{length, map as map_list, option_map, is_some, string_bytes};
+ghost use Rattle.tl_record.specs.Layout.{layout_with};
+ghost use Rattle.tl_cert_output.specs.Stops.{StopsFor};
+ghost use Rattle.tl_list.specs.Listings.{IsListingOf};
+ghost use Rattle.tl_list_text.specs.Texts.{printed};
+ghost use Rattle.tl_list_text.specs.declared.listing.Listing.TheVariants.{Refused as RefusedLines};
+ghost use Rattle.tigertopo_files.specs.Log.{LogsAgain};
+ghost use Rattle.tigertopo_faults.specs.Hint.Again.{FailsAgain};
+ghost use Rattle.tigertopo_files.specs.World.{Does, MayMake, world};
+ghost use Rattle.tigertopo_faults.specs.Hint.Found.{found_text};
+ghost use Rattle.tigertopo_faults.specs.declared.hint.form.RefusedForm.TheVariants.{Features};
+ghost use Rattle.tigertopo_files.specs.declared.beginning.FileKind.TheVariants.{Collection};
+ghost use Rattle.tl_list.specs.Findings.{IsLeft};
+ghost use Rattle.tigertopo_program.specs.Lists.Listed.{ListAnswers, StopsList, has_places};
+ghost use Rattle.tigertopo_program.specs.Answers.{IsSaid};
+ghost use Rattle.tigertopo_program.specs.Lists.Listed.{is_skipping, reads_again, refusals_last, refused_form, stops_refused, wanted_of};
+ghost use Rattle.tigertopo_program.specs.Lists.Keeping.{AnswersFound, ArePrepared, ArePreparedOf, IsFirstStop};
+
+use crate::answer::Answer;
+use crate::lists::collection::make_without_faults;
+use crate::lists::listing::{Wanted, has_places, most_of};
+use crate::lists::skipping::tell_left;
+use crate::lists::speaking::{featured, speak_of};
+use crate::stop::REFUSED;
+use arrayvec::ArrayString;
+use std::alloc::{AllocError, Global};
+use std::hash::RandomState;
+use tigertopo_faults::hint::{FoundLine, RefusedForm, push_refusals};
+use tigertopo_faults::objects::refusals_end;
+use tigertopo_files::FileSystem;
+use tigertopo_words::{Form, Told};
+use tl_cert_output::Stop;
+use tl_list::LeftFaults;
+use tl_list_text::{LINE_ROOM, Listing, first_of, text_of_end};
+use tl_record::{Options, Refusal};
+
+/// Answers lines that are refused: all, or so many from the front, with where they stand if the form has that, and makes the file that is
+/// wanted; or where one fault is asked for as a line, the first as a stop. Where they are skipped, the faults of what is left stand behind
+/// them, if there is something.
+pub(crate) fn tell_refused<F: FileSystem>(
+    files: &mut F,
+    alloc: Global,
+    hasher: RandomState,
+    options: Options,
+    names: &[String],
+    wanted: Wanted<'_>,
+    list: Vec<Refusal>,
+    left: Option<LeftFaults>,
+) -> Result<Answer, Stop>
+    requires some { 0 < length list.items }
+    requires made { MayMake (F.under files.old) (option_map string_bytes wanted.made.now) (map_list string_bytes names.now) Collection }
+    ensures { (known : Option (List ℕ)) → IfSome known (λ text. IsListingOf options text (RefusedLines list))
+        → IsLeft options (is_skipping wanted.entry.told) known (RefusedLines list) left →
+        let w = world F.under F.log F.knows files.old files.new in
+        let asked = wanted_of (map_list string_bytes names.now) wanted.entry in
+        Does w [] asked.made (IsSaid (ListAnswers w options known asked))
+        (StopsList w options known asked) result }
+{
+    if stops_refused(wanted.told, wanted.form) {
+        return Err(first_stop(list.as_slice()));
+    }
+    match left {
+        Some(left) => tell_left(files, alloc, hasher, options, names, wanted, list, &left),
+        None => tell_refusals(files, alloc, hasher, options, names, wanted, list),
+    }
+}
+
+// Answers these lines alone, and makes the file that is wanted of them.
+fn tell_refusals<F: FileSystem>(
+    files: &mut F,
+    alloc: Global,
+    hasher: RandomState,
+    options: Options,
+    names: &[String],
+    wanted: Wanted<'_>,
+    list: Vec<Refusal>,
+) -> Result<Answer, Stop>
+    requires { MayMake (F.under files.old) (option_map string_bytes wanted.made.now) (map_list string_bytes names.now) Collection }
+    ensures { let w = world F.under F.log F.knows files.old files.new in
+        let asked = wanted_of (map_list string_bytes names.now) wanted.entry in
+        (known : Option (List ℕ)) → stops_refused asked.told asked.form ≡ false → IfSome known (λ text. IsListingOf options text (RefusedLines list))
+        → IsLeft options (is_skipping asked.told) known (RefusedLines list) None
+        → Does w [] asked.made (IsSaid (ListAnswers w options known asked))
+        (StopsList w options known asked) result }
+{
+    let prepared = prepare_refused(files, alloc, hasher, options, names, wanted, list)?;
+    make_without_faults(
+        files,
+        alloc,
+        hasher,
+        wanted.made,
+        names,
+        prepared.1.as_slice(),
+    )?;
+    Ok(prepared.0)
+}
+
+// What is answered of lines that are refused, and the features of those that the file has, which is made of them if it is wanted.
+fn prepare_refused<F: FileSystem>(
+    files: &mut F,
+    alloc: Global,
+    hasher: RandomState,
+    options: Options,
+    names: &[String],
+    wanted: Wanted<'_>,
+    list: Vec<Refusal>,
+) -> Result<(Answer, Vec<u8>), Stop>
+    ensures prepared { IfOk result (ArePrepared (layout_with options) (F.under files.old) (wanted_of (map_list string_bytes names.now) wanted.entry) list) }
+    ensures stops { let asked = wanted_of (map_list string_bytes names.now) wanted.entry in
+        IfErr result (StopsFor ((reads_again asked.form asked.made ≡ true) × FailsAgain (world F.under F.log F.knows files.old files.new) asked.names)) }
+    ensures stays { F.under files.new ≡ F.under files.old }
+    ensures logged { F.knows ≡ true → LogsAgain (F.log files.old) (F.log files.new) result }
+{
+    let refusals = list.as_slice();
+    let spoken = speak_of(
+        files,
+        alloc,
+        hasher,
+        names,
+        options,
+        wanted,
+        refusals,
+        None,
+        &[],
+    )?;
+    let found = spoken.refused.as_slice();
+    Ok(refused_texts(alloc, options, names, wanted, list, found)?)
+}
+
+/// The same of lines that were found in files.
+pub(crate) fn refused_texts(
+    alloc: Global,
+    options: Options,
+    names: &[String],
+    wanted: Wanted<'_>,
+    list: Vec<Refusal>,
+    found: &[FoundLine],
+) -> Result<(Answer, Vec<u8>), AllocError>
+    ensures { IfOk result (ArePreparedOf (layout_with options) (wanted_of (map_list string_bytes names.now) wanted.entry) list found.now) }
+{
+    let shown = featured(wanted.told, list.as_slice());
+    let features = features_of(alloc, options, names, wanted.made, shown, found)?;
+    let answer = tell_all_refused(alloc, options, names, wanted, list, found)?;
+    Ok((answer, features))
+}
+
+// The features of refused lines, each with where it was found and with a comma in front, if a file is made of them.
+fn features_of(
+    alloc: Global,
+    options: Options,
+    names: &[String],
+    made: &Option<String>,
+    refusals: &[Refusal],
+    found: &[FoundLine],
+) -> Result<Vec<u8>, AllocError>
+    ensures { IfOk result (λ text. is_some (option_map string_bytes made.now) ≡ true
+        → text.items ≡ found_text Features (layout_with options) (map_list string_bytes names.now) refusals.now found.now) }
+{
+    let mut text = Vec::new(alloc);
+    if made.is_some() {
+        let form = RefusedForm::Features;
+        push_refusals(&mut text, form, options, names, refusals, found)?;
+    }
+    Ok(text)
+}
+
+/// Whether refused lines are skipped.
+pub(crate) fn is_skipping(told: Told) -> bool
+    ensures { result ≡ is_skipping told }
+{
+    match told {
+        Told::One => false,
+        Told::All { skips, .. } => skips,
+    }
+}
+
+// Whether a refused line is a stop, and isn't answered: where one fault is asked for as a line.
+fn stops_refused(told: Told, form: Form) -> bool
+    ensures { result ≡ stops_refused told form }
+{
+    match (told, form) {
+        (Told::One, Form::Lines | Form::Records) => true,
+        (Told::One, Form::Objects) => false,
+        (Told::All { .. }, _) => false,
+    }
+}
+
+// Answers lines that are refused: all, or so many from the front, with where they were found if the form has that.
+fn tell_all_refused(
+    alloc: Global,
+    options: Options,
+    names: &[String],
+    wanted: Wanted<'_>,
+    list: Vec<Refusal>,
+    found: &[FoundLine],
+) -> Result<Answer, AllocError>
+    ensures { IfOk result (AnswersFound (layout_with options) (wanted_of (map_list string_bytes names.now) wanted.entry) list found.now) }
+{
+    let most = most_of(wanted.told);
+    if !has_places(wanted.form) {
+        return Ok(Answer::Listing {
+            listing: Listing::Refused(list),
+            most,
+        });
+    }
+    let listed = list.as_slice();
+    let text = placed_list(alloc, options, names, wanted.form, listed, most, found)?;
+    Ok(Answer::Lines {
+        status: REFUSED,
+        text,
+    })
+}
+
+// Lines that are refused, all or so many from the front, each with where it was found, and how many there are.
+fn placed_list(
+    alloc: Global,
+    options: Options,
+    names: &[String],
+    form: Form,
+    list: &[Refusal],
+    most: Option<u64>,
+    found: &[FoundLine],
+) -> Result<Vec<u8>, AllocError>
+    ensures { let shown = printed most list.now in
+        IfOk result (λ text. text.items ≡ found_text (refused_form form) (layout_with options) (map_list string_bytes names.now) shown found.now
+        ++ refusals_last form most (length list.now) (length shown)) }
+{
+    let shown = first_of(list, most);
+    let mut text = Vec::new(alloc);
+    push_refusals(&mut text, refused_form(form), options, names, shown, found)?;
+    let end = refusals_last(form, most, list.len() as u64, shown.len() as u64);
+    text.extend_from_slice(end.as_str().as_bytes())?;
+    Ok(text)
+}
+
+// In which form refused lines are printed, with where they stand.
+fn refused_form(form: Form) -> RefusedForm
+    ensures { result ≡ refused_form form }
+{
+    match form {
+        Form::Lines | Form::Records => RefusedForm::Lines,
+        Form::Objects => RefusedForm::Objects,
+    }
+}
+
+// How many lines are refused, and how many of them are printed where a number is given.
+fn refusals_last(form: Form, most: Option<u64>, count: u64, printed: u64) -> ArrayString<LINE_ROOM>
+    ensures { result.bytes ≡ refusals_last form most count printed }
+{
+    match form {
+        Form::Lines | Form::Records => text_of_end(0, "refused=", most, count),
+        Form::Objects => refusals_end(count, printed),
+    }
+}
+
+// Why there is no answer, where these lines are refused: the first of them.
+fn first_stop(list: &[Refusal]) -> Stop
+    requires { 0 < length list.now }
+    ensures { IsFirstStop list.now result }
+{
+    match list {
+        [refusal, ..] => Stop::Record {
+            line: refusal.line,
+            cause: refusal.cause,
+        },
+        [] => unreachable!(),
+    }
+}

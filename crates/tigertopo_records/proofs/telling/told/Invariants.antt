@@ -1,5 +1,0 @@
-use Rattle.tigertopo_records.proofs.TellingLemmas.{IsLeft}
-use Rattle.tigertopo_records.proofs.telling.told.Given as goal
-
-abbrev pub invariant-loop-place : goal.invariant-loop-place
-invariant-loop-place l = IsLeft l.telling l.rtsq l.lines l.before l.place

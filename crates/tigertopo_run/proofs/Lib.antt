@@ -1,2 +1,0 @@
--- Lemmas on what is run.
-pub mod CommandLemmas

@@ -1,8 +1,0 @@
--- Lemmas on pictures.
-pub mod PieceLemmas
-pub mod DrawingLemmas
-pub mod FrameLemmas
-pub mod TextLemmas
-pub mod PlaceLemmas
-pub mod ColourLemmas
-pub mod FillLemmas

@@ -1,5 +1,0 @@
-use Rattle.tigertopo_svg.proofs.ColourLemmas.{AreMarked}
-use Rattle.tigertopo_svg.proofs.colours.colours_of.Given as goal
-
-abbrev pub invariant-loop-polygon : goal.invariant-loop-polygon
-invariant-loop-polygon l = AreMarked l.map.chains l.polygon l.colours.items l.marks.items

@@ -1,7 +1,0 @@
-use Rattle.tl_cert_output.proofs.PrinterLemmas.{both}
-use Rattle.tigertopo_svg.specs.Fills.{all_fills}
-use Rattle.tigertopo_svg.proofs.filled.print_all.Goals as goal
-
-pub returns : goal.returns
-unfolding all_fills
-returns g c = both (both c.add.ensures c.print_polygons.ensures) c.add-2.ensures

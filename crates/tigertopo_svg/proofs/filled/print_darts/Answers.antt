@@ -1,9 +1,0 @@
-use Rattle.std.proofs.Common.{sym}
-use Rattle.tl_cert_output.proofs.PrinterLemmas.{both, as_text}
-use Rattle.tigertopo_geojson.proofs.TextLemmas.{each_at}
-use Rattle.tigertopo_svg.specs.Fills.{dart_text}
-use Rattle.tigertopo_svg.proofs.filled.print_darts.Goals as goal
-
-pub loop-dart-preserved : goal.loop-dart-preserved
-loop-dart-preserved g c =
-    as_text (both c.loop-dart.invariant c.print_dart.ensures) (sym (each_at (dart_text c.args.frame c.args.map.now.chains) c.args.walk.now c.loop-dart.dart-index _ c.loop-dart-test.true))

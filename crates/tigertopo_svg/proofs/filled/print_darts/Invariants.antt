@@ -1,9 +1,0 @@
-use Rattle.std.proofs.Common.{take}
-use Rattle.std.specs.Prelude.{flat_map}
-use Rattle.tl_cert_output.specs.Printing.{Prints}
-use Rattle.tigertopo_svg.specs.Fills.{dart_text}
-use Rattle.tigertopo_svg.proofs.filled.print_darts.Given as goal
-
-abbrev pub invariant-loop-dart : goal.invariant-loop-dart
-invariant-loop-dart g l =
-    Prints g.S.Sink.contents g.S.Sink.failure_count (l.initial.out, l.initial.printer) (l.out, l.printer) (flat_map (dart_text l.frame l.map.chains) (take l.dart-index l.walk))

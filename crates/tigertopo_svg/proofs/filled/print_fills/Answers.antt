@@ -1,8 +1,0 @@
-use Rattle.tl_cert_output.proofs.PrinterLemmas.{nothing}
-use Rattle.tigertopo_svg.proofs.filled.print_fills.Goals as goal
-
-pub returns-in-Some : goal.returns-in-Some
-returns-in-Some g c = rw c.in-Some.is c.print_all.ensures
-
-pub returns-in-None : goal.returns-in-None
-returns-in-None g c = rw c.in-None.is (nothing _ _)

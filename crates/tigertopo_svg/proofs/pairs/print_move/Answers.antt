@@ -1,7 +1,0 @@
-use Rattle.std.proofs.Common.{rules}
-use Rattle.tl_cert_output.proofs.PrinterLemmas.{as_text}
-use Rattle.tigertopo_svg.proofs.TextLemmas.{move_parts}
-use Rattle.tigertopo_svg.proofs.pairs.print_move.Goals as goal
-
-pub returns : goal.returns
-returns g c = as_text c.print_pair.ensures (move_parts c.args.spot _ _ (search rules) (search rules))

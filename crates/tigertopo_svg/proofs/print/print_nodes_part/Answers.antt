@@ -1,7 +1,0 @@
-use Rattle.tl_cert_output.proofs.PrinterLemmas.{both}
-use Rattle.tigertopo_svg.specs.Texts.{nodes_part}
-use Rattle.tigertopo_svg.proofs.print.print_nodes_part.Goals as goal
-
-pub returns : goal.returns
-unfolding nodes_part
-returns g c = both (both c.add.ensures c.print_nodes.ensures) c.add-2.ensures

@@ -1,6 +1,0 @@
--- Lemmas on texts.
-pub mod FailureLemmas
-pub mod JoiningLemmas
-pub mod LandmarkLemmas
-pub mod PlaceLemmas
-pub mod PrintingLemmas

@@ -1,5 +1,0 @@
-use Rattle.tl_cert_output.proofs.PrinterLemmas.{both}
-use Rattle.tigertopo_text.proofs.landmarks.print_count.Goals as goal
-
-pub returns : goal.returns
-returns g c = both (both c.add.ensures c.number.ensures) c.add-2.ensures

@@ -1,5 +1,0 @@
-use Rattle.std.proofs.Common.{◌≡◌, ◌^◌}
-use Rattle.tigertopo_where.proofs.degrees.power.Given as goal
-
-abbrev pub invariant-loop : goal.invariant-loop
-invariant-loop l = l.power ≡ 10 ^ l.counter

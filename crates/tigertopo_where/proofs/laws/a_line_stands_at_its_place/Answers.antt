@@ -1,5 +1,0 @@
-use Rattle.tigertopo_where.proofs.PlaceLemmas.{line_stands}
-use Rattle.tigertopo_where.proofs.laws.a_line_stands_at_its_place.Goals as goal
-
-pub returns : goal.returns
-returns c = line_stands

@@ -1,5 +1,0 @@
-use Rattle.tl_cert_output.proofs.PrinterLemmas.{ends_text}
-use Rattle.tl_list_text.proofs.print.print_listing.Goals as goal
-
-pub returns-clause-prints : goal.returns-clause-prints
-returns-clause-prints g c = ends_text c.finish.result c.new-printer.ensures c.print_lines.ensures c.finish.ensures.prints c.finish.ensures.stop
