@@ -1,13 +1,13 @@
 #!/usr/bin/env python3
 """`rt ci`, with its tasks planned by what they have been seen to take: the longest chain of seconds first, two or more jobs for
-a proof where processors are idle, and half of the memory that the kit reckons with."""
+a proof where processors are idle, and a third of the memory that the kit reckons with."""
 
 import sys
 
 from prove import UNKNOWN_SHARE, kit, shares
 
-# No check has been seen to take half of the memory that the kit reckons with.
-OF_MEMORY = 0.5
+# No check has been seen to take a third of the memory that the kit reckons with.
+OF_MEMORY = 0.35
 # What the try of an edit takes of the crate's proof.
 OF_PROOF = 0.3
 

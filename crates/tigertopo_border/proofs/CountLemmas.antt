@@ -1,5 +1,5 @@
 -- The numbers of a border.
-use Rattle.std.proofs.Common.{◌≡◌, ℕ, suc, ◌+◌, ◌-◌, ◌<◌, ◌≤◌, ◌||◌, Bool, true, false, cond, List, [], ◌∷◌, ◌++◌, Some, length, take, get_or, slice_get, arith, refl, sym, ap, ◌∙◌, take_all, zero-add}
+use Rattle.std.proofs.Common.{◌≡◌, ℕ, ◌+◌, ◌-◌, ◌<◌, ◌≤◌, ◌||◌, Bool, true, false, cond, List, [], ◌∷◌, ◌++◌, Some, length, take, get_or, slice_get, arith, refl, ap, ◌∙◌, take_all, zero-add}
 use Rattle.std.specs.Prelude.{sum_by, count_by}
 use Rattle.std.specs.Int.{from_bool}
 use Rattle.std.proofs.lemmas.List.{take_more}

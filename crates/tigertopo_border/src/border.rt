@@ -1,65 +1,51 @@
 //! The records of a border.
 
 ghost use Rattle.std.specs.Prelude.{◌≡◌, ◌<◌, ◌≤◌, length, take};
-ghost use Rattle.tl_cert_output.specs.Printing.{Prints};
-ghost use Rattle.tl_cert_output.specs.Texts.{PrintsText};
 ghost use Rattle.std.specs.List.{flat_map};
 ghost use Rattle.tigertopo_border.specs.Spelling.{records_text};
 ghost use Rattle.tigertopo_border.specs.Border.{records_of_chain, records_at, polygon_records, border_text};
 
 use crate::chain::{border_key, has_blank, print_chain};
 use crate::lines::print_point_line;
-use tl_cert_output::{Printer, Stop};
+use tl_cert_output::Page;
 use tl_map_county::Map;
-use tl_record::Sink;
 
 /// Prints the records of a map's border, whose one polygon has this CENID: its chains that name a polygon on one side at most, by rising
-/// TLID, and its polygon's point. [`Stop::Device`] says that a write failed; no other comes.
-pub fn print_border<S: Sink>(map: &Map, name: [u8; 5], out: &mut S) -> Result<(), Stop>
-    ensures { PrintsText S.contents S.failure_count out.old out.new (border_text name map.now) result }
+/// TLID, and its polygon's point.
+pub fn print_border<P: Page>(map: &Map, name: [u8; 5], page: &mut P)
+    ensures { P.adds page.old page.new (border_text name map.now) }
 {
-    let mut printer = Printer::new();
-    print_chains(map, name, &mut printer, out);
-    print_polygon(map, name, &mut printer, out);
-    printer.finish(out)
+    print_chains(map, name, page);
+    print_polygon(map, name, page);
 }
 
 // Prints the records of its chains.
-fn print_chains<S: Sink>(map: &Map, name: [u8; 5], printer: &mut Printer, out: &mut S)
-    ensures { Prints S.contents S.failure_count (out.old, printer.old) (out.new, printer.new)
-        (records_text (flat_map (records_of_chain name) map.now.chains)) }
+fn print_chains<P: Page>(map: &Map, name: [u8; 5], page: &mut P)
+    ensures { P.adds page.old page.new (records_text (flat_map (records_of_chain name) map.now.chains)) }
 {
     for number in 0..map.chains() {
-        print_if_blank(map, number, name, printer, out);
+        print_if_blank(map, number, name, page);
     }
 }
 
 // Prints the records of the chain of this number, if it is of the border.
-fn print_if_blank<S: Sink>(
-    map: &Map,
-    number: u32,
-    name: [u8; 5],
-    printer: &mut Printer,
-    out: &mut S,
-)
+fn print_if_blank<P: Page>(map: &Map, number: u32, name: [u8; 5], page: &mut P)
     requires { number < length map.now.chains }
-    ensures { Prints S.contents S.failure_count (out.old, printer.old) (out.new, printer.new)
-        (records_text (records_at name map.now number)) }
+    ensures { P.adds page.old page.new (records_text (records_at name map.now number)) }
 {
     // so that the number of the chain's points fits
     map.segments();
     let chain = map.chain(number);
     if has_blank(&chain) {
-        print_chain(name, &chain, printer, out);
+        print_chain(name, &chain, page);
     }
 }
 
 // Prints the record of its polygon, if the map has one.
-fn print_polygon<S: Sink>(map: &Map, name: [u8; 5], printer: &mut Printer, out: &mut S)
-    ensures { Prints S.contents S.failure_count (out.old, printer.old) (out.new, printer.new)
-        (records_text (polygon_records name map.now.polygons)) }
+fn print_polygon<P: Page>(map: &Map, name: [u8; 5], page: &mut P)
+    ensures { P.adds page.old page.new (records_text (polygon_records name map.now.polygons)) }
 {
     if 0 < map.polygons() {
-        print_point_line(border_key(name), map.polygon(0).point, printer, out);
+        print_point_line(border_key(name), map.polygon(0).point, page);
     }
 }

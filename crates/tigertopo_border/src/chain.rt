@@ -1,17 +1,15 @@
 //! The records of a chain.
 
 ghost use Rattle.std.specs.Prelude.{◌≡◌, ◌<◌, ◌≤◌, ◌^◌, ◌||◌, length};
-ghost use Rattle.tl_cert_output.specs.Printing.{Prints};
 ghost use Rattle.tl_map_county.specs.Chains.{IsProper};
 ghost use Rattle.tl_check_parts.specs.Homes.{is_blank};
 ghost use Rattle.tigertopo_border.specs.Spelling.{records_text};
 ghost use Rattle.tigertopo_border.specs.Border.{border_key, side_key, inner, shapes_below, shape_count, chain_records};
 
 use crate::lines::{print_chain_line, print_shape_line, print_sides_line};
-use tl_cert_output::Printer;
+use tl_cert_output::Page;
 use tl_geom::Point;
 use tl_map_county::{Chain, Side};
-use tl_record::Sink;
 use tl_record_key::PolyKey;
 
 /// Whether a chain is of the border: it names a polygon on one side at most.
@@ -52,39 +50,30 @@ fn side_key(name: [u8; 5], side: Side) -> Option<PolyKey>
 }
 
 /// Prints the records of a chain of the border.
-pub fn print_chain<S: Sink>(name: [u8; 5], chain: &Chain<'_>, printer: &mut Printer, out: &mut S)
+pub fn print_chain<P: Page>(name: [u8; 5], chain: &Chain<'_>, page: &mut P)
     requires proper { IsProper chain.now.points.now }
     requires few { length chain.now.points.now < 2 ^ 32 }
-    ensures { Prints S.contents S.failure_count (out.old, printer.old) (out.new, printer.new)
-        (records_text (chain_records name chain.now.tlid chain.now.points.now chain.now.left chain.now.right)) }
+    ensures { P.adds page.old page.new (records_text (chain_records name chain.now.tlid chain.now.points.now chain.now.left chain.now.right)) }
 {
     let points = chain.points;
-    print_chain_line(
-        chain.tlid,
-        points[0],
-        points[points.len() - 1],
-        printer,
-        out,
-    );
-    print_shapes(chain.tlid, points, printer, out);
+    print_chain_line(chain.tlid, points[0], points[points.len() - 1], page);
+    print_shapes(chain.tlid, points, page);
     print_sides_line(
         chain.tlid,
         side_key(name, chain.left),
         side_key(name, chain.right),
-        printer,
-        out,
+        page,
     );
 }
 
 // Prints the type 2 records of a chain.
-fn print_shapes<S: Sink>(tlid: u64, points: &[Point], printer: &mut Printer, out: &mut S)
+fn print_shapes<P: Page>(tlid: u64, points: &[Point], page: &mut P)
     requires several { 2 ≤ length points.now }
     requires few { length points.now < 2 ^ 32 }
-    ensures { Prints S.contents S.failure_count (out.old, printer.old) (out.new, printer.new)
-        (records_text (shapes_below tlid (inner points.now) (shape_count points.now))) }
+    ensures { P.adds page.old page.new (records_text (shapes_below tlid (inner points.now) (shape_count points.now))) }
 {
     let count = (points.len() - 2 + 9) / 10;
     for number in 0..count {
-        print_shape_line(tlid, number as u64 + 1, points, 10 * number, printer, out);
+        print_shape_line(tlid, number as u64 + 1, points, 10 * number, page);
     }
 }

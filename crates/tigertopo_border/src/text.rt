@@ -1,10 +1,9 @@
 //! The border of a map as a text that is printed.
 
 use crate::border::print_border;
-use std::alloc::Global;
-use tl_cert_output::{Stop, Text};
+use std::alloc::{AllocError, Global};
+use tl_cert_output::{Page, Text};
 use tl_map_county::Map;
-use tl_record::Sink;
 
 /// The records of a map's border, whose one polygon has this CENID.
 #[derive(Clone, Copy)]
@@ -21,7 +20,8 @@ impl Text for BorderText<'_> {
 
     ghost is_ready = { λ border. ⊤ };
 
-    fn print<S: Sink>(&self, _alloc: Global, out: &mut S) -> Result<(), Stop> {
-        print_border(self.map, self.name, out)
+    fn add_to<P: Page>(&self, _alloc: Global, page: &mut P) -> Result<(), AllocError> {
+        print_border(self.map, self.name, page);
+        Ok(())
     }
 }

@@ -53,15 +53,13 @@ got_place h none [] i = refl
 got_place h none (first ∷ found) zero = refl
 got_place h none (first ∷ found) (suc i) = got_place h none found i
 
-pub told_more : {A : Type 0} (h : A → List ℕ) (form : RefusedForm) (refusals : List Refusal) (found : List A) (i : ℕ) (refusal : Refusal) (first old mid new : List ℕ) → i < length refusals → refusal ≡ get_or refusals i refusal
-    → old ≡ first ++ placed_text form (take i refusals) (map h found) → mid ≡ old ++ refused_text form refusal → new ≡ mid ++ option_map_or h (slice_get found i) (no_place form)
-    → new ≡ first ++ placed_text form (take (i + 1) refusals) (map h found)
-told_more h form refusals found i refusal first old mid new within is so_far grown ended =
+pub told_next : {A : Type 0} (h : A → List ℕ) (form : RefusedForm) (refusals : List Refusal) (found : List A) (i : ℕ) (refusal : Refusal) → i < length refusals → refusal ≡ get_or refusals i refusal
+    → placed_text form (take i refusals) (map h found) ++ refused_text form refusal ++ option_map_or h (slice_get found i) (no_place form) ≡ placed_text form (take (i + 1) refusals) (map h found)
+told_next h form refusals found i refusal within is =
     let told = map h found in
-    let place = place_at form told i in
-    ended ∙ ap (λ t. mid ++ t) (got_place h (no_place form) found i) ∙ ap (λ t. t ++ place) grown ∙ append_assoc old (refused_text form refusal) place
-    ∙ ap (λ t. t ++ (refused_text form refusal ++ place)) so_far ∙ append_assoc first (placed_text form (take i refusals) told) (refused_text form refusal ++ place)
-    ∙ ap (λ t. first ++ t) (sym (placed_step form refusals told i refusal within is))
+    let before = placed_text form (take i refusals) told in
+    append_assoc before (refused_text form refusal) (option_map_or h (slice_get found i) (no_place form))
+    ∙ ap (λ t. before ++ (refused_text form refusal ++ t)) (got_place h (no_place form) found i) ∙ sym (placed_step form refusals told i refusal within is)
 
 -- ---- what is told of lines that were found is told of where they stand
 

@@ -1,26 +1,44 @@
--- Words of a text.
-use Rattle.std.proofs.Common.{◌≡◌, ℕ, ◌<◌, ◌≤◌, ◌+◌, List, ◌∷◌, ◌++◌, drop, length, get_or, refl, sym, ap, ◌∙◌, append_assoc, append-nil, add-one, drop-cons}
-use Rattle.std.proofs.lemmas.List.{drop_all}
+-- Texts that are printed piece by piece: what is left of each, as its next piece and what is left behind that.
+use Rattle.std.proofs.Common.{◌≡◌, ℕ, zero, suc, ◌+◌, ◌<◌, ◌≤◌, List, [], ◌∷◌, ◌++◌, drop, length, get_or, map, Some, slice_get, refl, sym, ap, ◌∙◌, arith}
+use Rattle.std.specs.Prelude.{codes, option_map, slice_index}
+use Rattle.std.proofs.lemmas.List.{drop_more, drop_all}
+use Rattle.std.proofs.lemmas.Option.{slice_get-map, slice_get-get_or}
+use Rattle.tigertopo_words.specs.Names.{told_behind}
+use Rattle.tigertopo_words.specs.Shell.{shell_word}
 use Rattle.tigertopo_faults.specs.Hint.Shown.{shown_byte, shown_bytes}
+use Rattle.tigertopo_faults.specs.Hint.Advice.{words_instead, word_instead}
 
--- texts that were added one behind the other
-pub six_parts : (old a b c d e f : List ℕ) → old ++ a ++ b ++ c ++ d ++ e ++ f ≡ old ++ (a ++ b ++ c ++ d ++ e ++ f)
-six_parts old a b c d e f = simp append_assoc
+-- ---- bytes that are told by what stands on both of their sides
 
-pub seven_parts : (old a b c d e f g : List ℕ) → old ++ a ++ b ++ c ++ d ++ e ++ f ++ g ≡ old ++ (a ++ b ++ c ++ d ++ e ++ f ++ g)
-seven_parts old a b c d e f g = simp append_assoc
+pub told_next : (tell : (before byte after : ℕ) → List ℕ) (bytes : List ℕ) (i before : ℕ) → i < length bytes
+    → told_behind tell before (drop i bytes) ≡ tell before (slice_index bytes i) (slice_index bytes (i + 1)) ++ told_behind tell (slice_index bytes i) (drop (i + 1) bytes)
+told_next tell [] i before within = absurd (omega arith)
+told_next tell (byte ∷ bytes) zero before within = refl
+told_next tell (byte ∷ bytes) (suc i) before within = let next : suc i + 1 ≡ suc (i + 1) = omega arith in rw next (told_next tell bytes i before (omega (arith, within)))
+
+pub told_end : (tell : (before byte after : ℕ) → List ℕ) (bytes : List ℕ) (i before : ℕ) → length bytes ≤ i → told_behind tell before (drop i bytes) ≡ []
+told_end tell bytes i before past = ap (told_behind tell before) (drop_all i bytes past)
 
 -- ---- bytes that are shown one after the other
 
--- one more is
-pub shown_more : (old new whole bytes : List ℕ) (i : ℕ) → i < length bytes → new ≡ old ++ shown_byte (get_or bytes i 0) → old ++ shown_bytes (drop i bytes) ≡ whole
-    → new ++ shown_bytes (drop (i + 1) bytes) ≡ whole
-shown_more old new whole bytes i within is so_far =
-    let next : drop i bytes ≡ get_or bytes i 0 ∷ drop (i + 1) bytes = rw (add-one, drop-cons bytes i 0) refl in
-    ap (λ (l : List ℕ). l ++ shown_bytes (drop (i + 1) bytes)) is
-    ∙ append_assoc old (shown_byte (get_or bytes i 0)) (shown_bytes (drop (i + 1) bytes)) ∙ sym (ap (λ (l : List ℕ). old ++ shown_bytes l) next) ∙ so_far
+pub shown_next : (bytes : List ℕ) (i d : ℕ) → i < length bytes → shown_bytes (drop i bytes) ≡ shown_byte (get_or bytes i d) ++ shown_bytes (drop (i + 1) bytes)
+shown_next bytes i d within = ap shown_bytes (drop_more bytes i d within)
 
--- all are
-pub shown_all : (text whole bytes : List ℕ) (i : ℕ) → length bytes ≤ i → text ++ shown_bytes (drop i bytes) ≡ whole → text ≡ whole
-shown_all text whole bytes i past so_far =
-    sym (append-nil text) ∙ sym (ap (λ (l : List ℕ). text ++ shown_bytes l) (drop_all i bytes past)) ∙ so_far
+pub shown_end : (bytes : List ℕ) (i : ℕ) → length bytes ≤ i → shown_bytes (drop i bytes) ≡ []
+shown_end bytes i past = ap shown_bytes (drop_all i bytes past)
+
+-- ---- words that are typed in place of others
+
+pub word_next : {A : Type 0} (h : A → List ℕ) (name : List ℕ) (words : List A) (i : ℕ) (word : A) → i < length words → word ≡ get_or words i word
+    → words_instead name (map h (drop i words)) ≡ codes " " ++ shell_word (word_instead name (h word)) ++ words_instead name (map h (drop (i + 1) words))
+word_next {A = A} h name words i word within is = rw is (ap (λ (ws : List A). words_instead name (map h ws)) (drop_more words i word within))
+
+pub words_end : {A : Type 0} (h : A → List ℕ) (name : List ℕ) (words : List A) (i : ℕ) → length words ≤ i → words_instead name (map h (drop i words)) ≡ []
+words_end {A = A} h name words i past = ap (λ (ws : List A). words_instead name (map h ws)) (drop_all i words past)
+
+-- ---- names of files
+
+-- what is made of an item of a list
+pub mapped_at : {X Y : Type 0} (made : X → Y) (xs : List X) (i : ℕ) (x : X) → i < length xs → x ≡ get_or xs i x → slice_get (map made xs) i ≡ Some (made x)
+mapped_at made xs i x within is =
+    slice_get-map made xs i ∙ ap (option_map made) (slice_get-get_or xs i x within) ∙ ap (λ y. Some (made y)) (sym is)

@@ -6,7 +6,6 @@
 
 mod advice;
 mod asking;
-mod cause;
 mod form;
 mod found;
 mod holding;
@@ -20,6 +19,6 @@ mod unread;
 pub use asking::Asking;
 pub use form::RefusedForm;
 pub use found::{FoundLine, SoughtLines};
-pub use placed::push_refusals;
-pub use tell::{say_hint, trouble_line};
+pub use placed::{RefusedLines, print_refusals};
+pub use tell::{TroubleLine, say_hint};
 pub use unread::say_unread;

@@ -12,3 +12,4 @@ pub mod lines;
 pub mod objects;
 pub mod places;
 pub mod records;
+mod shown;

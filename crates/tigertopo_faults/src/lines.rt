@@ -1,7 +1,7 @@
 //! Faults with the records that they speak of: each in its file and line, and where it lies on the map.
 //!
 //! [`fault_places`] says where faults lie on the map, [`read_again`] reads a county's files once more for the records that faults speak
-//! of, and [`placed_text`] puts together what is printed of the faults, these places and the lines of these records.
+//! of, and a [`PlacedFaults`] is the text of the faults, these places and the lines of these records.
 
 mod again;
 mod ends;
@@ -13,5 +13,5 @@ mod text;
 pub use again::{Spoken, read_again};
 pub use places::{fault_places, place_at};
 pub use spoken::{lines_for, segment_spoken};
+pub use text::PlacedFaults;
 pub(crate) use text::chosen;
-pub use text::{placed_text, push_faults};

@@ -1,7 +1,7 @@
 //! Faults as objects of JSON, each on a line of its own, and a last object that says how many there are.
 //!
-//! A [`FaultObjects`] is the text of faults. [`sound_object`] and [`refusals_end`] give the last object of a sound map and of lines that
-//! are refused.
+//! A [`FaultObjects`] is the text of faults. A [`SoundObject`] is that of a sound map, and [`print_refusals_end`] prints the last object of
+//! lines that are refused.
 
 mod about;
 mod end;
@@ -9,5 +9,5 @@ mod fault;
 mod place;
 mod text;
 
-pub use end::{refusals_end, skipped_end, sound_object};
+pub use end::{SoundObject, print_refusals_end, print_skipped_end, print_sound_object};
 pub use text::FaultObjects;

@@ -11,7 +11,7 @@ mod lines;
 mod place;
 
 pub use columns::columns_of;
-pub use degrees::{COORDINATE_ROOM, LOCATION_ROOM, is_in_reach, push_degrees, push_location};
+pub use degrees::{is_in_reach, print_degrees, print_location};
 pub use field_columns::FieldColumns;
 pub(crate) use lines::find_ahead;
 pub use lines::{BLOCK, Found, pass_line, show_line};

@@ -4,3 +4,4 @@ pub mod Files
 pub mod Log
 pub mod World
 pub mod Reading
+pub mod Printing

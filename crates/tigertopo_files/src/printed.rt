@@ -4,38 +4,27 @@ ghost use Rattle.std.specs.Prelude.{◌≡◌, ◌++◌, IfOk, IfErr};
 ghost use Rattle.tl_cert_output.specs.declared.stop.Stop.TheVariants.{Memory};
 
 use std::alloc::Global;
-use std::io;
-use std::io::Write;
-use tl_cert_output::{Stop, Text};
-use tl_record::Sink;
+use tl_cert_output::{Page, Stop, Text};
 
-// What is printed, behind what was held before.
+// A page in memory, and whether memory was refused for some of what was added.
 #[derive(Drop)]
 struct Printed {
     bytes: Vec<u8>,
-    failures: u64,
+    is_short: bool,
 }
 
-impl Sink for Printed {
-    ghost use Rattle.std.specs.Prelude.{Some};
+impl Page for Printed {
+    ghost use Rattle.tigertopo_files.specs.Printing.{Holds, printed_adds};
 
-    ghost contents = { λ printed. Some printed.bytes.items };
+    ghost adds = { Holds };
 
-    ghost failure_count = { λ printed. printed.failures };
-
-    fn put(&mut self, bytes: &[u8]) -> io::Result<usize> {
-        match self.bytes.write(bytes) {
-            Ok(taken) => Ok(taken),
-            Err(error) => {
-                self.failures = self.failures.saturating_add(1);
-                Err(error)
-            }
+    fn add(&mut self, bytes: &[u8]) {
+        if self.bytes.extend_from_slice(bytes).is_err() {
+            self.is_short = true;
         }
     }
 
-    fn failures(&self) -> u64 {
-        self.failures
-    }
+    ghost adding = { printed_adds };
 }
 
 /// These bytes and a text behind them. The error is that memory was refused.
@@ -44,10 +33,13 @@ pub fn with_printed<T: Text>(alloc: Global, held: &[u8], text: &T) -> Result<Vec
     ensures bytes { IfOk result (λ bytes. bytes.items ≡ held.now ++ T.text text.now) }
     ensures stop { IfErr result (λ stop. stop ≡ Memory) }
 {
-    let bytes = Vec::from_slice(alloc, held)?;
-    let mut printed = Printed { bytes, failures: 0 };
-    match text.print(alloc, &mut printed) {
-        Ok(()) => Ok(printed.bytes),
-        Err(_) => Err(Stop::Memory),
+    let mut page = Printed {
+        bytes: Vec::from_slice(alloc, held)?,
+        is_short: false,
+    };
+    text.add_to(alloc, &mut page)?;
+    if page.is_short {
+        return Err(Stop::Memory);
     }
+    Ok(page.bytes)
 }

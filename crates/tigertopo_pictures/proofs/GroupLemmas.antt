@@ -5,12 +5,11 @@ use Rattle.std.proofs.lemmas.Bool.Decides.{eqb_tells}
 use Rattle.std.proofs.lemmas.Bool.{cases_eq}
 use Rattle.std.proofs.lemmas.List.{length-drop}
 use Rattle.std.specs.Prelude.{codes, slice_index, if◌then◌else◌}
-use Rattle.tl_cert_output.specs.Printed.{Printed}
-use Rattle.tl_cert_output.specs.Printing.{Prints}
+use Rattle.tl_cert_output.specs.Pages.{IsAdding}
 use Rattle.std.specs.List.{flat_map}
 use Rattle.tigertopo_pictures.specs.Groups.{is_group, is_one, places_from, GoesThrough}
 use Rattle.tigertopo_pictures.specs.Items.{separated}
-use Rattle.tl_cert_output.proofs.PrinterLemmas.{both, as_text, nothing}
+use Rattle.tl_cert_output.proofs.PageLemmas.{both, as_text, nothing}
 
 plus_one : (n : ℕ) → n + 1 ≡ suc n
 plus_one n = omega arith
@@ -95,31 +94,31 @@ pub separated_none : (next : List ℕ) (g : ℕ → List ℕ) (at : ℕ) (ns : L
 separated_none next g at [] beyond goes = refl
 separated_none next g at (n ∷ rest) beyond goes = absurd (omega (arith, beyond, goes.0, goes.1))
 
-module _ {S : Type 0} {C : S → Option (List ℕ)} {F : S → ℕ} (f : ℕ → List ℕ) (next : List ℕ) where
-  pub at_start : (a : S) (p : Printed) (at : ℕ) (ns : List ℕ) → GoesThrough next at ns → IsOnTheWay f next at ns (Prints C F (a, p) (a, p))
-  at_start a p at ns goes = record { rest = ns; goes = goes; text = []; is = nothing a p; whole = refl }
+module _ {P : Type 0} {adds : P → P → List ℕ → Type 0} (page : IsAdding adds) (f : ℕ → List ℕ) (next : List ℕ) where
+  pub at_start : {a : P} (at : ℕ) (ns : List ℕ) → GoesThrough next at ns → IsOnTheWay f next at ns (adds a a)
+  at_start at ns goes = record { rest = ns; goes = goes; text = []; is = nothing page; whole = refl }
 
-  step_on : {a b c : S × Printed} (at : ℕ) (ns rest text : List ℕ) → at < length next → GoesThrough next at rest → Prints C F a b text → text ++ flat_map f rest ≡ flat_map f ns
-      → Prints C F b c (f at) → IsOnTheWay f next (slice_index next at) ns (Prints C F a c)
+  step_on : {a b c : P} (at : ℕ) (ns rest text : List ℕ) → at < length next → GoesThrough next at rest → adds a b text → text ++ flat_map f rest ≡ flat_map f ns
+      → adds b c (f at) → IsOnTheWay f next (slice_index next at) ns (adds a c)
   step_on at ns [] text within goes is whole more = absurd (omega (arith, within, goes))
   step_on {a} {b} {c} at ns (n ∷ rest) text within goes is whole more = record {
     rest = rest;
     goes = rw goes.0 goes.2;
     text = text ++ f n;
-    is = both is (as_text more (ap f goes.0));
+    is = both page is (as_text page more (ap f goes.0));
     whole = append_assoc text (f n) (flat_map f rest) ∙ whole;
   }
 
-  pub one_on : {a b c : S × Printed} (at : ℕ) (ns : List ℕ) → at < length next → IsOnTheWay f next at ns (Prints C F a b)
-      → Prints C F b c (f at) → IsOnTheWay f next (slice_index next at) ns (Prints C F a c)
+  pub one_on : {a b c : P} (at : ℕ) (ns : List ℕ) → at < length next → IsOnTheWay f next at ns (adds a b)
+      → adds b c (f at) → IsOnTheWay f next (slice_index next at) ns (adds a c)
   one_on at ns within way more = step_on at ns way.rest way.text within way.goes way.is way.whole more
 
-  ended : {a b : S × Printed} (at : ℕ) (ns rest text : List ℕ) → length next ≤ at → GoesThrough next at rest → Prints C F a b text → text ++ flat_map f rest ≡ flat_map f ns
-      → Prints C F a b (flat_map f ns)
-  ended at ns [] text beyond goes is whole = as_text is (sym (append-nil text) ∙ whole)
+  ended : {a b : P} (at : ℕ) (ns rest text : List ℕ) → length next ≤ at → GoesThrough next at rest → adds a b text → text ++ flat_map f rest ≡ flat_map f ns
+      → adds a b (flat_map f ns)
+  ended at ns [] text beyond goes is whole = as_text page is (sym (append-nil text) ∙ whole)
   ended at ns (n ∷ rest) text beyond goes is whole = absurd (omega (arith, beyond, goes.0, goes.1))
 
-  pub at_end : {a b : S × Printed} (at : ℕ) (ns : List ℕ) → length next ≤ at → IsOnTheWay f next at ns (Prints C F a b) → Prints C F a b (flat_map f ns)
+  pub at_end : {a b : P} (at : ℕ) (ns : List ℕ) → length next ≤ at → IsOnTheWay f next at ns (adds a b) → adds a b (flat_map f ns)
   at_end at ns beyond way = ended at ns way.rest way.text beyond way.goes way.is way.whole
 
 -- nothing stands behind the items
@@ -127,12 +126,12 @@ pub without_end : (g : ℕ → List ℕ) (ns : List ℕ) → flat_map (λ n. cod
 without_end g [] = refl
 without_end g (n ∷ rest) = ap₂ (λ a b. a ++ b) (append-nil (codes "," ++ g n)) (without_end g rest)
 
-module _ {S : Type 0} {C : S → Option (List ℕ)} {F : S → ℕ} (next : List ℕ) where
+module _ {P : Type 0} {adds : P → P → List ℕ → Type 0} (page : IsAdding adds) (next : List ℕ) where
   -- the first item, and the others behind it
-  pub separated_both : {a b c : S × Printed} (g : ℕ → List ℕ) (at : ℕ) (ns : List ℕ) → at < length next → GoesThrough next at ns → Prints C F a b (g at)
-      → ((others : List ℕ) → GoesThrough next (slice_index next at) others → Prints C F b c (flat_map (λ n. codes "," ++ g n) others)) → Prints C F a c (separated g ns)
+  pub separated_both : {a b c : P} (g : ℕ → List ℕ) (at : ℕ) (ns : List ℕ) → at < length next → GoesThrough next at ns → adds a b (g at)
+      → ((others : List ℕ) → GoesThrough next (slice_index next at) others → adds b c (flat_map (λ n. codes "," ++ g n) others)) → adds a c (separated g ns)
   separated_both g at [] within goes one more = absurd (omega (arith, within, goes))
-  separated_both g at (n ∷ rest) within goes one more = both (as_text one (ap g goes.0)) (more rest (rw goes.0 goes.2))
+  separated_both g at (n ∷ rest) within goes one more = both page (as_text page one (ap g goes.0)) (more rest (rw goes.0 goes.2))
 
 -- ---- whether a group has one item
 

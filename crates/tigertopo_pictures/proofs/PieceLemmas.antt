@@ -2,34 +2,33 @@
 use Rattle.std.proofs.Common.{◌≡◌, ℕ, ◌+◌, ◌<◌, ◌≤◌, List, [], ◌∷◌, ◌++◌, length, get_or, drop, refl, sym, ap, ◌∙◌, append_assoc, append-nil}
 use Rattle.std.proofs.lemmas.List.{drop_more, drop_all}
 use Rattle.std.proofs.lemmas.Option.{slice_get_within, get_or_from_slice_get}
-use Rattle.std.specs.Prelude.{slice_get, Option, Some, flat_map}
-use Rattle.tl_cert_output.specs.Printed.{Printed}
-use Rattle.tl_cert_output.specs.Printing.{Prints}
-use Rattle.tl_cert_output.proofs.PrinterLemmas.{both, as_text, nothing}
+use Rattle.std.specs.Prelude.{slice_get, Some, flat_map}
+use Rattle.tl_cert_output.specs.Pages.{IsAdding}
+use Rattle.tl_cert_output.proofs.PageLemmas.{both, as_text, nothing}
 
 -- of a whole a part was printed, and this is to come
-pub record PrintsUpTo {S : Type 0} (C : S → Option (List ℕ)) (F : S → ℕ) (a b : S × Printed) (whole rest : List ℕ) : Type 0 where
+pub record PrintsUpTo {P : Type 0} (adds : P → P → List ℕ → Type 0) (a b : P) (whole rest : List ℕ) : Type 0 where
   pub done : List ℕ
-  pub prints : Prints C F a b done
+  pub prints : adds a b done
   pub left : done ++ rest ≡ whole
 
-module _ {S : Type 0} {C : S → Option (List ℕ)} {F : S → ℕ} where
+module _ {P : Type 0} {adds : P → P → List ℕ → Type 0} (page : IsAdding adds) where
   -- before anything is printed
-  pub at_start : (s : S) (p : Printed) (whole : List ℕ) → PrintsUpTo C F (s, p) (s, p) whole whole
-  at_start s p whole = record { done = []; prints = nothing s p; left = refl }
+  pub at_start : {a : P} {whole : List ℕ} → PrintsUpTo adds a a whole whole
+  at_start = record { done = []; prints = nothing page; left = refl }
 
   -- a piece more
-  pub piece_more : {a b c : S × Printed} {whole rest piece : List ℕ} (behind : List ℕ) → rest ≡ piece ++ behind → PrintsUpTo C F a b whole rest → Prints C F b c piece
-      → PrintsUpTo C F a c whole behind
+  pub piece_more : {a b c : P} {whole rest piece : List ℕ} (behind : List ℕ) → rest ≡ piece ++ behind → PrintsUpTo adds a b whole rest → adds b c piece
+      → PrintsUpTo adds a c whole behind
   piece_more {piece = piece} behind split before more = record {
     done = before.done ++ piece;
-    prints = both before.prints more;
+    prints = both page before.prints more;
     left = append_assoc before.done piece behind ∙ ap (λ l. before.done ++ l) (sym split) ∙ before.left;
   }
 
   -- nothing is to come
-  pub at_end : {a b : S × Printed} {whole rest : List ℕ} → rest ≡ [] → PrintsUpTo C F a b whole rest → Prints C F a b whole
-  at_end none before = as_text before.prints (sym (append-nil before.done) ∙ ap (λ l. before.done ++ l) (sym none) ∙ before.left)
+  pub at_end : {a b : P} {whole rest : List ℕ} → rest ≡ [] → PrintsUpTo adds a b whole rest → adds a b whole
+  at_end none before = as_text page before.prints (sym (append-nil before.done) ∙ ap (λ l. before.done ++ l) (sym none) ∙ before.left)
 
 -- a list from the place of one of it on
 pub from_place : {A : Type 0} (xs : List A) (n : ℕ) (x : A) → slice_get xs n ≡ Some x → drop n xs ≡ x ∷ drop (n + 1) xs

@@ -5,3 +5,5 @@ pub mod Walks
 pub mod Rings
 pub mod Geojson
 pub mod Svg
+pub mod Spelling
+pub mod SpellingLaws

@@ -1,7 +1,7 @@
 //! Counties as GeoJSON.
 //!
-//! [`print_county`] and [`print_county_with`] write a county's chains and polygons as one FeatureCollection of RFC 7946, and say
-//! exactly which bytes are written. [`CountyText`] and [`CountyTextWith`] are these as texts that can be handed to whoever makes
+//! [`print_county`] and [`print_county_with`] print a county's chains and polygons as one FeatureCollection of RFC 7946, and say
+//! exactly which bytes are added to the page. [`CountyText`] and [`CountyTextWith`] are these as texts that can be handed to whoever makes
 //! a file of them.
 
 mod areas;
@@ -20,5 +20,5 @@ mod windings;
 pub use county::{Shapes, print_county, print_county_with};
 pub use features::{print_chain, print_lead};
 pub use positions::print_position;
-pub use strings::{print_key, print_string};
+pub use strings::{print_key, print_quoted, print_string};
 pub use text::{CountyText, CountyTextWith};

@@ -1,13 +1,11 @@
 //! Numbered texts, group by group.
 
 ghost use Rattle.std.specs.Prelude.{◌≡◌, ◌<◌, ◌++◌, ℕ, List, flat_map, length, slice_index};
-ghost use Rattle.tl_cert_output.specs.Printing.{Prints};
 ghost use Rattle.tigertopo_pictures.specs.Groups.{GoesThrough};
 ghost use Rattle.tigertopo_pictures.specs.Items.{separated};
 
 use crate::groups::Groups;
-use tl_cert_output::Printer;
-use tl_record::Sink;
+use tl_cert_output::Page;
 
 /// Texts that have numbers.
 pub trait Items {
@@ -18,51 +16,44 @@ pub trait Items {
     ghost has: { Self → ℕ → Type 0 };
 
     /// Prints the text of a number.
-    fn print<S: Sink>(&self, number: usize, printer: &mut Printer, out: &mut S)
+    fn print<P: Page>(&self, number: usize, page: &mut P)
         requires { has self.now number }
-        ensures { Prints S.contents S.failure_count (out.old, printer.old) (out.new, printer.new) (text self.now number) };
+        ensures { P.adds page.old page.new (text self.now number) };
 }
 
 /// Prints the items of a group with a comma between two.
-pub fn print_separated<I: Items, S: Sink>(
-    items: &I,
-    groups: &Groups,
-    group: u32,
-    printer: &mut Printer,
-    out: &mut S,
-)
+pub fn print_separated<I: Items, P: Page>(items: &I, groups: &Groups, group: u32, page: &mut P)
     requires group { group < length groups.now.first }
     requires has { (n : ℕ) → n < length groups.now.next → I.has items.now n }
     ensures { (ns : List ℕ) → GoesThrough groups.now.next (slice_index groups.now.first group) ns →
-        Prints S.contents S.failure_count (out.old, printer.old) (out.new, printer.new) (separated (I.text items.now) ns) }
+        P.adds page.old page.new (separated (I.text items.now) ns) }
 {
     let first = groups.first(group);
     if first < groups.items() {
-        items.print(first, printer, out);
-        print_items(items, b",", b"", groups, groups.next(first), printer, out);
+        items.print(first, page);
+        print_items(items, b",", b"", groups, groups.next(first), page);
     }
 }
 
 /// Prints the items of a group from this one on, each between the same bytes.
-pub fn print_items<I: Items, S: Sink>(
+pub fn print_items<I: Items, P: Page>(
     items: &I,
     before: &[u8],
     behind: &[u8],
     groups: &Groups,
     start: usize,
-    printer: &mut Printer,
-    out: &mut S,
+    page: &mut P,
 )
     requires { (n : ℕ) → n < length groups.now.next → I.has items.now n }
     ensures { (ns : List ℕ) → GoesThrough groups.now.next start ns →
-        Prints S.contents S.failure_count (out.old, printer.old) (out.new, printer.new)
+        P.adds page.old page.new
         (flat_map (λ n. before.now ++ I.text items.now n ++ behind.now) ns) }
 {
     let mut at = start;
     while at < groups.items() {
-        printer.add(before, out);
-        items.print(at, printer, out);
-        printer.add(behind, out);
+        page.add(before);
+        items.print(at, page);
+        page.add(behind);
         at = groups.next(at);
     }
 }

@@ -1,8 +1,8 @@
 //! Pictures of maps for a browser.
 //!
 //! [`picture_of`] says how a map is drawn by a [`Frame`], which is fitted to the map and to the faults that are shown or set
-//! about a point, and [`print_picture`] writes the picture with the faults that it's given, each at its place: exactly which
-//! bytes, and an error comes exactly where a write failed. [`Fills`] are what the polygons of a sound map are filled by,
+//! about a point, and [`print_picture`] prints the picture with the faults that it's given, each at its place: exactly which
+//! bytes. [`Fills`] are what the polygons of a sound map are filled by,
 //! neighbours with different colours ([`laws`]). Nothing else is allocated.
 
 mod bounds;

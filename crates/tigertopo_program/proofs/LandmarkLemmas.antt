@@ -3,21 +3,7 @@ use Rattle.std.proofs.Common.{◌≡◌, ℕ, zero, suc, ◌+◌, ◌<◌, List,
 use Rattle.std.proofs.Math.Seq.{take-suc}
 use Rattle.tl_map_county.specs.declared.polygons.Polygon.{Polygon}
 use Rattle.tl_map_county.specs.TheMap.{MapLandmark}
-use Rattle.std.specs.Prelude.{codes, decimal}
-use Rattle.tl_record_key.specs.declared.key.PolyKey.{PolyKey}
-use Rattle.tl_record_key.specs.KeyText.{cenid_text, key_text}
 use Rattle.tigertopo_program.specs.Print.Printing.{polygon_text, polygons_text, landmark_text, landmark_lines}
-
--- six pieces and a rest
-pieces : (s a b c d e rest : List ℕ) → (s ++ a ++ b ++ c ++ d ++ e) ++ rest ≡ s ++ (a ++ (b ++ (c ++ (d ++ (e ++ rest)))))
-pieces s a b c d e rest = simp append_assoc
-
--- a blank and the key of a polygon, in three parts
-pub key_pieces : (key : PolyKey) (cenid : List ℕ) → cenid ≡ codes " " ++ cenid_text key 0 ++ cenid_text key 1 ++ cenid_text key 2 ++ cenid_text key 3 ++ cenid_text key 4
-    → cenid ++ codes "/" ++ decimal key.polyid ≡ codes " " ++ key_text key
-key_pieces key cenid first =
-    rw (first, append_assoc _ (codes "/") (decimal key.polyid))
-    (pieces (codes " ") (cenid_text key 0) (cenid_text key 1) (cenid_text key 2) (cenid_text key 3) (cenid_text key 4) (codes "/" ++ decimal key.polyid))
 
 module _ (polygons : List Polygon) where
   polygons_text-append : (xs ys : List ℕ) → polygons_text polygons (xs ++ ys) ≡ polygons_text polygons xs ++ polygons_text polygons ys

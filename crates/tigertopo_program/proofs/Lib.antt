@@ -8,7 +8,6 @@ pub mod ConvertLemmas
 pub mod CommandLemmas
 pub mod DecideLemmas
 pub mod ListLemmas
-pub mod LineLemmas
 pub mod ExportLemmas
 pub mod BorderLemmas
 pub mod DrawLemmas

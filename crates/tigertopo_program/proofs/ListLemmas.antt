@@ -3,7 +3,7 @@ use Rattle.std.proofs.Common.{◌≡◌, ◌⊎◌, inl, inr, ℕ, zero, suc, �
 use Rattle.std.specs.Prelude.{slice_get, Vec, IfErr, codes, is_some, length, false}
 use Rattle.std.specs.List.{filter_map, enumerate_from}
 use Rattle.std.specs.Global.{Global}
-use Rattle.std.specs.Option.{IfSome}
+use Rattle.std.specs.Option.{IfSome, option_map}
 use Rattle.std.specs.Result.{IsErrAnd}
 use Rattle.std.proofs.lemmas.Option.{IfSome_then}
 use Rattle.std.proofs.lemmas.List.{take_all}
@@ -65,7 +65,7 @@ use Rattle.tigertopo_program.specs.Texts.{answer_status, answer_text}
 use Rattle.tigertopo_program.specs.Lists.Listed.{Asked, ListAnswers, IsSoundList, IsFaultList, StopsList, StopsAgain, has_places, most_of, told_text, featured, reads_again, refused_form, refusals_last, is_skipping, stops_refused}
 use Rattle.tigertopo_program.specs.Lists.Listed.{AreRefused}
 use Rattle.tigertopo_program.specs.Lists.Listed.{refused_text as refused_collection}
-use Rattle.tigertopo_program.specs.Lists.Keeping.{AnswersFound, AreFeatures, ArePrepared, IsLeftPrepared, IsPrepared, IsRefusedList, IsFirstStop, faults_answer, sought_lines}
+use Rattle.tigertopo_program.specs.Lists.Keeping.{AnswersFound, AreFeatures, ArePrepared, IsLeftPrepared, IsPrepared, IsRefusedList, faults_answer, sought_lines, stop_of_refusal}
 
 -- ---- what is done with files
 
@@ -295,21 +295,24 @@ module _ (options : Options) (known : Option (List ℕ)) (asked : Asked) where
 
   -- lines are refused
   module _ (w : World) (list : Vec Refusal Global) (are : IfSome known (λ text. IsListingOf options text (Refused list))) where
-    first_stops : (refusals : List Refusal) (stop : Stop) → stops_refused asked.told asked.form ≡ true → list.items ≡ refusals → IsFirstStop refusals stop
+    first_stops : (refusals : List Refusal) (stop : Stop) → stops_refused asked.told asked.form ≡ true → list.items ≡ refusals → option_map stop_of_refusal (slice_get refusals 0) ≡ Some stop
         → MayStop (StopsList w options known asked) stop
-    first_stops [] stop one is first = absurd first
-    first_stops (refusal ∷ rest) stop one is first = subst (MayStop (StopsList w options known asked)) (sym first) (
-      one,
-      IfSome_then known are (λ text lists. sym (first_is (layout_with options) text) ∙ sym (ap (λ rs. slice_get rs 0) (ap (map pair_of) (sym is) ∙ lists.1))),
-    )
+    first_stops [] stop one is first = absurd (let wrong = first in cc)
+    first_stops (refusal ∷ rest) stop one is first =
+        let some : Some (stop_of_refusal refusal) ≡ Some stop = first in
+        let same : stop_of_refusal refusal ≡ stop = cc in
+        let told = IfSome_then known are (λ text lists. sym (first_is (layout_with options) text) ∙ sym (ap (λ rs. slice_get rs 0) (ap (map pair_of) (sym is) ∙ lists.1))) in
+        subst (MayStop (StopsList w options known asked)) same (one, told)
 
-    no_device : (refusals : List Refusal) (stop : Stop) → IsFirstStop refusals stop → stop ≡ Device → StopsList w options known asked Device
-    no_device [] stop first is = absurd first
-    no_device (refusal ∷ rest) stop first is = absurd (let wrong = sym first ∙ is in cc)
+    no_device : (refusals : List Refusal) (stop : Stop) → option_map stop_of_refusal (slice_get refusals 0) ≡ Some stop → stop ≡ Device → StopsList w options known asked Device
+    no_device [] stop first is = absurd (let wrong = first in cc)
+    no_device (refusal ∷ rest) stop first is =
+        let some : Some (stop_of_refusal refusal) ≡ Some stop = first in
+        absurd (cc (some, is))
 
     -- one alone as a line is a stop
     pub first_refused : (same : w.after ≡ w.before) (logs : w.knows ≡ true → w.logged ≡ w.log) → stops_refused asked.told asked.form ≡ true
-        → (stop : Stop) → IsFirstStop list.items stop
+        → (stop : Stop) → option_map stop_of_refusal (slice_get list.items 0) ≡ Some stop
         → Does {T = Answer} w [] asked.made (IsSaid (ListAnswers w options known asked)) (StopsList w options known asked) (Err stop)
     first_refused same logs one stop first =
         stops_still w same logs asked.made _ (StopsList w options known asked) stop (first_stops list.items stop one refl first) (no_device list.items stop first)

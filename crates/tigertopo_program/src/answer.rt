@@ -4,12 +4,11 @@ ghost use Rattle.std.specs.Prelude.{◌≡◌};
 
 use crate::line::add_answer;
 use crate::stop::{CERT_FAULT, DONE, MAP_FAULT, REFUSED};
-use std::alloc::Global;
-use tl_cert_output::{Printer, Stop, Text};
+use std::alloc::{AllocError, Global};
+use tl_cert_output::{Page, Text};
 use tl_check_verdict::{MapFault, Report, Verdict};
 use tl_list_text::Listing;
 use tl_map_county::{Chains, Map};
-use tl_record::Sink;
 
 /// What is answered to a command.
 #[derive(Drop)]
@@ -114,9 +113,8 @@ impl Text for Answer {
 
     ghost is_ready = { λ answer. ⊤ };
 
-    fn print<S: Sink>(&self, _alloc: Global, out: &mut S) -> Result<(), Stop> {
-        let mut printer = Printer::new();
-        add_answer(self, &mut printer, out);
-        printer.finish(out)
+    fn add_to<P: Page>(&self, _alloc: Global, page: &mut P) -> Result<(), AllocError> {
+        add_answer(self, page);
+        Ok(())
     }
 }

@@ -10,13 +10,13 @@ ghost use Rattle.tigertopo_program.specs.Records.{StopsNever};
 
 use crate::answer::{Answer, Converted};
 use crate::making::answer_with_file;
-use std::alloc::Global;
+use std::alloc::{AllocError, Global};
 use std::slice;
 use tigertopo_files::{FileKind, FileSystem, Reading};
-use tl_cert::{Certificate, read_cert, write_cert};
-use tl_cert_output::{Stop, Text};
+use tl_cert::{Certificate, print_cert, read_cert};
+use tl_cert_output::{Page, Stop, Text};
 use tl_check_verdict::{CertFault, Verdict, fault_of_text};
-use tl_record::{Sink, Source};
+use tl_record::Source;
 
 /// A certificate as a text.
 #[derive(Clone, Copy)]
@@ -31,8 +31,9 @@ impl Text for CertificateText<'_> {
 
     ghost is_ready = { λ text. ⊤ };
 
-    fn print<S: Sink>(&self, _alloc: Global, out: &mut S) -> Result<(), Stop> {
-        Ok(write_cert(self.certificate, out)?)
+    fn add_to<P: Page>(&self, _alloc: Global, page: &mut P) -> Result<(), AllocError> {
+        print_cert(self.certificate, page);
+        Ok(())
     }
 }
 

@@ -11,8 +11,8 @@ ghost use Rattle.tigertopo_program.specs.Hinting.{Hints, is_answer, SaysBehind, 
 use crate::answer::Answer;
 use crate::stop::{STOPPED, try_to_write};
 use std::alloc::{AllocError, Global};
-use tigertopo_faults::hint::{Asking, say_hint, say_unread, trouble_line};
-use tigertopo_files::{FileSystem, all_names};
+use tigertopo_faults::hint::{Asking, TroubleLine, say_hint, say_unread};
+use tigertopo_files::{FileSystem, all_names, with_printed};
 use tigertopo_words::{Asked, Command};
 use tl_cert_output::Stop;
 use tl_record::Sink;
@@ -102,7 +102,11 @@ fn hint_of_made<F: FileSystem, E: Sink>(
     let Some(told) = files.obstacle(alloc)? else {
         return hint_of_read(files, alloc, words, command, &Stop::Device, err);
     };
-    let text = trouble_line(alloc, made.as_str(), told.as_str())?;
+    let line = TroubleLine {
+        name: made.as_str(),
+        words: told.as_str(),
+    };
+    let text = with_printed(alloc, &[], &line)?;
     try_to_write(text.as_slice(), err);
     Ok(())
 }

@@ -19,3 +19,4 @@ mod skipping;
 mod speaking;
 
 pub use listing::{Wanted, list};
+pub(crate) use refused::first_stop;

@@ -1,14 +1,14 @@
 //! The exit statuses, and how a stop is told.
 
 ghost use Rattle.std.specs.Prelude.{◌≡◌};
-ghost use Rattle.tl_record.specs.Messages.{refusal_text};
+ghost use Rattle.tl_cert_output.specs.Printing.{Prints, stands};
 ghost use Rattle.tl_cert_output.specs.Writing.{line_of};
 ghost use Rattle.tl_cert_output.specs.Stops.{stop_text};
 ghost use Rattle.tigertopo_program.specs.Texts.{stop_status};
 ghost use Rattle.tl_cert_output.specs.Streams.{Tries, stream};
 
-use tl_cert_output::{Stop, refusal_line, write_all};
-use tl_record::{Cause, Sink};
+use tl_cert_output::{Page, Printer, Stop, print_refusal, write_all};
+use tl_record::Sink;
 
 /// The status of a command that is done, and of help.
 pub const DONE: u8 = 0;
@@ -29,37 +29,45 @@ pub const STOPPED: u8 = 4;
 pub const USAGE: u8 = 64;
 
 /// Says on `err` why a command stopped, and gives the exit status of that. Where the write fails, the status alone is
-/// left to tell it. The lines are put together here and not by `Display`, whose errors no contract excludes: so the
-/// line of each stop is its own.
+/// left to tell it. The line isn't printed by `Display`, whose errors no contract excludes.
 pub fn stopped<E: Sink>(stop: &Stop, err: &mut E) -> u8
     ensures status { result ≡ stop_status stop.now }
     ensures told { Tries (stream E.contents E.failure_count err.old err.new) (line_of (stop_text stop.now)) }
 {
+    let mut printer = Printer::new(err);
+    print_whole(stop, &mut printer);
+    let _ = printer.finish();
+    status_of(stop)
+}
+
+// Prints the line of a stop on a page that goes to a sink.
+fn print_whole<E: Sink>(stop: &Stop, printer: &mut Printer<'_, E>)
+    ensures same { printer.new.out.ghost_name ≡ printer.old.out.ghost_name }
+    ensures prints { Prints E.contents E.failure_count (stands printer.old) (stands printer.new) (line_of (stop_text stop.now)) }
+{
+    print_stop(stop, printer);
+}
+
+// Prints the line of a stop.
+fn print_stop<P: Page>(stop: &Stop, page: &mut P)
+    ensures { P.adds page.old page.new (line_of (stop_text stop.now)) }
+{
     match stop {
-        Stop::Record { line, cause } => refused(*line, *cause, err),
-        Stop::Memory => say(b"stopped Memory\n", err),
-        Stop::Device => say(b"stopped Device\n", err),
-        Stop::Budget => say(b"stopped Budget\n", err),
+        Stop::Record { line, cause } => print_refusal(*line, *cause, page),
+        Stop::Memory => page.add(b"stopped Memory\n"),
+        Stop::Device => page.add(b"stopped Device\n"),
+        Stop::Budget => page.add(b"stopped Budget\n"),
     }
 }
 
-// Writes this line, with the status of a stop.
-fn say<E: Sink>(line: &[u8], err: &mut E) -> u8
-    ensures status { result ≡ 4 }
-    ensures told { Tries (stream E.contents E.failure_count err.old err.new) line.now }
+// The exit status of a stop.
+fn status_of(stop: &Stop) -> u8
+    ensures { result ≡ stop_status stop.now }
 {
-    try_to_write(line, err);
-    STOPPED
-}
-
-// Writes the line of a refusal, with its status.
-fn refused<E: Sink>(line: u64, cause: Cause, err: &mut E) -> u8
-    ensures status { result ≡ 3 }
-    ensures told { Tries (stream E.contents E.failure_count err.old err.new) (line_of (refusal_text line cause)) }
-{
-    let text = refusal_line(line, cause);
-    try_to_write(text.as_str().as_bytes(), err);
-    REFUSED
+    match stop {
+        Stop::Record { .. } => REFUSED,
+        Stop::Memory | Stop::Device | Stop::Budget => STOPPED,
+    }
 }
 
 /// Writes a text to the error output. Where that fails, nobody can be told.

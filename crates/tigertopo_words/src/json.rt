@@ -1,12 +1,10 @@
 //! Strings of JSON, byte by byte.
 
-ghost use Rattle.std.specs.Prelude.{◌≡◌, ◌<◌, ◌++◌, OnOk};
-ghost use Rattle.std.specs.List.{flat_map};
-ghost use Rattle.tigertopo_words.specs.Json.{byte_character, bytes_text, numbered, string_byte, string_text};
+ghost use Rattle.std.specs.Prelude.{◌≡◌, ◌<◌};
+ghost use Rattle.tigertopo_words.specs.Json.{byte_character, numbered, string_byte};
+ghost use Rattle.tigertopo_words.specs.Names.{hex_digit};
 
-use crate::names::hex_digit;
 use arrayvec::ArrayVec;
-use std::alloc::AllocError;
 
 /// A byte of a string, as it stands between the quotation marks.
 pub fn json_byte(byte: u8) -> ArrayVec<u8, 6>
@@ -38,8 +36,8 @@ fn numbered(byte: u8) -> ArrayVec<u8, 6>
     text
 }
 
-// A byte that may be of no text, as the character of its number.
-fn byte_character(byte: u8) -> ArrayVec<u8, 6>
+/// A byte that may be of no text, as the character of its number.
+pub fn byte_character(byte: u8) -> ArrayVec<u8, 6>
     ensures { result.items ≡ byte_character byte }
 {
     if byte < 127 {
@@ -49,42 +47,14 @@ fn byte_character(byte: u8) -> ArrayVec<u8, 6>
     }
 }
 
-/// Adds a text as a string.
-pub fn push_string(text: &mut Vec<u8>, bytes: &[u8]) -> Result<(), AllocError>
-    ensures { OnOk result (text.new.items ≡ text.old.items ++ string_text bytes.now) }
+/// A hexadecimal digit.
+pub fn hex_digit(digit: u8) -> u8
+    requires { digit < 16 }
+    ensures { result ≡ hex_digit digit }
 {
-    text.extend_from_slice(b"\"")?;
-    push_bytes(text, bytes)?;
-    text.extend_from_slice(b"\"")?;
-    Ok(())
-}
-
-// Adds the bytes of a string.
-fn push_bytes(text: &mut Vec<u8>, bytes: &[u8]) -> Result<(), AllocError>
-    ensures { OnOk result (text.new.items ≡ text.old.items ++ flat_map string_byte bytes.now) }
-{
-    for byte in bytes {
-        text.extend_from_slice(json_byte(*byte).as_slice())?;
+    if digit < 10 {
+        b'0' + digit
+    } else {
+        b'a' + (digit - 10)
     }
-    Ok(())
-}
-
-/// Adds bytes that may be no text as a string: each is the character of its number.
-pub fn push_byte_string(text: &mut Vec<u8>, bytes: &[u8]) -> Result<(), AllocError>
-    ensures { OnOk result (text.new.items ≡ text.old.items ++ bytes_text bytes.now) }
-{
-    text.extend_from_slice(b"\"")?;
-    push_characters(text, bytes)?;
-    text.extend_from_slice(b"\"")?;
-    Ok(())
-}
-
-// Adds bytes, each as the character of its number.
-fn push_characters(text: &mut Vec<u8>, bytes: &[u8]) -> Result<(), AllocError>
-    ensures { OnOk result (text.new.items ≡ text.old.items ++ flat_map byte_character bytes.now) }
-{
-    for byte in bytes {
-        text.extend_from_slice(byte_character(*byte).as_slice())?;
-    }
-    Ok(())
 }

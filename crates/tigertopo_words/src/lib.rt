@@ -1,8 +1,7 @@
 //! What the words of the command line ask for: a [`Command`], which [`words::command`] makes of them by `clap`'s reading. Which
 //! commands there are, with their arguments and their help, is one table (`table`).
-//! And what is shown and spelt in one way wherever it stands: names of files ([`push_name`]), words that are typed
-//! ([`push_shell_word`]), strings of JSON ([`push_string`]), points as words (`specs/Points`), and the layers of a map
-//! ([`Layer`]).
+//! And what is spelt in one way wherever it stands: the bytes of strings of JSON ([`json_byte`]), points as words (`specs/Points`), and the
+//! layers of a map ([`Layer`]). How names of files and words that are typed are shown is said here, too (`specs/Names`, `specs/Shell`).
 #![tactic(auto)]
 
 mod arguments;
@@ -17,11 +16,9 @@ mod form;
 mod help;
 mod json;
 mod layer;
-mod names;
 mod placeholder;
 mod point;
 mod refusal;
-mod shell;
 mod stop;
 mod table;
 mod view;
@@ -30,8 +27,6 @@ pub mod words;
 pub use asked::{Asked, Command, View};
 pub use budget::Told;
 pub use form::Form;
-pub use json::{json_byte, push_byte_string, push_string};
+pub use json::{byte_character, hex_digit, json_byte};
 pub use layer::Layer;
-pub use names::{push_escaped, push_name};
-pub use shell::push_shell_word;
 pub use stop::WordsStop;

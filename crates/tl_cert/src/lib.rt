@@ -35,4 +35,4 @@ pub use range::look_at_certificate;
 pub use read::read_cert;
 pub use reader::{CertReader, Standing};
 pub use stop::{CertStop, WriteStop};
-pub use write::write_cert;
+pub use write::{print_cert, write_cert};

@@ -1,5 +1,6 @@
 -- Lemmas on output.
+pub mod CauseLemmas
+pub mod PageLemmas
 pub mod PrinterLemmas
 pub mod StopLemmas
-pub mod TextLemmas
 pub mod WritingLemmas

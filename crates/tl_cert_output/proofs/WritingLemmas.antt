@@ -1,14 +1,13 @@
 -- What writes tell of failures and of what the sink took.
-use Rattle.std.proofs.Common.{◌≡◌, ℕ, List, [], ◌++◌, Result, Ok, Err, refl, sym, ap, subst, ◌∙◌, arith, false, length, take, drop}
-use Rattle.std.proofs.Common.{append_assoc, take-append-drop}
+use Rattle.std.proofs.Common.{◌≡◌, ℕ, List, [], Result, Ok, Err, refl, sym, ap, subst, ◌∙◌, arith, false, length, take, drop}
+use Rattle.std.proofs.Common.{take-append-drop}
 use lib.Seq.{take-append_seam}
 use Rattle.std.specs.Io.KnownBytes.{Appends}
-use Rattle.std.proofs.KnownBytes.{Appends-trans}
 use Rattle.std.proofs.lemmas.Bool.Decides.{nat_tests}
 use Rattle.std.specs.Prelude.{◌==◌, ◌&&◌, ◌≢◌, not, if◌then◌else◌, Option, OnOk}
 use Rattle.tl_record.specs.Failures.{one_more}
 use Rattle.std.specs.Result.{IsErr}
-use Rattle.tl_cert_output.specs.Writing.{PassesOn, PassesSome, TriesToPassOn, CountsFailure, FailsToWrite, WritesSome}
+use Rattle.tl_cert_output.specs.Writing.{PassesSome, TriesToPassOn, CountsFailure, FailsToWrite, WritesSome}
 
 -- a write that took some bytes has not failed
 pub no_failure : (taken count size : ℕ) → taken ≢ 0
@@ -21,40 +20,6 @@ no_failure taken count size some =
 pub passes_front : (old new : Option (List ℕ)) (n : ℕ) (text : List ℕ) → Appends old new (take n text) → PassesSome old new [] text
 passes_front old new n text grown =
     record { lost = drop n text; passes = record { taken = take n text; grown = grown; whole = take-append-drop n text } }
-
--- what was held is gone, and the text behind it too
-pub passes_some_more : (old new : Option (List ℕ)) (held text more : List ℕ) → PassesSome old new held text → PassesSome old new held (text ++ more)
-passes_some_more old new held text more some =
-    let p = some.passes in
-    record {
-      lost = some.lost ++ more;
-      passes = record {
-        taken = p.taken;
-        grown = p.grown;
-        whole = sym (append_assoc p.taken some.lost more) ∙ ap (λ l. l ++ more) p.whole ∙ append_assoc held text more;
-      };
-    }
-
--- one text is passed on behind another
-pub passes_both : (old mid new : Option (List ℕ)) (held kept last front behind : List ℕ) → PassesOn old mid held kept front
-    → PassesOn mid new kept last behind → PassesOn old new held last (front ++ behind)
-passes_both old mid new held kept last front behind p q =
-    record {
-      taken = p.taken ++ q.taken;
-      grown = Appends-trans old mid new p.taken q.taken p.grown q.grown;
-      whole =
-          append_assoc p.taken q.taken last
-          ∙ ap (λ l. p.taken ++ l) q.whole
-          ∙ sym (append_assoc p.taken kept behind)
-          ∙ ap (λ l. l ++ behind) p.whole
-          ∙ append_assoc held front behind;
-    }
-
--- one text is passed on whole, and another behind it isn't
-pub passes_some_then : (old mid new : Option (List ℕ)) (held kept front behind : List ℕ) → PassesOn old mid held kept front
-    → PassesSome mid new kept behind → PassesSome old new held (front ++ behind)
-passes_some_then old mid new held kept front behind p q =
-    record { lost = q.lost; passes = passes_both old mid new held kept q.lost front behind p q.passes }
 
 -- what the sink took is a beginning of the text
 pub writes_some : {S : Type 0} (contents : S → Option (List ℕ)) (failures : S → ℕ) (old new : S) (text : List ℕ)

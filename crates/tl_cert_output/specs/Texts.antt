@@ -11,8 +11,3 @@ PrintsText contents failures old new text (Err (Record line cause)) = ⊥
 PrintsText contents failures old new text (Err Memory) = new ≡ old
 PrintsText contents failures old new text (Err Device) = WritesSome contents failures old new text
 PrintsText contents failures old new text (Err Budget) = ⊥
-
--- what a print of a text answers where writing it answered this
-abbrev pub printed_by : {T E : Type 0} → Result T E → Result T Stop
-printed_by (Ok done) = Ok done
-printed_by (Err error) = Err Device

@@ -7,8 +7,6 @@ use Rattle.tl_record_key.specs.KeyText.{key_text}
 use Rattle.tl_check_faces.specs.declared.fault.NamedFace.{NamedFace}
 use Rattle.tl_check_faces.specs.declared.fault.Way.{Way}
 use Rattle.tl_check_faces.specs.declared.fault.Way.TheVariants.{West, East}
-use Rattle.tl_check_faces.specs.declared.fault.FaceFault.{FaceFault}
-use Rattle.tl_check_faces.specs.declared.fault.FaceFault.TheVariants.{Facing, Outward}
 
 -- a rational point: two numerators and their denominator
 abbrev pub rational_text : Rational → List ℕ
@@ -27,8 +25,3 @@ named_face_text face = codes "tlid " ++ decimal face.tlid ++ codes " " ++ side_t
 abbrev pub way_text : Way → List ℕ
 way_text West = codes "west"
 way_text East = codes "east"
-
--- the code and the name of the fault, with what it is about
-abbrev pub face_fault_text : FaceFault → List ℕ
-face_fault_text (Facing first last) = codes "map fault G7 FaceDisagree " ++ named_face_text first ++ codes " " ++ named_face_text last
-face_fault_text (Outward face way) = codes "map fault G7 FaceDisagree " ++ named_face_text face ++ codes " outside " ++ way_text way

@@ -21,6 +21,21 @@ pub enum Way {
     East,
 }
 
+impl Way {
+    ghost use Rattle.std.specs.Prelude.{◌≡◌};
+    ghost use Rattle.tl_check_faces.specs.FaultTexts.{way_text};
+
+    /// The word for it.
+    pub fn word(&self) -> &'static str
+        ensures { result.now ≡ way_text self.now }
+    {
+        match self {
+            Way::West => "west",
+            Way::East => "east",
+        }
+    }
+}
+
 impl fmt::Display for Way {
     ghost use Rattle.std.specs.Prelude.{Some};
     ghost use Rattle.tl_check_faces.specs.FaultTexts.{way_text};
@@ -28,16 +43,12 @@ impl fmt::Display for Way {
     ghost output = { λ way. Some (way_text way) };
 
     fn fmt<W: fmt::Write>(&self, f: &mut fmt::Formatter<W>) -> fmt::Result {
-        match self {
-            Way::West => f.write_str("west"),
-            Way::East => f.write_str("east"),
-        }
+        f.write_str(self.word())
     }
 }
 
-/// G7: faces that disagree. It is printed as `map fault`, its code and name, and what it is about: points as two numerators and
-/// their denominator.
-#[derive(Clone, Copy, PartialEq, Eq)]
+/// G7: faces that disagree.
+#[derive(Clone, Copy, Debug, PartialEq, Eq)]
 pub enum FaceFault {
     /// Two segments face one another, and name different sides there.
     Facing { first: NamedFace, last: NamedFace },
@@ -61,29 +72,5 @@ impl fmt::Display for NamedFace {
             ),
             None => write!(f, "tlid {tlid} outside at {} {} {}", at.x, at.y, at.d),
         }
-    }
-}
-
-impl fmt::Display for FaceFault {
-    ghost use Rattle.std.specs.Prelude.{Some};
-    ghost use Rattle.tl_check_faces.specs.FaultTexts.{face_fault_text};
-
-    ghost output = { λ fault. Some (face_fault_text fault) };
-
-    fn fmt<W: fmt::Write>(&self, f: &mut fmt::Formatter<W>) -> fmt::Result {
-        match *self {
-            FaceFault::Facing { first, last } => {
-                write!(f, "map fault G7 FaceDisagree {first} {last}")
-            }
-            FaceFault::Outward { face, way } => {
-                write!(f, "map fault G7 FaceDisagree {face} outside {way}")
-            }
-        }
-    }
-}
-
-impl fmt::Debug for FaceFault {
-    fn fmt<W: fmt::Write>(&self, f: &mut fmt::Formatter<W>) -> fmt::Result {
-        fmt::Display::fmt(self, f)
     }
 }

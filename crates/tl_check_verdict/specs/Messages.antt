@@ -3,7 +3,8 @@ use Rattle.std.specs.Prelude.{ℕ, List, ◌++◌, Option, None, Some, codes, de
 use Rattle.std.specs.Fmt.{signed_decimal}
 use Rattle.tl_geom.specs.declared.point.Point.{Point}
 use Rattle.tl_record_key.specs.KeyText.{key_text}
-use Rattle.tl_map_rules.specs.Messages.{limited_text, types_text}
+use Rattle.tl_map_rules.specs.Messages.{about_records_text}
+use Rattle.tl_map_rules.specs.Rows.{Row}
 use Rattle.tl_check_faces.specs.declared.fault.FaceFault.TheVariants.{Facing, Outward}
 use Rattle.tl_check_faces.specs.FaultTexts.{rational_text, named_face_text, way_text}
 use Rattle.tl_tree_index.specs.declared.fault.TreeFault.{TreeFault}
@@ -15,7 +16,7 @@ use Rattle.tl_check_sides.specs.declared.fault.WalkFault.TheVariants as walk
 use Rattle.tl_check_verdict.specs.declared.fault.MapFault.{MapFault}
 use Rattle.tl_check_verdict.specs.declared.rows.About.{About}
 use Rattle.tl_check_verdict.specs.declared.rows.About.TheVariants as about
-use Rattle.tl_check_verdict.specs.Rows.{Row, row}
+use Rattle.tl_check_verdict.specs.Rows.{row}
 use Rattle.tl_check_verdict.specs.declared.fault.CertFault.{CertFault}
 use Rattle.tl_check_verdict.specs.declared.fault.CertFault.TheVariants.{Text, Counts, Tree, TooDeep, Round, Walk}
 use Rattle.tl_check_verdict.specs.declared.verdict.Report.{Report}
@@ -30,13 +31,7 @@ node_text p = signed_decimal p.x ++ codes " " ++ signed_decimal p.y
 
 -- what a fault is about, behind its name
 abbrev pub about_text : About → List ℕ
-about_text (about.Tlid t records) = codes " tlid " ++ decimal t
-about_text (about.Polygon k) = codes " polygon " ++ key_text k
-about_text (about.TlidPolygon t k) = codes " tlid " ++ decimal t ++ codes " polygon " ++ key_text k
-about_text (about.Land n) = codes " land " ++ decimal n
-about_text (about.PolygonLand k n) = codes " polygon " ++ key_text k ++ codes " land " ++ decimal n
-about_text (about.Limit what) = codes " " ++ limited_text what
-about_text (about.Types lacking) = codes " types" ++ types_text lacking
+about_text (about.Records it) = about_records_text it
 about_text (about.Meet meet) =
     codes " " ++ segment_text meet.tlid meet.s ++ codes " " ++ segment_text meet.other meet.t ++ codes " at " ++ rational_text meet.at
 about_text (about.Darts node first next) = codes " at " ++ node_text node ++ codes " darts " ++ decimal first ++ codes " " ++ decimal next
@@ -48,7 +43,7 @@ about_text (about.Faces (Facing first last)) = codes " " ++ named_face_text firs
 about_text (about.Faces (Outward face way)) = codes " " ++ named_face_text face ++ codes " outside " ++ way_text way
 
 -- the code and the name of a fault, and what it is about
-abbrev pub row_text : Row → List ℕ
+abbrev pub row_text : Row About → List ℕ
 row_text row = row.0 ++ codes " " ++ row.1 ++ about_text row.2
 
 -- the same of a map's fault, behind what each has in front

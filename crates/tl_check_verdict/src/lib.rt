@@ -14,6 +14,6 @@ mod verdict;
 
 pub use fault::{CertFault, MapFault};
 pub use reports::report;
-pub use rows::{About, FaultRow, Which, row};
+pub use rows::{About, row};
 pub use stop::{fault_of_records, fault_of_text};
 pub use verdict::{Report, Verdict};

@@ -1,12 +1,21 @@
 -- Texts that are put together of several parts, one behind the other.
 use Rattle.std.proofs.Common.{◌≡◌, ◌≢◌, ℕ, List, [], ◌∷◌, ◌++◌, append_assoc, codes, decimal, sym}
+use Rattle.std.specs.Prelude.{slice_index}
+use Rattle.std.specs.Char.{encode_utf8}
 use Rattle.std.proofs.lemmas.Bool.{ne_eqb}
 use Rattle.tl_list_text.specs.Texts.{touched_text}
 
--- a key behind what comes before it
-pub key_parts : (before c d e f g slash number : List ℕ)
-    → before ++ c ++ d ++ e ++ f ++ g ++ slash ++ number ≡ before ++ (c ++ (d ++ (e ++ (f ++ (g ++ (slash ++ number))))))
-key_parts before c d e f g slash number = simp append_assoc
+-- the five characters of a CENID
+abbrev pub letters : List ℕ → List ℕ
+letters shown =
+    encode_utf8 (slice_index shown 0) ++ encode_utf8 (slice_index shown 1) ++ encode_utf8 (slice_index shown 2) ++ encode_utf8 (slice_index shown 3) ++ encode_utf8 (slice_index shown 4)
+
+-- a CENID by its parts, and a key by its
+pub cenid_parts : (c d e f g : List ℕ) → c ++ d ++ e ++ f ++ g ≡ c ++ (d ++ (e ++ (f ++ g)))
+cenid_parts c d e f g = simp append_assoc
+
+pub key_parts : (c d e f g slash number : List ℕ) → (c ++ (d ++ (e ++ (f ++ g)))) ++ slash ++ number ≡ c ++ (d ++ (e ++ (f ++ (g ++ (slash ++ number)))))
+key_parts c d e f g slash number = simp append_assoc
 
 -- the numbers of a map, each behind its word
 pub report_parts : (head a w b x c y d z e v f end : List ℕ)

@@ -1,2 +1,3 @@
 -- What the contracts of listings cite.
 pub mod Texts
+pub mod Keys

@@ -1,17 +1,17 @@
 //! The answer where all that is wrong with a county is asked for, and how it is printed.
 //!
-//! A [`Listing`] says that the county is sound, or has all its faults or all its lines that are refused. [`add_listing`]
-//! says exactly which bytes it adds to what is printed.
+//! A [`Listing`] says that the county is sound, or has all its faults or all its lines that are refused. [`print_listing`] and what
+//! prints a part of one say exactly what they add to a page, piece by piece, so no line is bounded.
 //!
 //! Nothing here takes memory.
 #![tactic(auto)]
 
 mod faults;
-mod line;
+mod keys;
 mod listing;
 mod print;
 
-pub use faults::{fault_line, fault_words, limited_word, way_word};
-pub use line::{LINE_ROOM, push_key, push_number};
+pub use faults::{print_fault, print_fault_words};
+pub use keys::{print_cenid, print_key};
 pub use listing::Listing;
-pub use print::{add_listing, first_of, text_of_end};
+pub use print::{first_of, print_end, print_listing};

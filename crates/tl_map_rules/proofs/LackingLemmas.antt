@@ -1,12 +1,12 @@
 -- Where nothing is lacking, there is a record of each type.
-use Rattle.std.proofs.Common.{◌≡◌, ℕ, ◌≤◌, suc, zero, Bool, true, false, ◌||◌, ◌==◌, List, length, refl, sym, ap, ◌∙◌, arith}
+use Rattle.std.proofs.Common.{◌≡◌, ℕ, ◌≤◌, suc, zero, Bool, true, false, ◌||◌, ◌==◌, List, length, refl, arith}
 use Rattle.std.specs.Prelude.{IsTrue}
 use Rattle.tl_record.specs.declared.record.Record.{Record}
 use Rattle.tl_record.specs.Records.{Records}
 use Rattle.tl_map_county.specs.TheMap.{TheMap}
 use Rattle.tl_map_rules.specs.ChainsOf.{chain_count}
-use Rattle.tl_map_rules.specs.MapOf.{sides_in, polygons_in}
-use Rattle.tl_map_rules.specs.Lacking.{IsComplete, lacking_in, lacking_where, lacks}
+use Rattle.tl_map_rules.specs.MapOf.{sides_in}
+use Rattle.tl_map_rules.specs.Lacking.{IsComplete, lacking_in, lacks}
 use Rattle.tl_map_rules.specs.Reading.{IsReadFrom, records_in}
 
 -- neither is so

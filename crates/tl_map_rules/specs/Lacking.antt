@@ -1,5 +1,5 @@
 -- Records of the types that every county has, and of which of them there is none.
-use Rattle.std.specs.Prelude.{ℕ, ◌≤◌, ◌==◌, Bool, false, ◌||◌, if◌then◌else◌, List, length}
+use Rattle.std.specs.Prelude.{◌≤◌, ◌==◌, Bool, false, ◌||◌, if◌then◌else◌, List, length}
 use Rattle.tl_record.specs.declared.record.Record.{Record}
 use Rattle.tl_map_rules.specs.declared.fault.RecordFault.{RecordFault}
 use Rattle.tl_map_rules.specs.declared.fault.RecordFault.TheVariants.{DuplicateChain, ShapeWithoutChain, ShapeSequence, ShapeGap, ChainWithoutSides, SidesWithoutChain, DuplicateSides, DuplicatePolygon, SideWithoutPolygon, LinkWithoutLandmark, LinkWithoutPolygon, DegenerateChain, TooMany}

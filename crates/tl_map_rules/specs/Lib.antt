@@ -2,7 +2,7 @@ pub mod ChainsOf
 pub mod MapOf
 pub mod Faults
 pub mod Lacking
+pub mod Rows
 pub mod Messages
 pub mod Reading
-pub mod Subjects
 pub mod Keeping

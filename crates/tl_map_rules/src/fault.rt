@@ -5,6 +5,7 @@ ghost use Rattle.tl_map_rules.specs.declared.fault.MapStop.TheVariants.{Memory};
 ghost use Rattle.tl_map_rules.specs.Reading.{stop_of};
 
 use crate::lacking::Lacking;
+use crate::rows::{FaultRow, record_row};
 use std::alloc::{AllocError, AllocFailed};
 use std::fmt;
 use tl_record::{Cause, PolyKey, ReadStop};
@@ -18,6 +19,23 @@ pub enum Limited {
     Landmarks,
 }
 
+impl Limited {
+    ghost use Rattle.std.specs.Prelude.{◌≡◌};
+    ghost use Rattle.tl_map_rules.specs.Messages.{limited_text};
+
+    /// The word for it.
+    pub fn word(&self) -> &'static str
+        ensures { result.now ≡ limited_text self.now }
+    {
+        match self {
+            Limited::Chains => "chains",
+            Limited::Segments => "segments",
+            Limited::Polygons => "polygons",
+            Limited::Landmarks => "landmarks",
+        }
+    }
+}
+
 impl fmt::Display for Limited {
     ghost use Rattle.std.specs.Prelude.{Some};
     ghost use Rattle.tl_map_rules.specs.Messages.{limited_text};
@@ -25,12 +43,7 @@ impl fmt::Display for Limited {
     ghost output = { λ what. Some (limited_text what) };
 
     fn fmt<W: fmt::Write>(&self, f: &mut fmt::Formatter<W>) -> fmt::Result {
-        match self {
-            Limited::Chains => f.write_str("chains"),
-            Limited::Segments => f.write_str("segments"),
-            Limited::Polygons => f.write_str("polygons"),
-            Limited::Landmarks => f.write_str("landmarks"),
-        }
+        f.write_str(self.word())
     }
 }
 
@@ -65,102 +78,15 @@ pub enum RecordFault {
     TooMany(Limited),
 }
 
-impl RecordFault {
-    ghost use Rattle.std.specs.Prelude.{◌≡◌};
-    ghost use Rattle.tl_map_rules.specs.Messages.{fault_name, subject_text};
-    ghost use Rattle.tl_map_rules.specs.Subjects.{text_of};
-
-    // Its code and its name, as they are printed.
-    fn name(&self) -> &'static str
-        ensures { result.now ≡ fault_name self.now }
-    {
-        match self {
-            RecordFault::DuplicateChain { .. } => "M1 DuplicateChain",
-            RecordFault::ShapeWithoutChain { .. } => "M2 ShapeWithoutChain",
-            RecordFault::ShapeSequence { .. } => "M3 ShapeSequence",
-            RecordFault::ShapeGap { .. } => "M4 ShapeGap",
-            RecordFault::ChainWithoutSides { .. } => "M5 ChainWithoutSides",
-            RecordFault::SidesWithoutChain { .. } => "M6 SidesWithoutChain",
-            RecordFault::DuplicateSides { .. } => "M7 DuplicateSides",
-            RecordFault::DuplicatePolygon { .. } => "M8 DuplicatePolygon",
-            RecordFault::SideWithoutPolygon { .. } => "M9 SideWithoutPolygon",
-            RecordFault::LinkWithoutLandmark { .. } => "M10 LinkWithoutLandmark",
-            RecordFault::LinkWithoutPolygon { .. } => "M11 LinkWithoutPolygon",
-            RecordFault::DegenerateChain { .. } => "M12 DegenerateChain",
-            RecordFault::TooMany(_) => "M13 TooMany",
-        }
-    }
-
-    /// What it is about.
-    fn subject(&self) -> Subject
-        ensures { text_of result ≡ subject_text self.now }
-    {
-        match self {
-            RecordFault::DuplicateChain { tlid }
-            | RecordFault::ShapeWithoutChain { tlid }
-            | RecordFault::ShapeSequence { tlid }
-            | RecordFault::ShapeGap { tlid }
-            | RecordFault::ChainWithoutSides { tlid }
-            | RecordFault::SidesWithoutChain { tlid }
-            | RecordFault::DuplicateSides { tlid }
-            | RecordFault::DegenerateChain { tlid } => Subject::Tlid(*tlid),
-            RecordFault::DuplicatePolygon { polygon } => Subject::Polygon(*polygon),
-            RecordFault::SideWithoutPolygon { tlid, polygon } => {
-                Subject::TlidAndPolygon(*tlid, *polygon)
-            }
-            RecordFault::LinkWithoutLandmark { land } => Subject::Land(*land),
-            RecordFault::LinkWithoutPolygon { polygon, land } => {
-                Subject::PolygonAndLand(*polygon, *land)
-            }
-            RecordFault::TooMany(what) => Subject::What(*what),
-        }
-    }
-}
-
 impl fmt::Display for RecordFault {
     ghost use Rattle.std.specs.Prelude.{Some};
-    ghost use Rattle.tl_map_rules.specs.Messages.{fault_text};
+    ghost use Rattle.tl_map_rules.specs.Messages.{record_fault_text};
 
-    ghost output = { λ fault. Some (fault_text fault) };
-
-    fn fmt<W: fmt::Write>(&self, f: &mut fmt::Formatter<W>) -> fmt::Result {
-        let name = self.name();
-        let subject = self.subject();
-        write!(f, "map fault {name}{subject}")
-    }
-}
-
-/// What a fault is about.
-#[derive(Clone, Copy)]
-enum Subject {
-    Tlid(u64),
-    Polygon(PolyKey),
-    TlidAndPolygon(u64, PolyKey),
-    Land(u64),
-    PolygonAndLand(PolyKey, u64),
-    What(Limited),
-}
-
-/// As it is printed behind the fault's name.
-impl fmt::Display for Subject {
-    ghost use Rattle.std.specs.Prelude.{Some};
-    ghost use Rattle.tl_map_rules.specs.Subjects.{text_of};
-
-    ghost output = { λ subject. Some (text_of subject) };
+    ghost output = { λ fault. Some (record_fault_text fault) };
 
     fn fmt<W: fmt::Write>(&self, f: &mut fmt::Formatter<W>) -> fmt::Result {
-        match self {
-            Subject::Tlid(tlid) => write!(f, " tlid {tlid}"),
-            Subject::Polygon(polygon) => write!(f, " polygon {polygon}"),
-            Subject::TlidAndPolygon(tlid, polygon) => {
-                write!(f, " tlid {tlid} polygon {polygon}")
-            }
-            Subject::Land(land) => write!(f, " land {land}"),
-            Subject::PolygonAndLand(polygon, land) => {
-                write!(f, " polygon {polygon} land {land}")
-            }
-            Subject::What(what) => write!(f, " {what}"),
-        }
+        let FaultRow { code, name, about } = record_row(self);
+        write!(f, "map fault {code} {name}{about}")
     }
 }
 

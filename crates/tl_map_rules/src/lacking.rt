@@ -1,6 +1,7 @@
 //! Which types of records there are none of.
 
 use crate::fault::RecordFault;
+use crate::rows::{FaultRow, lacking_row};
 use std::fmt;
 
 /// M14: of which of the types 1, I and P there is no record, where some of each is asked for.
@@ -81,8 +82,8 @@ impl fmt::Display for Lacking {
     ghost output = { λ lacking. Some (lacking_text lacking) };
 
     fn fmt<W: fmt::Write>(&self, f: &mut fmt::Formatter<W>) -> fmt::Result {
-        let types = self.types();
-        write!(f, "map fault M14 NoRecords types{types}")
+        let FaultRow { code, name, about } = lacking_row(*self);
+        write!(f, "map fault {code} {name}{about}")
     }
 }
 

@@ -8,7 +8,9 @@ mod entry;
 mod fault;
 mod lacking;
 pub mod laws;
+mod rows;
 
 pub use entry::{ChainEntry, Fill, LandmarkEntry, LinkEntry, ShapeEntry, SidesEntry};
 pub use fault::{Limited, MapStop, RecordFault};
 pub use lacking::{Lacking, NOTHING_LACKING};
+pub use rows::{AboutRecords, FaultRow, Which, lacking_row, record_row};

@@ -1,35 +1,12 @@
 -- What is printed of a refused line: the text of each field's name, of each cause and of each stop.
-use Rattle.std.specs.Prelude.{ℕ, List, ◌++◌, codes, decimal}
+use Rattle.std.specs.Prelude.{ℕ, List, [], ◌++◌, Option, None, Some, codes, decimal}
+use Rattle.std.specs.Option.{option_map_or}
 use Rattle.tl_record.specs.declared.stop.Field.{Field}
 use Rattle.tl_record.specs.declared.stop.Field.TheVariants.{Tlid, FrLong, FrLat, ToLong, ToLat, Rtsq, Long, Lat, Tzids, Tzide, CenidL, PolyidL, CenidR, PolyidR, Cenid, Polyid, PolyLong, PolyLat, Land, LaLong, LaLat}
 use Rattle.tl_record.specs.declared.stop.Cause.{Cause}
 use Rattle.tl_record.specs.declared.stop.Cause.TheVariants.{LineTooLong, Missing, BadField, OutOfRange, TooManyLines}
 use Rattle.tl_record.specs.declared.stop.ReadStop.{ReadStop}
 use Rattle.tl_record.specs.declared.stop.ReadStop.TheVariants.{Refused, Device}
-
--- the name of a field
-abbrev pub field_text : Field → List ℕ
-field_text Tlid = codes "TLID"
-field_text FrLong = codes "FRLONG"
-field_text FrLat = codes "FRLAT"
-field_text ToLong = codes "TOLONG"
-field_text ToLat = codes "TOLAT"
-field_text Rtsq = codes "RTSQ"
-field_text (Long pair) = codes "LONG" ++ decimal pair
-field_text (Lat pair) = codes "LAT" ++ decimal pair
-field_text Tzids = codes "TZIDS"
-field_text Tzide = codes "TZIDE"
-field_text CenidL = codes "CENIDL"
-field_text PolyidL = codes "POLYIDL"
-field_text CenidR = codes "CENIDR"
-field_text PolyidR = codes "POLYIDR"
-field_text Cenid = codes "CENID"
-field_text Polyid = codes "POLYID"
-field_text PolyLong = codes "POLYLONG"
-field_text PolyLat = codes "POLYLAT"
-field_text Land = codes "LAND"
-field_text LaLong = codes "LALONG"
-field_text LaLat = codes "LALAT"
 
 -- the name of a field, without the number of a shape pair
 abbrev pub field_word : Field → List ℕ
@@ -55,13 +32,31 @@ field_word Land = codes "LAND"
 field_word LaLong = codes "LALONG"
 field_word LaLat = codes "LALAT"
 
+-- the number of a shape pair, where the field is of one
+abbrev pub pair_of : Field → Option ℕ
+pair_of (Long pair) = Some pair
+pair_of (Lat pair) = Some pair
+pair_of other = None
+
+-- the name of a field: that of a shape pair ends in the pair's number
+abbrev pub field_text : Field → List ℕ
+field_text field = field_word field ++ option_map_or decimal (pair_of field) []
+
+-- what a refusal says: the code and the name of its cause, and the field that it is about, if it is about one. No other place says this.
+abbrev pub cause_row : Cause → List ℕ × List ℕ × Option Field
+cause_row LineTooLong = (codes "L1", codes "LineTooLong", None)
+cause_row (Missing field) = (codes "L2", codes "Missing", Some field)
+cause_row (BadField field) = (codes "L3", codes "BadField", Some field)
+cause_row (OutOfRange field) = (codes "L4", codes "OutOfRange", Some field)
+cause_row TooManyLines = (codes "L5", codes "TooManyLines", None)
+
+-- a field behind a blank, where there is one
+abbrev pub field_behind : Option Field → List ℕ
+field_behind field = option_map_or (λ field. codes " " ++ field_text field) field []
+
 -- the code and the name of a cause, with the field that it is about
 abbrev pub cause_text : Cause → List ℕ
-cause_text LineTooLong = codes "L1 LineTooLong"
-cause_text (Missing field) = codes "L2 Missing " ++ field_text field
-cause_text (BadField field) = codes "L3 BadField " ++ field_text field
-cause_text (OutOfRange field) = codes "L4 OutOfRange " ++ field_text field
-cause_text TooManyLines = codes "L5 TooManyLines"
+cause_text cause = let row = cause_row cause in row.0 ++ codes " " ++ row.1 ++ field_behind row.2
 
 -- a refused line's number and the cause
 abbrev pub refusal_text : ℕ → Cause → List ℕ

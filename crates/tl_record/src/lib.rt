@@ -49,7 +49,7 @@ pub use record::{NO_RECORD, PAIRS, Record};
 pub use refusal::{Refusal, RefusalStop};
 pub use sink::Sink;
 pub use source::Source;
-pub use stop::{Cause, Field, ReadStop};
+pub use stop::{Cause, CauseRow, Field, ReadStop};
 pub use take::skip_line;
 pub use tl_record_key::PolyKey;
 pub use word::{eight_digits, first_digits, leading_digits};

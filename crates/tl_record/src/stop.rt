@@ -33,7 +33,7 @@ pub enum Field {
 
 impl Field {
     ghost use Rattle.std.specs.Prelude.{◌≡◌, ◌≤◌, length};
-    ghost use Rattle.tl_record.specs.Messages.{field_word};
+    ghost use Rattle.tl_record.specs.Messages.{field_word, pair_of};
 
     /// The field's name, without the number of a shape pair.
     pub fn word(&self) -> &'static str
@@ -64,6 +64,16 @@ impl Field {
             Field::LaLat => "LALAT",
         }
     }
+
+    /// The number of the shape pair, where the field is of one: the field's name ends in it.
+    pub fn pair(&self) -> Option<u8>
+        ensures { result ≡ pair_of self.now }
+    {
+        match self {
+            Field::Long(pair) | Field::Lat(pair) => Some(*pair),
+            _ => None,
+        }
+    }
 }
 
 impl fmt::Display for Field {
@@ -73,10 +83,10 @@ impl fmt::Display for Field {
     ghost output = { λ field. Some (field_text field) };
 
     fn fmt<W: fmt::Write>(&self, f: &mut fmt::Formatter<W>) -> fmt::Result {
-        let word = self.word();
-        match self {
-            Field::Long(pair) | Field::Lat(pair) => write!(f, "{word}{pair}"),
-            _ => f.write_str(word),
+        f.write_str(self.word())?;
+        match self.pair() {
+            Some(pair) => write!(f, "{pair}"),
+            None => Ok(()),
         }
     }
 }
@@ -103,6 +113,36 @@ pub enum Cause {
     TooManyLines,
 }
 
+/// What a refusal says. Each text that tells of one is made of this.
+#[derive(Clone, Copy)]
+pub struct CauseRow {
+    /// As `L2`.
+    pub code: &'static str,
+    /// As `Missing`.
+    pub name: &'static str,
+    /// The field that it is about, if it is about one.
+    pub field: Option<Field>,
+}
+
+impl Cause {
+    ghost use Rattle.std.specs.Prelude.{◌≡◌};
+    ghost use Rattle.tl_record.specs.Messages.{cause_row};
+
+    /// What a refusal for this cause says.
+    pub fn row(&self) -> CauseRow
+        ensures { (result.code.now, result.name.now, result.field) ≡ cause_row self.now }
+    {
+        let (code, name, field) = match *self {
+            Cause::LineTooLong => ("L1", "LineTooLong", None),
+            Cause::Missing(field) => ("L2", "Missing", Some(field)),
+            Cause::BadField(field) => ("L3", "BadField", Some(field)),
+            Cause::OutOfRange(field) => ("L4", "OutOfRange", Some(field)),
+            Cause::TooManyLines => ("L5", "TooManyLines", None),
+        };
+        CauseRow { code, name, field }
+    }
+}
+
 impl fmt::Display for Cause {
     ghost use Rattle.std.specs.Prelude.{Some};
     ghost use Rattle.tl_record.specs.Messages.{cause_text};
@@ -110,12 +150,11 @@ impl fmt::Display for Cause {
     ghost output = { λ cause. Some (cause_text cause) };
 
     fn fmt<W: fmt::Write>(&self, f: &mut fmt::Formatter<W>) -> fmt::Result {
-        match self {
-            Cause::LineTooLong => f.write_str("L1 LineTooLong"),
-            Cause::Missing(field) => write!(f, "L2 Missing {field}"),
-            Cause::BadField(field) => write!(f, "L3 BadField {field}"),
-            Cause::OutOfRange(field) => write!(f, "L4 OutOfRange {field}"),
-            Cause::TooManyLines => f.write_str("L5 TooManyLines"),
+        let CauseRow { code, name, field } = self.row();
+        write!(f, "{code} {name}")?;
+        match field {
+            Some(field) => write!(f, " {field}"),
+            None => Ok(()),
         }
     }
 }

@@ -3,7 +3,7 @@
 use crate::record::pieces::Few;
 use std::alloc::Global;
 use std::io::ErrorKind;
-use tl_cert_output::{Printer, Stop, write_all};
+use tl_cert_output::{Page, Printer, Stop, write_all};
 use tl_record::{FailAtOut, MeterOut, Sink};
 
 const LINE: &str = "a line of several writes";
@@ -20,10 +20,10 @@ fn write<S: Sink>(out: &mut S) -> bool {
 /// Prints the text in two parts.
 fn print<S: Sink>(out: &mut S) -> Result<(), Stop> {
     let (front, behind) = LINE.as_bytes().split_at(6);
-    let mut printer = Printer::new();
-    printer.add(front, out);
-    printer.add(behind, out);
-    printer.finish(out)
+    let mut printer = Printer::new(out);
+    printer.add(front);
+    printer.add(behind);
+    printer.finish()
 }
 
 /// How many bytes of the text a writer that takes seven bytes a write took, where the write behind so many others fails.

@@ -1,9 +1,8 @@
 -- Lists of JSON that are printed in parts.
 use Rattle.std.proofs.Common.{◌≡◌, ℕ, ◌+◌, ◌-◌, ◌<◌, List, [], ◌∷◌, ◌++◌, length, get_or, take, drop, codes, sym, ap, ◌∙◌, append_assoc, append-nil, arith}
-use Rattle.std.proofs.Common.{map, Some, slice_get}
-use Rattle.std.specs.Prelude.{option_map}
+use Rattle.std.proofs.Common.{Some, slice_get}
 use Rattle.std.specs.Option.{option_map_or}
-use Rattle.std.proofs.lemmas.Option.{slice_get-map, slice_get-get_or}
+use Rattle.std.proofs.lemmas.Option.{slice_get-get_or}
 use Rattle.std.specs.List.{flat_map}
 use Rattle.std.proofs.lemmas.List.{take_all}
 use Rattle.std.proofs.lemmas.Grind.{flat_map-append}
@@ -39,11 +38,6 @@ module _ {X : Type 0} (text : X → List ℕ) where
   pub two_separated : (pair : Pair X) (x y : X) → pair.0 ≡ Some x → pair.1 ≡ Some y → text x ++ codes "," ++ text y ≡ separated text (listed pair)
   two_separated pair x y first second =
       rw (first, second) (append_assoc (text x) (codes ",") (text y) ∙ ap (λ l. text x ++ l) (sym (append-nil (codes "," ++ text y))))
-
--- what is made of an item of a list
-pub mapped_at : {X Y : Type 0} (made : X → Y) (xs : List X) (i : ℕ) (x : X) → i < length xs → x ≡ get_or xs i x → slice_get (map made xs) i ≡ Some (made x)
-mapped_at made xs i x within is =
-    slice_get-map made xs i ∙ ap (option_map made) (slice_get-get_or xs i x within) ∙ ap (λ y. Some (made y)) (sym is)
 
 -- the text of an item that is looked up
 pub text_at : {X : Type 0} (text : X → List ℕ) (xs : List X) (i : ℕ) (x : X) → i < length xs → x ≡ get_or xs i x → text x ≡ option_map_or text (slice_get xs i) []

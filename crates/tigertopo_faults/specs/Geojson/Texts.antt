@@ -6,7 +6,8 @@ use Rattle.tl_map_county.specs.declared.polygons.Polygon.{Polygon}
 use Rattle.tl_map_county.specs.TheMap.{TheMap, MapChain}
 use Rattle.tl_check_verdict.specs.declared.fault.MapFault.{MapFault}
 use Rattle.tl_check_verdict.specs.declared.rows.About.{About}
-use Rattle.tl_check_verdict.specs.Rows.{Row, row}
+use Rattle.tl_map_rules.specs.Rows.{Row}
+use Rattle.tl_check_verdict.specs.Rows.{row}
 use Rattle.tl_check_verdict.specs.Messages.{row_text}
 use Rattle.tigertopo_faults.specs.declared.records.line.RecordLine.{RecordLine}
 use Rattle.tigertopo_faults.specs.declared.records.subject.Subject.{Subject}
@@ -22,7 +23,7 @@ use Rattle.tigertopo_faults.specs.Geojson.Places.{geometry_text, exact_text}
 use Rattle.tigertopo_faults.specs.Geojson.Records.{spoken_lines, records_text}
 
 -- the code, the name and the text of a fault
-unfoldable pub words_text : Row → List ℕ
+unfoldable pub words_text : Row About → List ℕ
 words_text row =
     codes "\"code\":" ++ string_text row.0 ++ codes ",\"name\":" ++ string_text row.1
     ++ codes ",\"fault\":" ++ string_text (row_text row)

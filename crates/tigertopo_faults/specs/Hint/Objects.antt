@@ -5,20 +5,11 @@ use Rattle.tl_record.specs.Range.{Range}
 use Rattle.tl_record.specs.declared.layout.Layout.{Layout}
 use Rattle.tl_record.specs.declared.stop.Field.{Field}
 use Rattle.tl_record.specs.declared.stop.Cause.{Cause}
-use Rattle.tl_record.specs.declared.stop.Cause.TheVariants.{LineTooLong, Missing, BadField, OutOfRange, TooManyLines}
 use Rattle.tl_record.specs.Lines.{content}
-use Rattle.tl_record.specs.Messages.{cause_text, field_text}
+use Rattle.tl_record.specs.Messages.{cause_row, cause_text, field_text}
 use Rattle.tigertopo_words.specs.Json.{string_text, bytes_text}
 use Rattle.tigertopo_faults.specs.Hint.Hints.{columns_for}
 use Rattle.tigertopo_faults.specs.Hint.Shown.{bytes_at}
-
--- the code and the name of a cause, and the field that it is about, if it is about one
-abbrev pub cause_row : Cause → List ℕ × List ℕ × Option Field
-cause_row LineTooLong = (codes "L1", codes "LineTooLong", None)
-cause_row (Missing field) = (codes "L2", codes "Missing", Some field)
-cause_row (BadField field) = (codes "L3", codes "BadField", Some field)
-cause_row (OutOfRange field) = (codes "L4", codes "OutOfRange", Some field)
-cause_row TooManyLines = (codes "L5", codes "TooManyLines", None)
 
 -- the name of a field as a string, or null where there is none
 abbrev pub field_string : Option Field → List ℕ

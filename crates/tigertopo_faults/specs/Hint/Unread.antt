@@ -1,5 +1,5 @@
 -- What is said behind an answer where no type 1 record was read: of each file what it holds, or what it is.
-use Rattle.std.specs.Prelude.{◌≡◌, ℕ, ◌+◌, ◌-◌, ◌==◌, ◌&&◌, ◌||◌, nat_lt, Bool, List, [], ◌∷◌, ◌++◌, length, Option, None, Some, IfSome, codes, decimal, slice_index, if◌then◌else◌}
+use Rattle.std.specs.Prelude.{◌≡◌, ℕ, ◌+◌, ◌-◌, ◌==◌, ◌&&◌, ◌||◌, nat_lt, Bool, List, [], ◌∷◌, ◌++◌, length, Option, None, Some, IfSome, codes, decimal, map, slice_index, if◌then◌else◌}
 use Rattle.std.specs.Option.{is_none}
 use Rattle.std.specs.List.{list_any}
 use Rattle.tl_record.specs.Lines.{raw_lines}
@@ -60,10 +60,10 @@ most_files = 8
 abbrev pub told_text : Asker → ℕ → List ℕ → Held → List ℕ
 told_text by number name held = if nat_lt number most_files then held_text by name held else []
 
--- what is said of files of these names and texts, the first of which has this number
-abbrev pub files_text : Asker → ℕ → List (List ℕ) → List (List ℕ) → List ℕ
-files_text by number (name ∷ names) (text ∷ texts) = told_text by number name (held_of text) ++ files_text by (number + 1) names texts
-files_text by number names texts = []
+-- what is said of files of these names that hold this, the first of which has this number
+abbrev pub files_text : Asker → ℕ → List (List ℕ) → List Held → List ℕ
+files_text by number (name ∷ names) (held ∷ rest) = told_text by number name held ++ files_text by (number + 1) names rest
+files_text by number names held = []
 
 -- how many files more there are
 abbrev pub more_text : ℕ → List ℕ
@@ -72,4 +72,4 @@ more_text count = if nat_lt most_files count then line_of (codes "  more files w
 -- what is said of files: nothing where one has a line that begins as a record of type 1 does
 abbrev pub unread_text : Asker → List (List ℕ) → List (List ℕ) → List ℕ
 unread_text by names texts =
-    if list_any holds_chain texts then [] else files_text by 0 names texts ++ more_text (length names)
+    if list_any holds_chain texts then [] else files_text by 0 names (map held_of texts) ++ more_text (length names)

@@ -11,7 +11,8 @@ use Rattle.tl_check_faces.specs.declared.fault.FaceFault.{FaceFault}
 use Rattle.tl_check_faces.specs.declared.fault.FaceFault.TheVariants.{Facing, Outward}
 use Rattle.tl_check_faces.specs.FaultTexts.{way_text}
 use Rattle.tl_check_verdict.specs.declared.rows.About.{About}
-use Rattle.tl_check_verdict.specs.declared.rows.About.TheVariants.{Limit, Types, Meet, Darts, Cells, Faces}
+use Rattle.tl_check_verdict.specs.declared.rows.About.TheVariants.{Records, Meet, Darts, Cells, Faces}
+use Rattle.tl_map_rules.specs.declared.rows.AboutRecords.TheVariants.{Limit, Types}
 use Rattle.tigertopo_pictures.specs.Geojson.Strings.{key_string}
 use Rattle.tigertopo_faults.specs.Objects.Places.{fractions_text}
 
@@ -59,8 +60,8 @@ faces_text (Outward face way) = codes ",\"faces\":[" ++ face_text face ++ codes 
 -- the segments by their numbers through all chains, the node, the darts, the ids of zero-cells, the faces, what there are too many of, or
 -- the types of which there is no record
 abbrev pub details_text : About → List ℕ
-details_text (Limit what) = limit_text what
-details_text (Types lacking) = lacking_members lacking
+details_text (Records (Limit what)) = limit_text what
+details_text (Records (Types lacking)) = lacking_members lacking
 details_text (Meet meet) = pair_text (codes ",\"segments\":") meet.s meet.t
 details_text (Darts node first next) = node_text node ++ pair_text (codes ",\"darts\":") first next
 details_text (Cells odds) = pair_text (codes ",\"darts\":") odds.first odds.second ++ pair_text (codes ",\"ids\":") odds.first_id odds.second_id

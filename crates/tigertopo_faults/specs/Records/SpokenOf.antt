@@ -10,8 +10,10 @@ use Rattle.tl_check_faces.specs.declared.fault.FaceFault.TheVariants.{Facing, Ou
 use Rattle.tl_check_verdict.specs.declared.fault.MapFault.{MapFault}
 use Rattle.tl_check_verdict.specs.declared.rows.About.{About}
 use Rattle.tl_check_verdict.specs.declared.rows.About.TheVariants as about
-use Rattle.tl_check_verdict.specs.declared.rows.Which.{Which}
-use Rattle.tl_check_verdict.specs.declared.rows.Which.TheVariants as records
+use Rattle.tl_map_rules.specs.declared.rows.AboutRecords.{AboutRecords}
+use Rattle.tl_map_rules.specs.declared.rows.AboutRecords.TheVariants as which
+use Rattle.tl_map_rules.specs.declared.rows.Which.{Which}
+use Rattle.tl_map_rules.specs.declared.rows.Which.TheVariants as records
 use Rattle.tl_check_verdict.specs.Rows.{row}
 use Rattle.tigertopo_faults.specs.declared.records.subject.Subject.{Subject}
 use Rattle.tigertopo_faults.specs.declared.records.subject.Subject.TheVariants as subject
@@ -67,15 +69,19 @@ abbrev pub subjects_of_faces : FaceFault → Subjects
 subjects_of_faces (Facing first last) = sides_of_darts (Some first.tlid) (Some last.tlid)
 subjects_of_faces (Outward face way) = (Some (subject.Sides face.tlid), None)
 
+-- what a fault of records, or of a polygon alone, speaks of
+abbrev pub subject_about : AboutRecords → Option Subject
+subject_about (which.Tlid t records) = Some (subject_in records t)
+subject_about (which.Polygon k) = Some (subject.Polygon k)
+subject_about (which.TlidPolygon t k) = Some (subject.Sides t)
+subject_about (which.Land n) = Some (subject.Land n)
+subject_about (which.PolygonLand k n) = Some (subject.Link k n)
+subject_about (which.Limit what) = None
+subject_about (which.Types lacking) = None
+
 -- what a fault speaks of, by what it is about, where these are the map's chains
 abbrev pub subjects_about : List MapChain → About → Subjects
-subjects_about chains (about.Tlid t records) = (Some (subject_in records t), None)
-subjects_about chains (about.Polygon k) = (Some (subject.Polygon k), None)
-subjects_about chains (about.TlidPolygon t k) = (Some (subject.Sides t), None)
-subjects_about chains (about.Land n) = (Some (subject.Land n), None)
-subjects_about chains (about.PolygonLand k n) = (Some (subject.Link k n), None)
-subjects_about chains (about.Limit what) = (None, None)
-subjects_about chains (about.Types lacking) = (None, None)
+subjects_about chains (about.Records it) = (subject_about it, None)
 subjects_about chains (about.Meet meet) = (Some (subject.Drawn meet.tlid), option_map subject.Drawn (other_tlid (Some meet.tlid) (Some meet.other)))
 subjects_about chains (about.Darts node first next) = sides_of_darts (tlid_of chains first) (tlid_of chains next)
 subjects_about chains (about.PolygonTlid k t) = (Some (subject.Polygon k), Some (subject.Drawn t))

@@ -6,17 +6,15 @@ ghost use Rattle.std.specs.List.{flat_map};
 ghost use Rattle.std.specs.List.Sorted.{IsPermutation, IsSorted};
 ghost use Rattle.std.specs.Ordering.{nat_cmp};
 ghost use Rattle.tigertopo_faults.specs.Records.SpokenOf.{chains_of};
-ghost use Rattle.tl_cert_output.specs.Printing.{Prints};
 ghost use Rattle.tigertopo_faults.specs.Geojson.Named.{listed};
 ghost use Rattle.tigertopo_faults.specs.Geojson.Texts.{named_tlids, is_among, named_chain, chains_text};
 
 use crate::geojson::named::tlids_of;
 use std::alloc::{AllocError, Global};
 use tigertopo_pictures::geojson::print_chain;
-use tl_cert_output::Printer;
+use tl_cert_output::Page;
 use tl_check_verdict::{MapFault, row};
 use tl_map_county::Map;
-use tl_record::Sink;
 
 /// The TLIDs that faults name, by rising number.
 pub fn list_tlids(
@@ -66,37 +64,34 @@ fn push_some(tlids: &mut Vec<u64>, more: Option<u64>) -> Result<(), AllocError>
 }
 
 /// Prints the chains of a map that have these TLIDs, behind other features.
-pub fn print_chains<S: Sink>(drawn: Option<&Map>, tlids: &[u64], printer: &mut Printer, out: &mut S)
+pub fn print_chains<P: Page>(drawn: Option<&Map>, tlids: &[u64], page: &mut P)
     requires { IsSorted nat_cmp tlids.now }
-    ensures { Prints S.contents S.failure_count (out.old, printer.old) (out.new, printer.new)
-        (chains_text (option_copied drawn.entry) tlids.now) }
+    ensures { P.adds page.old page.new (chains_text (option_copied drawn.entry) tlids.now) }
 {
     if let Some(map) = drawn {
-        print_chains_of(map, tlids, printer, out);
+        print_chains_of(map, tlids, page);
     }
 }
 
 // Prints those of this map.
-fn print_chains_of<S: Sink>(map: &Map, tlids: &[u64], printer: &mut Printer, out: &mut S)
+fn print_chains_of<P: Page>(map: &Map, tlids: &[u64], page: &mut P)
     requires { IsSorted nat_cmp tlids.now }
-    ensures { Prints S.contents S.failure_count (out.old, printer.old) (out.new, printer.new)
-        (flat_map (named_chain map.now.polygons tlids.now) map.now.chains) }
+    ensures { P.adds page.old page.new (flat_map (named_chain map.now.polygons tlids.now) map.now.chains) }
 {
     for number in 0..map.chains() {
-        print_named(map, number, tlids, printer, out);
+        print_named(map, number, tlids, page);
     }
 }
 
 // Prints the chain of this number, where it has one of these TLIDs.
-fn print_named<S: Sink>(map: &Map, number: u32, tlids: &[u64], printer: &mut Printer, out: &mut S)
+fn print_named<P: Page>(map: &Map, number: u32, tlids: &[u64], page: &mut P)
     requires number { number < length map.now.chains }
     requires sorted { IsSorted nat_cmp tlids.now }
-    ensures { Prints S.contents S.failure_count (out.old, printer.old) (out.new, printer.new)
-        (option_map_or (named_chain map.now.polygons tlids.now) (slice_get map.now.chains number) []) }
+    ensures { P.adds page.old page.new (option_map_or (named_chain map.now.polygons tlids.now) (slice_get map.now.chains number) []) }
 {
     if is_among(map.chain(number).tlid, tlids) {
-        printer.add(b",\n", out);
-        print_chain(map, number, None, printer, out);
+        page.add(b",\n");
+        print_chain(map, number, None, page);
     }
 }
 

@@ -2,12 +2,13 @@
 
 ghost use Rattle.std.specs.Prelude.{◌≡◌, option_copied};
 ghost use Rattle.tigertopo_faults.specs.Records.SpokenOf.{chains_of};
-ghost use Rattle.tigertopo_faults.specs.Geojson.Named.{each_once, tlids_of, keys_of, land_of};
+ghost use Rattle.tigertopo_faults.specs.Geojson.Named.{each_once, tlid_about, tlids_of, key_about, keys_of, land_of};
 
 use crate::records::tlid_of;
 use tl_check_faces::FaceFault;
 use tl_check_verdict::About;
 use tl_map_county::Map;
+use tl_map_rules::AboutRecords;
 use tl_record::PolyKey;
 
 /// The TLIDs that a fault names, each once. Chains of darts are those of the map, where the records have one.
@@ -15,9 +16,8 @@ pub fn tlids_of(map: Option<&Map>, about: &About) -> (Option<u64>, Option<u64>)
     ensures { result ≡ tlids_of (chains_of (option_copied map.entry)) about.now }
 {
     match about {
-        About::Tlid(tlid, _) | About::TlidPolygon(tlid, _) | About::PolygonTlid(_, tlid) => {
-            (Some(*tlid), None)
-        }
+        About::Records(records) => (tlid_about(records), None),
+        About::PolygonTlid(_, tlid) => (Some(*tlid), None),
         About::Meet(meet) => each_once(Some(meet.tlid), Some(meet.other)),
         About::Darts { first, next, .. } => each_once(tlid_of(map, *first), tlid_of(map, *next)),
         About::Cells(odds) => each_once(tlid_of(map, odds.first), tlid_of(map, odds.second)),
@@ -25,7 +25,17 @@ pub fn tlids_of(map: Option<&Map>, about: &About) -> (Option<u64>, Option<u64>)
             each_once(Some(first.tlid), Some(last.tlid))
         }
         About::Faces(FaceFault::Outward { face, .. }) => (Some(face.tlid), None),
-        _ => (None, None),
+        About::PolygonOther(_, _) => (None, None),
+    }
+}
+
+// The TLID of records, where it is named.
+fn tlid_about(records: &AboutRecords) -> Option<u64>
+    ensures { result ≡ tlid_about records.now }
+{
+    match records {
+        AboutRecords::Tlid(tlid, _) | AboutRecords::TlidPolygon(tlid, _) => Some(*tlid),
+        _ => None,
     }
 }
 
@@ -44,14 +54,24 @@ pub fn keys_of(about: &About) -> (Option<PolyKey>, Option<PolyKey>)
     ensures { result ≡ keys_of about.now }
 {
     match about {
-        About::Polygon(polygon)
-        | About::TlidPolygon(_, polygon)
-        | About::PolygonLand(polygon, _)
-        | About::PolygonTlid(polygon, _) => (Some(*polygon), None),
+        About::Records(records) => (key_about(records), None),
+        About::PolygonTlid(polygon, _) => (Some(*polygon), None),
         About::PolygonOther(polygon, other) => (Some(*polygon), Some(*other)),
         About::Faces(FaceFault::Facing { first, last }) => (first.polygon, last.polygon),
         About::Faces(FaceFault::Outward { face, .. }) => (face.polygon, None),
         _ => (None, None),
+    }
+}
+
+// The key that is named where a fault is of records, or of a polygon alone.
+fn key_about(records: &AboutRecords) -> Option<PolyKey>
+    ensures { result ≡ key_about records.now }
+{
+    match records {
+        AboutRecords::Polygon(polygon)
+        | AboutRecords::TlidPolygon(_, polygon)
+        | AboutRecords::PolygonLand(polygon, _) => Some(*polygon),
+        _ => None,
     }
 }
 
@@ -60,7 +80,8 @@ pub fn land_of(about: &About) -> Option<u64>
     ensures { result ≡ land_of about.now }
 {
     match about {
-        About::Land(land) | About::PolygonLand(_, land) => Some(*land),
+        About::Records(AboutRecords::Land(land)) => Some(*land),
+        About::Records(AboutRecords::PolygonLand(_, land)) => Some(*land),
         _ => None,
     }
 }

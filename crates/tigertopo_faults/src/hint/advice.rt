@@ -1,13 +1,14 @@
 //! What helps beyond the place of a refused line: other columns, and what a file is that holds no records.
 
-ghost use Rattle.std.specs.Prelude.{◌≡◌, ◌++◌, OnOk, map, slice_index, string_bytes};
+ghost use Rattle.std.specs.Prelude.{◌≡◌, map, string_bytes};
 ghost use Rattle.tigertopo_faults.specs.Hint.Advice.{other_columns, is_read, reads_otherwise, otherwise_text};
 ghost use Rattle.tigertopo_faults.specs.Hint.Advice.{is_archive, is_compressed, is_shapefile, is_wide, is_marked, form_of, words_of, form_text};
-ghost use Rattle.tigertopo_faults.specs.Hint.Advice.{asking, asks_for_records, may_ask_for_records, switches_for, unpacked_switches, piped_text, command_instead, words_instead, word_instead};
+ghost use Rattle.tigertopo_faults.specs.Hint.Advice.{asking, asks_for_records, may_ask_for_records, switches_for, unpacked_switches};
+ghost use Rattle.tigertopo_faults.specs.Hint.Advice.{piped_text, command_instead, words_instead, word_instead};
 
 use crate::hint::asking::Asking;
-use std::alloc::AllocError;
-use tigertopo_words::{push_name, push_shell_word};
+use crate::shown::{byte_at, print_name, print_shell_word};
+use tl_cert_output::Page;
 use tl_record::{Judgement, Options, judge_line, layout_with};
 
 /// What a file is that is none of records.
@@ -55,16 +56,15 @@ fn is_read(judgement: &Judgement) -> bool
     }
 }
 
-/// Adds that type I lines read by the columns that weren't asked for.
-pub fn push_otherwise(text: &mut Vec<u8>, options: Options) -> Result<(), AllocError>
-    ensures { OnOk result (text.new.items ≡ text.old.items ++ otherwise_text options) }
+/// Prints that type I lines read by the columns that weren't asked for.
+pub fn print_otherwise<P: Page>(options: Options, page: &mut P)
+    ensures { P.adds page.old page.new (otherwise_text options) }
 {
     if options.released {
-        text.extend_from_slice(b"  these type I lines read without --released\n")?;
+        page.add(b"  these type I lines read without --released\n");
     } else {
-        text.extend_from_slice(b"  these type I lines read with --released\n")?;
+        page.add(b"  these type I lines read with --released\n");
     }
-    Ok(())
 }
 
 /// What a file is, by its first line, where it is none of records.
@@ -126,58 +126,38 @@ fn is_marked(line: &[u8]) -> bool
     (byte_at(line, 0) == 0xef && byte_at(line, 1) == 0xbb) && byte_at(line, 2) == 0xbf
 }
 
-/// A byte of a line, and 0 past its end.
-pub fn byte_at(line: &[u8], at: usize) -> u8
-    ensures { result ≡ slice_index line.now at }
+/// Prints what a file of this name is, and a line that has the command read what it holds.
+pub fn print_form<P: Page>(name: &str, by: Asking<'_>, form: FileForm, page: &mut P)
+    ensures { P.adds page.old page.new (form_text name.now (asking by.entry) form) }
 {
-    if at < line.len() { line[at] } else { 0 }
+    page.add(b"  ");
+    print_name(name, page);
+    print_words(name, by, form, page);
+    page.add(b"\n");
 }
 
-/// Adds what a file of this name is, and a line that has the command read what it holds.
-pub fn push_form(
-    text: &mut Vec<u8>,
-    name: &str,
-    by: Asking<'_>,
-    form: FileForm,
-) -> Result<(), AllocError>
-    ensures { OnOk result (text.new.items ≡ text.old.items ++ form_text name.now (asking by.entry) form) }
-{
-    text.extend_from_slice(b"  ")?;
-    push_name(text, name)?;
-    push_words(text, name, by, form)?;
-    text.extend_from_slice(b"\n")?;
-    Ok(())
-}
-
-// Adds what the file is, behind its name.
-fn push_words(
-    text: &mut Vec<u8>,
-    name: &str,
-    by: Asking<'_>,
-    form: FileForm,
-) -> Result<(), AllocError>
-    ensures { OnOk result (text.new.items ≡ text.old.items ++ words_of form name.now (asking by.entry)) }
+// Prints what the file is, behind its name.
+fn print_words<P: Page>(name: &str, by: Asking<'_>, form: FileForm, page: &mut P)
+    ensures { P.adds page.old page.new (words_of form name.now (asking by.entry)) }
 {
     let switches = unpacked_switches(by);
     match form {
         FileForm::Archive => {
-            push_piped(text, b" is an archive: unzip -p ", switches, name, by.words)
+            print_piped(b" is an archive: unzip -p ", switches, name, by.words, page)
         }
         FileForm::Compressed => {
-            push_piped(text, b" is compressed: gzip -dc ", switches, name, by.words)
+            print_piped(b" is compressed: gzip -dc ", switches, name, by.words, page)
         }
         FileForm::Shapefile => {
-            let words = b" is a shapefile, which isn't read: tigertopo reads record files";
-            text.extend_from_slice(words)?;
-            Ok(())
+            page.add(b" is a shapefile, which isn't read: tigertopo reads record files")
         }
         FileForm::Wide => {
             let tool = b" is UTF-16 text: iconv -f UTF-16 -t UTF-8 ";
-            push_piped(text, tool, b"", name, by.words)
+            print_piped(tool, b"", name, by.words, page)
         }
         FileForm::Marked => {
             let tool = b" begins with a byte order mark: tail -c +4 ";
-            push_piped(text, tool, b"", name, by.words)
+            print_piped(tool, b"", name, by.words, page)
         }
     }
 }
@@ -219,48 +199,35 @@ fn asks_for_records(command: &str) -> bool
     (command == "audit" || command == "build") || (command == "check" || command == "border")
 }
 
-// Adds a line that makes records of a file by these words, and has the command read them.
-fn push_piped(
-    text: &mut Vec<u8>,
-    tool: &[u8],
-    switches: &[u8],
-    name: &str,
-    words: &[String],
-) -> Result<(), AllocError>
-    ensures { OnOk result (text.new.items ≡ text.old.items ++ piped_text tool.now switches.now name.now (map string_bytes words.now)) }
+// Prints a line that makes records of a file by these words, and has the command read them.
+fn print_piped<P: Page>(tool: &[u8], switches: &[u8], name: &str, words: &[String], page: &mut P)
+    ensures { P.adds page.old page.new (piped_text tool.now switches.now name.now (map string_bytes words.now)) }
 {
-    text.extend_from_slice(tool)?;
-    push_shell_word(text, name)?;
-    text.extend_from_slice(b" | tigertopo ")?;
-    push_command(text, switches, name, words)
+    page.add(tool);
+    print_shell_word(name, page);
+    page.add(b" | tigertopo ");
+    print_command(switches, name, words, page);
 }
 
-// Adds the words that were given, as they are typed to have the command read what comes of the file, and switches more.
-fn push_command(
-    text: &mut Vec<u8>,
-    switches: &[u8],
-    name: &str,
-    words: &[String],
-) -> Result<(), AllocError>
-    ensures { OnOk result (text.new.items ≡ text.old.items ++ command_instead switches.now name.now (map string_bytes words.now)) }
+// Prints the words that were given, as they are typed to have the command read what comes of the file, and switches more.
+fn print_command<P: Page>(switches: &[u8], name: &str, words: &[String], page: &mut P)
+    ensures { P.adds page.old page.new (command_instead switches.now name.now (map string_bytes words.now)) }
 {
-    let Some((command, rest)) = words.split_first() else {
-        return Ok(());
-    };
-    push_shell_word(text, command.as_str())?;
-    text.extend_from_slice(switches)?;
-    push_rest(text, name, rest)
+    if let Some((command, rest)) = words.split_first() {
+        print_shell_word(command.as_str(), page);
+        page.add(switches);
+        print_rest(name, rest, page);
+    }
 }
 
-// Adds such words, each behind a blank.
-fn push_rest(text: &mut Vec<u8>, name: &str, words: &[String]) -> Result<(), AllocError>
-    ensures { OnOk result (text.new.items ≡ text.old.items ++ words_instead name.now (map string_bytes words.now)) }
+// Prints such words, each behind a blank.
+fn print_rest<P: Page>(name: &str, words: &[String], page: &mut P)
+    ensures { P.adds page.old page.new (words_instead name.now (map string_bytes words.now)) }
 {
     for word in words {
-        text.extend_from_slice(b" ")?;
-        push_shell_word(text, word_instead(name, word.as_str()))?;
+        page.add(b" ");
+        print_shell_word(word_instead(name, word.as_str()), page);
     }
-    Ok(())
 }
 
 // A word of a command that is to read what comes of the file in place of it.

@@ -9,9 +9,10 @@ ghost use Rattle.tigertopo_faults.specs.Places.Finding.{Answers, PassesTo};
 ghost use Rattle.tigertopo_faults.specs.Hint.Again.{HasNoEnd};
 ghost use Rattle.tigertopo_faults.specs.Hint.Unread.{IsHeld, held_by, is_chain, is_read, kinds_of};
 
-use crate::hint::advice::{FileForm, byte_at};
+use crate::hint::advice::FileForm;
 use crate::hint::refused::first_form;
 use crate::places::{BLOCK, Found, pass_line, show_line};
+use crate::shown::byte_at;
 use std::alloc::Global;
 use tigertopo_files::Reading;
 use tl_cert_output::Stop;

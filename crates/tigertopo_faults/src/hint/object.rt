@@ -1,112 +1,130 @@
 //! A refused line as an object of JSON, or as a feature of GeoJSON.
 
-ghost use Rattle.std.specs.Prelude.{◌≡◌, ◌++◌, OnOk};
 ghost use Rattle.tl_record.specs.Layout.{layout_with};
 ghost use Rattle.tigertopo_faults.specs.Places.FieldColumns.{range_of};
-ghost use Rattle.tigertopo_faults.specs.Hint.Objects.{cause_members, columns_members, field_members, field_string, place_object, refused_feature, refused_object};
+ghost use Rattle.tigertopo_faults.specs.Hint.Objects.{cause_members, columns_members, field_members, field_string, place_object};
+ghost use Rattle.tigertopo_faults.specs.Hint.Objects.{refused_feature, refused_object};
 
-use crate::hint::cause::{cause_row, cause_words, field_words};
-use crate::hint::shown::{columns_for, content, push_number};
+use crate::hint::shown::{columns_for, content};
 use crate::places::FieldColumns;
-use std::alloc::AllocError;
-use tigertopo_words::{push_byte_string, push_string};
-use tl_record::{Cause, Columns, Field, Options};
+use crate::shown::print_byte_string;
+use tigertopo_pictures::Words;
+use tigertopo_pictures::geojson::{print_quoted, print_string};
+use tl_cert_output::{Page, print_cause, print_field};
+use tl_record::{Cause, CauseRow, Columns, Field, Options};
 
-/// Adds the beginning of the object of a refused line.
-pub fn push_refused_object(text: &mut Vec<u8>, number: u64, cause: Cause) -> Result<(), AllocError>
-    ensures { OnOk result (text.new.items ≡ text.old.items ++ refused_object number cause) }
+/// Prints the beginning of the object of a refused line.
+pub fn print_refused_object<P: Page>(number: u64, cause: Cause, page: &mut P)
+    ensures { P.adds page.old page.new (refused_object number cause) }
 {
-    text.extend_from_slice(b"{\"is\":\"refused\",")?;
-    push_cause(text, cause)?;
-    push_number(text, b",\"about\":{\"line\":", number)?;
-    text.extend_from_slice(b",\"field\":")?;
-    push_field_name(text, cause_row(cause).2)?;
-    text.extend_from_slice(b"},\"records\":[")?;
-    Ok(())
+    page.add(b"{\"is\":\"refused\",");
+    print_cause_members(cause, page);
+    page.add(b",\"about\":{\"line\":");
+    page.number(number);
+    page.add(b",\"field\":");
+    print_field_string(cause.row().field, page);
+    page.add(b"},\"records\":[");
 }
 
-/// Adds the beginning of the feature of a refused line.
-pub fn push_refused_feature(text: &mut Vec<u8>, number: u64, cause: Cause) -> Result<(), AllocError>
-    ensures { OnOk result (text.new.items ≡ text.old.items ++ refused_feature number cause) }
+/// Prints the beginning of the feature of a refused line.
+pub fn print_refused_feature<P: Page>(number: u64, cause: Cause, page: &mut P)
+    ensures { P.adds page.old page.new (refused_feature number cause) }
 {
-    let words = cause_words(cause);
-    text.extend_from_slice(b",\n{\"type\":\"Feature\",\"geometry\":null,\"properties\":{")?;
-    push_cause(text, cause)?;
-    text.extend_from_slice(b",\"refused\":")?;
-    push_string(text, words.as_str().as_bytes())?;
-    push_number(text, b",\"line\":", number)?;
-    text.extend_from_slice(b",\"records\":[")?;
-    Ok(())
+    page.add(b",\n{\"type\":\"Feature\",\"geometry\":null,\"properties\":{");
+    print_cause_members(cause, page);
+    page.add(b",\"refused\":");
+    print_quoted(&CauseWords(cause), page);
+    page.add(b",\"line\":");
+    page.number(number);
+    page.add(b",\"records\":[");
 }
 
-// Adds the code and the name of a cause.
-fn push_cause(text: &mut Vec<u8>, cause: Cause) -> Result<(), AllocError>
-    ensures { OnOk result (text.new.items ≡ text.old.items ++ cause_members cause) }
+// Prints the code and the name of a cause.
+fn print_cause_members<P: Page>(cause: Cause, page: &mut P)
+    ensures { P.adds page.old page.new (cause_members cause) }
 {
-    let (code, name, _) = cause_row(cause);
-    text.extend_from_slice(b"\"code\":")?;
-    push_string(text, code.as_bytes())?;
-    text.extend_from_slice(b",\"name\":")?;
-    push_string(text, name.as_bytes())?;
-    Ok(())
+    let CauseRow { code, name, .. } = cause.row();
+    page.add(b"\"code\":");
+    print_string(code.as_bytes(), page);
+    page.add(b",\"name\":");
+    print_string(name.as_bytes(), page);
 }
 
-// Adds the name of a field, or null where there is none.
-fn push_field_name(text: &mut Vec<u8>, field: Option<Field>) -> Result<(), AllocError>
-    ensures { OnOk result (text.new.items ≡ text.old.items ++ field_string field) }
-{
-    match field {
-        Some(field) => push_string(text, field_words(field).as_str().as_bytes()),
-        None => {
-            text.extend_from_slice(b"null")?;
-            Ok(())
-        }
+// The text of a cause.
+#[derive(Clone, Copy)]
+struct CauseWords(Cause);
+
+impl Words for CauseWords {
+    ghost use Rattle.tl_record.specs.Messages.{cause_text};
+
+    ghost text = { λ words. cause_text words.0 };
+
+    fn print<P: Page>(&self, page: &mut P) {
+        print_cause(self.0, page);
     }
 }
 
-/// Adds where a refused line stands, as an object: the file's name, the line's number in it, and where it is refused for a field,
+// Prints the name of a field as a string, or null where there is none.
+fn print_field_string<P: Page>(field: Option<Field>, page: &mut P)
+    ensures { P.adds page.old page.new (field_string field) }
+{
+    match field {
+        Some(field) => print_quoted(&FieldWords(field), page),
+        None => page.add(b"null"),
+    }
+}
+
+// The name of a field.
+#[derive(Clone, Copy)]
+struct FieldWords(Field);
+
+impl Words for FieldWords {
+    ghost use Rattle.tl_record.specs.Messages.{field_text};
+
+    ghost text = { λ words. field_text words.0 };
+
+    fn print<P: Page>(&self, page: &mut P) {
+        print_field(self.0, page);
+    }
+}
+
+/// Prints where a refused line stands, as an object: the file's name, the line's number in it, and where it is refused for a field,
 /// the field's columns and what the line holds there.
-pub fn push_place_object(
-    text: &mut Vec<u8>,
+pub fn print_place_object<P: Page>(
     name: &str,
     number: u64,
     line: &[u8],
     options: Options,
     cause: Cause,
-) -> Result<(), AllocError>
-    ensures { OnOk result (text.new.items
-        ≡ text.old.items ++ place_object (layout_with options) name.now number line.now cause) }
+    page: &mut P,
+)
+    ensures { P.adds page.old page.new (place_object (layout_with options) name.now number line.now cause) }
 {
-    text.extend_from_slice(b"{\"file\":")?;
-    push_string(text, name.as_bytes())?;
-    push_number(text, b",\"line\":", number)?;
-    push_field(text, content(line), options, cause)?;
-    text.extend_from_slice(b"}")?;
-    Ok(())
+    page.add(b"{\"file\":");
+    print_string(name.as_bytes(), page);
+    page.add(b",\"line\":");
+    page.number(number);
+    print_field_members(content(line), options, cause, page);
+    page.add(b"}");
 }
 
-// Adds the columns of the field that a line is refused for, if it is for one.
-fn push_field(
-    text: &mut Vec<u8>,
-    line: &[u8],
-    options: Options,
-    cause: Cause,
-) -> Result<(), AllocError>
-    ensures { OnOk result (text.new.items ≡ text.old.items ++ field_members (layout_with options) line.now cause) }
+// Prints the columns of the field that a line is refused for, if it is for one.
+fn print_field_members<P: Page>(line: &[u8], options: Options, cause: Cause, page: &mut P)
+    ensures { P.adds page.old page.new (field_members (layout_with options) line.now cause) }
 {
-    match columns_for(options, line, cause) {
-        Some(columns) => push_members(text, line, columns),
-        None => Ok(()),
+    if let Some(columns) = columns_for(options, line, cause) {
+        print_members(line, columns, page);
     }
 }
 
-// Adds columns, and what a line holds there.
-fn push_members(text: &mut Vec<u8>, line: &[u8], columns: FieldColumns) -> Result<(), AllocError>
-    ensures { OnOk result (text.new.items ≡ text.old.items ++ columns_members line.now (range_of columns)) }
+// Prints columns, and what a line holds there.
+fn print_members<P: Page>(line: &[u8], columns: FieldColumns, page: &mut P)
+    ensures { P.adds page.old page.new (columns_members line.now (range_of columns)) }
 {
-    push_number(text, b",\"columns\":[", u64::from(columns.first))?;
-    push_number(text, b",", u64::from(columns.last))?;
-    text.extend_from_slice(b"],\"bytes\":")?;
-    push_byte_string(text, Columns::new(line).field(columns.first, columns.last))?;
-    Ok(())
+    page.add(b",\"columns\":[");
+    page.number(columns.first);
+    page.add(b",");
+    page.number(columns.last);
+    page.add(b"],\"bytes\":");
+    print_byte_string(Columns::new(line).field(columns.first, columns.last), page);
 }

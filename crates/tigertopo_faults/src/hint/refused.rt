@@ -1,22 +1,22 @@
 //! A refused line of a file that is read by itself, and what is said of it.
 
-ghost use Rattle.std.specs.Prelude.{◌≡◌, ◌++◌, IfOk, OnOk, string_bytes};
+ghost use Rattle.std.specs.Prelude.{◌≡◌, string_bytes};
 ghost use Rattle.std.specs.Io.KnownBytes.{prepend_known, Keeps};
 ghost use Rattle.tl_record.specs.Searching.{CountsSkip};
 ghost use Rattle.tl_cert_output.specs.Stops.{StopsFor};
 ghost use Rattle.tigertopo_faults.specs.Places.Finding.{Answers};
 ghost use Rattle.tigertopo_faults.specs.Hint.Advice.{asking, form_of};
 ghost use Rattle.tigertopo_faults.specs.Hint.Again.{HasNoEnd};
-ghost use Rattle.tigertopo_faults.specs.Hint.Hints.{columns_hint, first_bytes, form_hint, line_hint};
+ghost use Rattle.tigertopo_faults.specs.Hint.Hints.{columns_hint, first_bytes, form_hint};
 ghost use Rattle.tigertopo_faults.specs.Hint.Placing.{IsSought};
 
-use crate::hint::advice::{FileForm, form_of, push_form, push_otherwise, reads_otherwise};
+use crate::hint::advice::{FileForm, form_of, print_form, print_otherwise, reads_otherwise};
 use crate::hint::asking::Asking;
-use crate::hint::shown::{field_of, push_place};
+use crate::hint::shown::{field_of, print_place};
 use crate::places::{BLOCK, Found, find_ahead, show_line};
 use std::alloc::{AllocError, Global};
-use tigertopo_files::Reading;
-use tl_cert_output::Stop;
+use tigertopo_files::{Reading, with_printed};
+use tl_cert_output::{Page, Stop, Text};
 use tl_record::{Cause, LineBuffer, Options, RefusalStop, Source};
 
 /// A refused line of the file of a name, which is read by itself, and who asks.
@@ -63,8 +63,13 @@ impl Reading for RefusedLine<'_> {
         let mut passed = 0;
         match find_ahead(&mut buffer, single, &mut passed, self.number) {
             Ok(Found::Line { len, .. }) => {
-                let text = hint_of_line(alloc, self, &buffer.bytes()[..len], form)?;
-                Ok(Sought::Told(text))
+                let line = &buffer.bytes()[..len];
+                let told = LineHint {
+                    refused: *self,
+                    line,
+                    form,
+                };
+                Ok(Sought::Told(with_printed(alloc, &[], &told)?))
             }
             Ok(Found::Missing) => Ok(Sought::Behind(passed)),
             Err(_) => Err(Stop::Device),
@@ -89,64 +94,58 @@ pub fn first_form<S: Source>(
 }
 
 // What is said of the line, which begins with these bytes, in a file of this form.
-fn hint_of_line(
-    alloc: Global,
-    refused: &RefusedLine<'_>,
-    line: &[u8],
+#[derive(Clone, Copy)]
+struct LineHint<'a> {
+    refused: RefusedLine<'a>,
+    line: &'a [u8],
     form: Option<FileForm>,
-) -> Result<Vec<u8>, AllocError>
-    ensures { IfOk result (λ text. text.items ≡ line_hint (asking refused.now.by)
-        (string_bytes refused.now.name.now) refused.now.number line.now refused.now.cause form) }
-{
-    let mut text = Vec::new(alloc);
-    let name = refused.name.as_str();
-    push_place(
-        &mut text,
-        name,
-        refused.number,
-        line,
-        refused.by.options,
-        refused.cause,
-    )?;
-    text.extend_from_slice(b"\n")?;
-    push_columns_hint(
-        &mut text,
-        refused.by.options,
-        refused.number,
-        line,
-        refused.cause,
-    )?;
-    push_form_hint(&mut text, refused.by, name, form)?;
-    Ok(text)
 }
 
-// Adds what is said of other columns, where a line is refused for a field.
-fn push_columns_hint(
-    text: &mut Vec<u8>,
+impl Text for LineHint<'_> {
+    ghost use Rattle.std.specs.Prelude.{⊤};
+    ghost use Rattle.tigertopo_faults.specs.Hint.Hints.{line_hint};
+
+    ghost text = { λ told. line_hint (asking told.refused.by) (string_bytes told.refused.name.now) told.refused.number told.line.now
+        told.refused.cause told.form };
+
+    ghost is_ready = { λ told. ⊤ };
+
+    fn add_to<P: Page>(&self, _alloc: Global, page: &mut P) -> Result<(), AllocError> {
+        let RefusedLine {
+            name,
+            by,
+            number,
+            cause,
+        } = self.refused;
+        let options = by.options;
+        print_place(name.as_str(), number, self.line, options, cause, page);
+        page.add(b"\n");
+        print_columns_hint(options, number, self.line, cause, page);
+        print_form_hint(by, name.as_str(), self.form, page);
+        Ok(())
+    }
+}
+
+// Prints what is said of other columns, where a line is refused for a field.
+fn print_columns_hint<P: Page>(
     options: Options,
     number: u64,
     line: &[u8],
     cause: Cause,
-) -> Result<(), AllocError>
-    ensures { OnOk result (text.new.items ≡ text.old.items ++ columns_hint options number line.now cause) }
+    page: &mut P,
+)
+    ensures { P.adds page.old page.new (columns_hint options number line.now cause) }
 {
     if field_of(cause).is_some() && reads_otherwise(options, number, line) {
-        push_otherwise(text, options)?;
+        print_otherwise(options, page);
     }
-    Ok(())
 }
 
-// Adds what is said of a file that is none of records.
-fn push_form_hint(
-    text: &mut Vec<u8>,
-    by: Asking<'_>,
-    name: &str,
-    form: Option<FileForm>,
-) -> Result<(), AllocError>
-    ensures { OnOk result (text.new.items ≡ text.old.items ++ form_hint (asking by.entry) name.now form) }
+// Prints what is said of a file that is none of records.
+fn print_form_hint<P: Page>(by: Asking<'_>, name: &str, form: Option<FileForm>, page: &mut P)
+    ensures { P.adds page.old page.new (form_hint (asking by.entry) name.now form) }
 {
-    match form {
-        Some(form) => push_form(text, name, by, form),
-        None => Ok(()),
+    if let Some(form) = form {
+        print_form(name, by, form, page);
     }
 }

@@ -1,6 +1,7 @@
 //! The text of a refused line's place.
 
-ghost use Rattle.std.specs.Prelude.{◌≡◌, ◌++◌, OnOk, option_map, decimal, slice_index};
+ghost use Rattle.std.specs.Prelude.{◌≡◌, [], option_map, slice_index};
+ghost use Rattle.std.specs.Option.{option_map_or};
 ghost use Rattle.tl_record.specs.Layout.{layout_with};
 ghost use Rattle.tl_record.specs.Lines.{content};
 ghost use Rattle.tigertopo_faults.specs.Places.FieldColumns.{range_of};
@@ -8,44 +9,49 @@ ghost use Rattle.tigertopo_faults.specs.Hint.Shown.{is_plain, shown_byte, shown_
 ghost use Rattle.tigertopo_faults.specs.Hint.Hints.{field_of, columns_for, columns_text, place_text};
 
 use crate::places::{FieldColumns, columns_of};
-use itoa::Buffer;
-use std::alloc::AllocError;
-use tigertopo_words::{push_escaped, push_name};
+use crate::shown::{print_escaped, print_name};
+use tl_cert_output::Page;
 use tl_record::{Cause, Columns, Field, Options};
 
-/// Adds where a refused line stands: the file's name, the line's number in it, and where it is refused for a field, the
+/// Prints where a refused line stands: the file's name, the line's number in it, and where it is refused for a field, the
 /// field's columns and what the line holds there.
-pub fn push_place(
-    text: &mut Vec<u8>,
+pub fn print_place<P: Page>(
     name: &str,
     number: u64,
     line: &[u8],
     options: Options,
     cause: Cause,
-) -> Result<(), AllocError>
-    ensures { OnOk result (text.new.items
-        ≡ text.old.items ++ place_text (layout_with options) name.now number line.now cause) }
+    page: &mut P,
+)
+    ensures { P.adds page.old page.new (place_text (layout_with options) name.now number line.now cause) }
 {
-    text.extend_from_slice(b"  ")?;
-    push_name(text, name)?;
-    push_number(text, b" line ", number)?;
-    let bytes = content(line);
-    match columns_for(options, bytes, cause) {
-        Some(columns) => push_columns(text, bytes, columns),
-        None => Ok(()),
+    page.add(b"  ");
+    print_name(name, page);
+    page.add(b" line ");
+    page.number(number);
+    print_field(content(line), options, cause, page);
+}
+
+// Prints the columns of the field that a line is refused for, if it is for one.
+fn print_field<P: Page>(line: &[u8], options: Options, cause: Cause, page: &mut P)
+    ensures { P.adds page.old page.new (option_map_or (columns_text line.now) (columns_for (layout_with options) line.now cause) []) }
+{
+    if let Some(columns) = columns_for(options, line, cause) {
+        print_columns(line, columns, page);
     }
 }
 
-// Adds columns, and what a line holds there.
-fn push_columns(text: &mut Vec<u8>, line: &[u8], columns: FieldColumns) -> Result<(), AllocError>
-    ensures { OnOk result (text.new.items ≡ text.old.items ++ columns_text line.now (range_of columns)) }
+// Prints columns, and what a line holds there.
+fn print_columns<P: Page>(line: &[u8], columns: FieldColumns, page: &mut P)
+    ensures { P.adds page.old page.new (columns_text line.now (range_of columns)) }
 {
-    push_number(text, b", columns ", u64::from(columns.first))?;
-    push_number(text, b" to ", u64::from(columns.last))?;
-    text.extend_from_slice(b": `")?;
-    push_shown(text, Columns::new(line).field(columns.first, columns.last))?;
-    text.extend_from_slice(b"`")?;
-    Ok(())
+    page.add(b", columns ");
+    page.number(columns.first);
+    page.add(b" to ");
+    page.number(columns.last);
+    page.add(b": `");
+    print_shown(Columns::new(line).field(columns.first, columns.last), page);
+    page.add(b"`");
 }
 
 /// The columns of the field that a line is refused for.
@@ -87,36 +93,24 @@ pub fn content(line: &[u8]) -> &[u8]
     }
 }
 
-/// Adds a word and a number.
-pub fn push_number(text: &mut Vec<u8>, word: &[u8], number: u64) -> Result<(), AllocError>
-    ensures { OnOk result (text.new.items ≡ text.old.items ++ word.now ++ decimal number) }
-{
-    let mut digits = Buffer::new();
-    text.extend_from_slice(word)?;
-    text.extend_from_slice(digits.format(number).as_bytes())?;
-    Ok(())
-}
-
-// Adds bytes as they are shown.
-fn push_shown(text: &mut Vec<u8>, bytes: &[u8]) -> Result<(), AllocError>
-    ensures { OnOk result (text.new.items ≡ text.old.items ++ shown_bytes bytes.now) }
+// Prints bytes as they are shown.
+fn print_shown<P: Page>(bytes: &[u8], page: &mut P)
+    ensures { P.adds page.old page.new (shown_bytes bytes.now) }
 {
     for byte in bytes {
-        push_byte(text, *byte)?;
+        print_byte(*byte, page);
     }
-    Ok(())
 }
 
-// Adds a byte as it is shown: printable ASCII as it is, but for the backquote and the backslash.
-fn push_byte(text: &mut Vec<u8>, byte: u8) -> Result<(), AllocError>
-    ensures { OnOk result (text.new.items ≡ text.old.items ++ shown_byte byte) }
+// Prints a byte as it is shown: printable ASCII as it is, but for the backquote and the backslash.
+fn print_byte<P: Page>(byte: u8, page: &mut P)
+    ensures { P.adds page.old page.new (shown_byte byte) }
 {
     if is_plain(byte) {
-        text.extend_from_slice(&[byte])?;
+        page.add(&[byte]);
     } else {
-        push_escaped(text, byte)?;
+        print_escaped(byte, page);
     }
-    Ok(())
 }
 
 // Is a byte shown as itself?

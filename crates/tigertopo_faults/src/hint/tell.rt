@@ -2,21 +2,20 @@
 
 ghost use Rattle.std.specs.Prelude.{◌≡◌, true, OnOk, OnErr, IfOk, IfErr, map, string_bytes};
 ghost use Rattle.tl_cert_output.specs.Stops.{StopsFor};
-ghost use Rattle.tl_cert_output.specs.Writing.{line_of};
+ghost use Rattle.tl_cert_output.specs.declared.stop.Stop.TheVariants.{Memory};
 ghost use Rattle.tigertopo_files.specs.Log.{LogsAgain};
 ghost use Rattle.tigertopo_files.specs.World.{world};
 ghost use Rattle.tigertopo_faults.specs.Hint.Again.{FailsAgain};
 ghost use Rattle.tigertopo_faults.specs.Hint.Telling.{TellsHint, TellsRefusal, TellsTrouble};
 ghost use Rattle.tl_cert_output.specs.Streams.{Tries, stream};
 ghost use Rattle.tigertopo_faults.specs.Hint.Advice.{asking};
-ghost use Rattle.tigertopo_faults.specs.Hint.Hints.{trouble_text};
 
 use crate::hint::asking::Asking;
 use crate::hint::refused::{RefusedLine, Sought};
+use crate::shown::print_name;
 use std::alloc::{AllocError, Global};
-use tigertopo_files::FileSystem;
-use tigertopo_words::push_name;
-use tl_cert_output::{Stop, write_all};
+use tigertopo_files::{FileSystem, with_printed};
+use tl_cert_output::{Page, Stop, Text, write_all};
 use tl_record::{Cause, Sink};
 
 /// Says behind a stop of a command, which read the files of these names, what helps: behind a refused line in which file it
@@ -62,37 +61,52 @@ fn hint_of<F: FileSystem>(
 {
     match *stop {
         Stop::Record { line, cause } => refusal_hint(files, alloc, names, by, line, cause),
-        Stop::Device => Ok(trouble_hint(files, alloc, names)?),
+        Stop::Device => trouble_hint(files, alloc, names),
         Stop::Memory | Stop::Budget => Ok(Vec::new(alloc)),
     }
 }
 
 // Which file can't be opened or read, and why.
-fn trouble_hint<F: FileSystem>(
-    files: &F,
-    alloc: Global,
-    names: &[String],
-) -> Result<Vec<u8>, AllocError>
-    ensures { IfOk result (λ text. TellsTrouble (F.under files.now) (map string_bytes names.now) (λ told. text.items ≡ told)) }
+fn trouble_hint<F: FileSystem>(files: &F, alloc: Global, names: &[String]) -> Result<Vec<u8>, Stop>
+    ensures told { IfOk result (λ text. TellsTrouble (F.under files.now) (map string_bytes names.now) (λ told. text.items ≡ told)) }
+    ensures stop { IfErr result (λ stop. stop ≡ Memory) }
 {
     for name in names {
         if let Some(words) = files.trouble(alloc, name.as_str())? {
-            return trouble_line(alloc, name.as_str(), words.as_str());
+            let line = TroubleLine {
+                name: name.as_str(),
+                words: words.as_str(),
+            };
+            return with_printed(alloc, &[], &line);
         }
     }
     Ok(Vec::new(alloc))
 }
 
-/// The line of a file that can't be opened, read or made.
-pub fn trouble_line(alloc: Global, name: &str, words: &str) -> Result<Vec<u8>, AllocError>
-    ensures { IfOk result (λ text. text.items ≡ line_of (trouble_text name.now words.now)) }
-{
-    let mut text = Vec::from_slice(alloc, b"  ")?;
-    push_name(&mut text, name)?;
-    text.extend_from_slice(b": ")?;
-    text.extend_from_slice(words.as_bytes())?;
-    text.extend_from_slice(b"\n")?;
-    Ok(text)
+/// The line of a file that can't be opened, read or made: its name, and why.
+#[derive(Clone, Copy)]
+pub struct TroubleLine<'a> {
+    pub name: &'a str,
+    pub words: &'a str,
+}
+
+impl Text for TroubleLine<'_> {
+    ghost use Rattle.std.specs.Prelude.{⊤};
+    ghost use Rattle.tl_cert_output.specs.Writing.{line_of};
+    ghost use Rattle.tigertopo_faults.specs.Hint.Hints.{trouble_text};
+
+    ghost text = { λ told. line_of (trouble_text told.name.now told.words.now) };
+
+    ghost is_ready = { λ told. ⊤ };
+
+    fn add_to<P: Page>(&self, _alloc: Global, page: &mut P) -> Result<(), AllocError> {
+        page.add(b"  ");
+        print_name(self.name, page);
+        page.add(b": ");
+        page.add(self.words.as_bytes());
+        page.add(b"\n");
+        Ok(())
+    }
 }
 
 // Where a refused line stands, if each file up to it can be read again.

@@ -1,6 +1,6 @@
 //! What is said behind an answer where no type 1 record was read.
 
-ghost use Rattle.std.specs.Prelude.{◌≡◌, ◌++◌, ◌∷◌, [], true, IfOk, IfErr, OnOk, OnErr, map, string_bytes};
+ghost use Rattle.std.specs.Prelude.{◌≡◌, ◌≤◌, ◌∷◌, [], true, IfOk, IfErr, OnOk, OnErr, length, map, string_bytes};
 ghost use Rattle.tl_cert_output.specs.Stops.{StopsFor};
 ghost use Rattle.tl_cert_output.specs.Streams.{Tries, stream};
 ghost use Rattle.tigertopo_files.specs.Files.{bytes_under};
@@ -9,16 +9,15 @@ ghost use Rattle.tigertopo_files.specs.World.{world};
 ghost use Rattle.tigertopo_faults.specs.Hint.Advice.{asking};
 ghost use Rattle.tigertopo_faults.specs.Hint.Again.{FailsAgain};
 ghost use Rattle.tigertopo_faults.specs.Hint.Telling.{TellsUnread};
-ghost use Rattle.tigertopo_faults.specs.Hint.Unread.{IsHeld, held_text, lack_text, more_text, told_text};
+ghost use Rattle.tigertopo_faults.specs.Hint.Unread.{IsHeld, files_text, held_text, lack_text, more_text, told_text};
 
-use crate::hint::advice::push_form;
+use crate::hint::advice::print_form;
 use crate::hint::asking::Asking;
 use crate::hint::holding::{Held, Holding};
-use crate::hint::shown::push_number;
+use crate::shown::print_name;
 use std::alloc::{AllocError, Global};
-use tigertopo_files::FileSystem;
-use tigertopo_words::push_name;
-use tl_cert_output::{Stop, write_all};
+use tigertopo_files::{FileSystem, with_printed};
+use tl_cert_output::{Page, Stop, Text, write_all};
 use tl_record::Sink;
 
 // How many files are told of at most.
@@ -63,16 +62,19 @@ fn unread_hint<F: FileSystem>(
     ensures stays { F.under files.new ≡ F.under files.old }
     ensures logged { F.knows ≡ true → LogsAgain (F.log files.old) (F.log files.new) result }
 {
-    let mut text = Vec::new(alloc);
-    for at in 0..names.len() {
-        let name = &names[at];
+    let mut held = Vec::new(alloc);
+    for name in names {
         match held_under(files, alloc, name)? {
             Held::Chains => return Ok(Vec::new(alloc)),
-            held => push_told(&mut text, at, name.as_str(), by, held)?,
+            other => held.push(other)?,
         }
     }
-    push_more(&mut text, names.len())?;
-    Ok(text)
+    let told = UnreadFiles {
+        names,
+        by,
+        held: held.as_slice(),
+    };
+    with_printed(alloc, &[], &told)
 }
 
 // What the file of this name holds. Of one that can't be read again it may be anything but a record of type 1.
@@ -89,52 +91,75 @@ fn held_under<F: FileSystem>(files: &mut F, alloc: Global, name: &String) -> Res
     }
 }
 
-// Adds what is said of the file with this number, counted from 0, of this name.
-fn push_told(
-    text: &mut Vec<u8>,
-    number: usize,
-    name: &str,
-    by: Asking<'_>,
-    held: Held,
-) -> Result<(), AllocError>
-    ensures { OnOk result (text.new.items ≡ text.old.items ++ told_text (asking by.entry) number name.now held) }
+// What is said of files of these names, which hold this.
+#[derive(Clone, Copy)]
+struct UnreadFiles<'a> {
+    names: &'a [String],
+    by: Asking<'a>,
+    held: &'a [Held],
+}
+
+impl Text for UnreadFiles<'_> {
+    ghost use Rattle.std.specs.Prelude.{◌++◌};
+
+    ghost text = { λ told. files_text (asking told.by) 0 (map string_bytes told.names.now) told.held.now ++ more_text (length told.names.now) };
+
+    ghost is_ready = { λ told. length told.names.now ≤ length told.held.now };
+
+    fn add_to<P: Page>(&self, _alloc: Global, page: &mut P) -> Result<(), AllocError> {
+        print_files(self.names, self.by, self.held, page);
+        print_more(self.names.len(), page);
+        Ok(())
+    }
+}
+
+// Prints what is said of files of these names, which hold this.
+fn print_files<P: Page>(names: &[String], by: Asking<'_>, held: &[Held], page: &mut P)
+    requires { length names.now ≤ length held.now }
+    ensures { P.adds page.old page.new (files_text (asking by.entry) 0 (map string_bytes names.now) held.now) }
+{
+    for at in 0..names.len() {
+        print_told(at, names[at].as_str(), by, held[at], page);
+    }
+}
+
+// Prints what is said of the file with this number, counted from 0, of this name.
+fn print_told<P: Page>(number: usize, name: &str, by: Asking<'_>, held: Held, page: &mut P)
+    ensures { P.adds page.old page.new (told_text (asking by.entry) number name.now held) }
 {
     if number < MOST_FILES {
-        return push_held(text, name, by, held);
+        print_held(name, by, held, page);
     }
-    Ok(())
 }
 
-// Adds what is said of a file of this name that holds this.
-fn push_held(text: &mut Vec<u8>, name: &str, by: Asking<'_>, held: Held) -> Result<(), AllocError>
-    ensures { OnOk result (text.new.items ≡ text.old.items ++ held_text (asking by.entry) name.now held) }
+// Prints what is said of a file of this name that holds this.
+fn print_held<P: Page>(name: &str, by: Asking<'_>, held: Held, page: &mut P)
+    ensures { P.adds page.old page.new (held_text (asking by.entry) name.now held) }
 {
     match held {
-        Held::Nothing(Some(form)) => push_form(text, name, by, form),
-        Held::Nothing(None) => push_lack(text, name, b" holds no record that is read"),
-        Held::Chains | Held::Others => push_lack(text, name, b" holds no type 1 record"),
+        Held::Nothing(Some(form)) => print_form(name, by, form, page),
+        Held::Nothing(None) => print_lack(name, b" holds no record that is read", page),
+        Held::Chains | Held::Others => print_lack(name, b" holds no type 1 record", page),
     }
 }
 
-// Adds a file's name, and what it doesn't hold.
-fn push_lack(text: &mut Vec<u8>, name: &str, words: &[u8]) -> Result<(), AllocError>
-    ensures { OnOk result (text.new.items ≡ text.old.items ++ lack_text name.now words.now) }
+// Prints a file's name, and what it doesn't hold.
+fn print_lack<P: Page>(name: &str, words: &[u8], page: &mut P)
+    ensures { P.adds page.old page.new (lack_text name.now words.now) }
 {
-    text.extend_from_slice(b"  ")?;
-    push_name(text, name)?;
-    text.extend_from_slice(words)?;
-    text.extend_from_slice(b"\n")?;
-    Ok(())
+    page.add(b"  ");
+    print_name(name, page);
+    page.add(words);
+    page.add(b"\n");
 }
 
-// Adds how many files more there are.
-fn push_more(text: &mut Vec<u8>, count: usize) -> Result<(), AllocError>
-    ensures { OnOk result (text.new.items ≡ text.old.items ++ more_text count) }
+// Prints how many files more there are.
+fn print_more<P: Page>(count: usize, page: &mut P)
+    ensures { P.adds page.old page.new (more_text count) }
 {
     if count > MOST_FILES {
-        let more = (count - MOST_FILES) as u64;
-        push_number(text, b"  more files without a type 1 record: ", more)?;
-        text.extend_from_slice(b"\n")?;
+        page.add(b"  more files without a type 1 record: ");
+        page.number(count - MOST_FILES);
+        page.add(b"\n");
     }
-    Ok(())
 }

@@ -1,136 +1,120 @@
 //! The lines of records.
 
-ghost use Rattle.std.specs.Prelude.{◌≡◌, ◌++◌, OnOk, map, string_bytes, decimal};
+ghost use Rattle.std.specs.Prelude.{◌++◌, decimal, map, string_bytes};
 ghost use Rattle.tigertopo_faults.specs.Places.LinePlaces.{place_pair};
 ghost use Rattle.tigertopo_faults.specs.Lines.Texts.{record_text, at_text, number_text, named_text, where_text, record_line_text, record_lines_text};
 
-use crate::lines::ends::push_ends;
-use crate::places::{TextLine, is_in_reach, place_of, push_location};
+use crate::lines::ends::print_ends;
+use crate::places::{TextLine, is_in_reach, place_of, print_location};
 use crate::records::RecordLine;
-use arrayvec::ArrayString;
-use itoa::Buffer;
-use std::alloc::AllocError;
-use tigertopo_words::push_name;
+use crate::shown::print_name;
+use tl_cert_output::Page;
 use tl_geom::Rational;
-use tl_list_text::{LINE_ROOM, push_key, push_number};
+use tl_list_text::print_key;
 use tl_record::Record;
 
-/// Adds the lines of records that a fault at this place speaks of, of files with these names and so many lines each.
-pub(crate) fn push_record_lines(
-    text: &mut Vec<u8>,
+/// Prints the lines of records that a fault at this place speaks of, of files with these names and so many lines each.
+pub(crate) fn print_record_lines<P: Page>(
     names: &[String],
     counts: &[u64],
     at: Option<Rational>,
     lines: &[RecordLine],
-) -> Result<(), AllocError>
-    ensures { OnOk result (text.new.items
-        ≡ text.old.items ++ record_lines_text (map string_bytes names.now) counts.now at lines.now) }
+    page: &mut P,
+)
+    ensures { P.adds page.old page.new (record_lines_text (map string_bytes names.now) counts.now at lines.now) }
 {
     for line in lines {
-        push_record_line(text, names, counts, at, line)?;
+        print_record_line(names, counts, at, line, page);
     }
-    Ok(())
 }
 
-// Adds the line of a record.
-fn push_record_line(
-    text: &mut Vec<u8>,
+// Prints the line of a record.
+fn print_record_line<P: Page>(
     names: &[String],
     counts: &[u64],
     at: Option<Rational>,
     line: &RecordLine,
-) -> Result<(), AllocError>
-    ensures { OnOk result (text.new.items
-        ≡ text.old.items ++ record_line_text (map string_bytes names.now) counts.now at line.now) }
+    page: &mut P,
+)
+    ensures { P.adds page.old page.new (record_line_text (map string_bytes names.now) counts.now at line.now) }
 {
-    text.extend_from_slice(b"  ")?;
-    push_where(text, names, counts, line.line)?;
-    text.extend_from_slice(record_words(&line.holds).as_str().as_bytes())?;
-    push_ends(text, line.ends)?;
-    text.extend_from_slice(at_words(at).as_str().as_bytes())?;
-    text.extend_from_slice(b"\n")?;
-    Ok(())
+    page.add(b"  ");
+    print_where(names, counts, line.line, page);
+    print_record(&line.holds, page);
+    print_ends(line.ends, page);
+    print_at(at, page);
+    page.add(b"\n");
 }
 
-// Adds a line's file and its number there, or where the files have fewer lines, its number in all of them.
-fn push_where(
-    text: &mut Vec<u8>,
-    names: &[String],
-    counts: &[u64],
-    number: u64,
-) -> Result<(), AllocError>
-    ensures { OnOk result (text.new.items ≡ text.old.items ++ where_text (map string_bytes names.now) counts.now number) }
+// Prints a line's file and its number there, or where the files have fewer lines, its number in all of them.
+fn print_where<P: Page>(names: &[String], counts: &[u64], number: u64, page: &mut P)
+    ensures { P.adds page.old page.new (where_text (map string_bytes names.now) counts.now number) }
 {
     match place_of(counts, number) {
-        Some(place) => push_place(text, names, place, number),
-        None => push_whole(text, number),
+        Some(place) => print_place(names, place, number, page),
+        None => print_whole(number, page),
     }
 }
 
-// Adds a line's file, where there is one of that number, and its number there.
-fn push_place(
-    text: &mut Vec<u8>,
-    names: &[String],
-    place: TextLine,
-    number: u64,
-) -> Result<(), AllocError>
-    ensures { OnOk result (text.new.items ≡ text.old.items ++ named_text (map string_bytes names.now) number (place_pair place)) }
+// Prints a line's file, where there is one of that number, and its number there.
+fn print_place<P: Page>(names: &[String], place: TextLine, number: u64, page: &mut P)
+    ensures { P.adds page.old page.new (named_text (map string_bytes names.now) number (place_pair place)) }
 {
-    if place.text >= names.len() {
-        return push_whole(text, number);
+    if place.text < names.len() {
+        print_name(names[place.text].as_str(), page);
+        page.add(b" line ");
+        page.number(place.line);
+    } else {
+        print_whole(number, page);
     }
-    push_name(text, names[place.text].as_str())?;
-    push_count(text, b" line ", place.line)
 }
 
-// Adds a line's number in all files.
-fn push_whole(text: &mut Vec<u8>, number: u64) -> Result<(), AllocError>
-    ensures { OnOk result (text.new.items ≡ text.old.items ++ number_text number) }
+// Prints a line's number in all files.
+fn print_whole<P: Page>(number: u64, page: &mut P)
+    ensures { P.adds page.old page.new (number_text number) }
 {
-    push_count(text, b"line ", number)?;
-    text.extend_from_slice(b" of all files")?;
-    Ok(())
+    page.add(b"line ");
+    page.number(number);
+    page.add(b" of all files");
 }
 
-/// Adds a word and a number.
-pub(crate) fn push_count(text: &mut Vec<u8>, word: &[u8], number: u64) -> Result<(), AllocError>
-    ensures { OnOk result (text.new.items ≡ text.old.items ++ word.now ++ decimal number) }
+// Prints the type of a record, and what it is of.
+fn print_record<P: Page>(held: &Record, page: &mut P)
+    ensures { P.adds page.old page.new (record_text held.now) }
 {
-    let mut digits = Buffer::new();
-    text.extend_from_slice(word)?;
-    text.extend_from_slice(digits.format(number).as_bytes())?;
-    Ok(())
-}
-
-// The type of a record, and what it is of.
-fn record_words(held: &Record) -> ArrayString<LINE_ROOM>
-    ensures { result.bytes ≡ record_text held.now }
-{
-    let mut words = ArrayString::new();
     match *held {
-        Record::Chain { tlid, .. } => push_number(&mut words, ", type 1, tlid ", tlid),
-        Record::Shape { tlid, .. } => push_number(&mut words, ", type 2, tlid ", tlid),
-        Record::Sides { tlid, .. } => push_number(&mut words, ", type I, tlid ", tlid),
-        Record::PolyPoint { key, .. } => push_key(&mut words, ", type P, polygon ", key),
-        Record::Landmark { land, .. } => push_number(&mut words, ", type 7, land ", land),
+        Record::Chain { tlid, .. } => print_numbered(b", type 1, tlid ", tlid, page),
+        Record::Shape { tlid, .. } => print_numbered(b", type 2, tlid ", tlid, page),
+        Record::Sides { tlid, .. } => print_numbered(b", type I, tlid ", tlid, page),
+        Record::PolyPoint { key, .. } => {
+            page.add(b", type P, polygon ");
+            print_key(key, page);
+        }
+        Record::Landmark { land, .. } => print_numbered(b", type 7, land ", land, page),
         Record::AreaLink { key, land } => {
-            push_key(&mut words, ", type 8, polygon ", key);
-            push_number(&mut words, " land ", land);
+            page.add(b", type 8, polygon ");
+            print_key(key, page);
+            print_numbered(b" land ", land, page);
         }
     }
-    words
 }
 
-// A place in decimal degrees, where it can be printed.
-fn at_words(at: Option<Rational>) -> ArrayString<LINE_ROOM>
-    ensures { result.bytes ≡ at_text at }
+// Prints a word and a number.
+fn print_numbered<P: Page>(word: &[u8], number: u64, page: &mut P)
+    ensures { P.adds page.old page.new (word.now ++ decimal number) }
 {
-    let mut words = ArrayString::new();
+    page.add(word);
+    page.number(number);
+}
+
+// Prints a place in decimal degrees, where it can be printed.
+fn print_at<P: Page>(at: Option<Rational>, page: &mut P)
+    ensures { P.adds page.old page.new (at_text at) }
+{
     if let Some(at) = at {
         if is_in_reach(&at) {
-            words.push_str(", at ");
-            push_location(&mut words, &at);
+            page.add(b", at ");
+            print_location(at, page);
         }
     }
-    words
 }

@@ -1,56 +1,78 @@
 //! The last object, which says how many there are.
 
-ghost use Rattle.std.specs.Prelude.{◌≡◌};
 ghost use Rattle.tigertopo_faults.specs.Objects.Ends.{faults_end, refusals_end, skipped_end, sound_object};
 
-use arrayvec::ArrayString;
+use std::alloc::{AllocError, Global};
+use tl_cert_output::{Page, Text};
 use tl_check_verdict::Report;
-use tl_list_text::{LINE_ROOM, push_number};
 
 /// That of a sound map.
-pub fn sound_object(report: &Report) -> ArrayString<LINE_ROOM>
-    ensures { result.bytes ≡ sound_object report.now }
-{
-    let mut text = ArrayString::new();
-    push_number(&mut text, "{\"is\":\"sound\",\"chains\":", report.chains);
-    push_number(&mut text, ",\"segments\":", report.segments);
-    push_number(&mut text, ",\"nodes\":", report.nodes);
-    push_number(&mut text, ",\"polygons\":", report.polygons);
-    push_number(&mut text, ",\"landmarks\":", report.landmarks);
-    push_number(&mut text, ",\"rings\":", report.rings);
-    text.push_str("}\n");
-    text
+#[derive(Clone, Copy)]
+pub struct SoundObject<'a> {
+    pub report: &'a Report,
 }
 
-/// That of so many faults, of which so many are printed and so many polygons are touched.
-pub(crate) fn faults_end(count: u64, printed: u64, touched: u64) -> ArrayString<LINE_ROOM>
-    ensures { result.bytes ≡ faults_end count printed touched }
-{
-    let mut text = ArrayString::new();
-    push_number(&mut text, "{\"is\":\"faults\",\"faults\":", count);
-    push_number(&mut text, ",\"printed\":", printed);
-    push_number(&mut text, ",\"touched\":", touched);
-    text.push_str("}\n");
-    text
+impl Text for SoundObject<'_> {
+    ghost use Rattle.std.specs.Prelude.{⊤};
+
+    ghost text = { λ told. sound_object told.report.now };
+
+    ghost is_ready = { λ told. ⊤ };
+
+    fn add_to<P: Page>(&self, _alloc: Global, page: &mut P) -> Result<(), AllocError> {
+        print_sound_object(self.report, page);
+        Ok(())
+    }
 }
 
-/// That of so many refused lines, of which so many are printed.
-pub fn refusals_end(count: u64, printed: u64) -> ArrayString<LINE_ROOM>
-    ensures { result.bytes ≡ refusals_end count printed }
+/// Prints that of a sound map.
+pub fn print_sound_object<P: Page>(report: &Report, page: &mut P)
+    ensures { P.adds page.old page.new (sound_object report.now) }
 {
-    let mut text = ArrayString::new();
-    push_number(&mut text, "{\"is\":\"refusals\",\"refused\":", count);
-    push_number(&mut text, ",\"printed\":", printed);
-    text.push_str("}\n");
-    text
+    page.add(b"{\"is\":\"sound\",\"chains\":");
+    page.number(report.chains);
+    page.add(b",\"segments\":");
+    page.number(report.segments);
+    page.add(b",\"nodes\":");
+    page.number(report.nodes);
+    page.add(b",\"polygons\":");
+    page.number(report.polygons);
+    page.add(b",\"landmarks\":");
+    page.number(report.landmarks);
+    page.add(b",\"rings\":");
+    page.number(report.rings);
+    page.add(b"}\n");
 }
 
-/// That of so many refused lines that were skipped.
-pub fn skipped_end(count: u64) -> ArrayString<LINE_ROOM>
-    ensures { result.bytes ≡ skipped_end count }
+/// Prints that of so many faults, of which so many are printed and so many polygons are touched.
+pub(crate) fn print_faults_end<P: Page>(count: u64, printed: u64, touched: u64, page: &mut P)
+    ensures { P.adds page.old page.new (faults_end count printed touched) }
 {
-    let mut text = ArrayString::new();
-    push_number(&mut text, "{\"is\":\"skipped\",\"refused\":", count);
-    text.push_str("}\n");
-    text
+    page.add(b"{\"is\":\"faults\",\"faults\":");
+    page.number(count);
+    page.add(b",\"printed\":");
+    page.number(printed);
+    page.add(b",\"touched\":");
+    page.number(touched);
+    page.add(b"}\n");
+}
+
+/// Prints that of so many refused lines, of which so many are printed.
+pub fn print_refusals_end<P: Page>(count: u64, printed: u64, page: &mut P)
+    ensures { P.adds page.old page.new (refusals_end count printed) }
+{
+    page.add(b"{\"is\":\"refusals\",\"refused\":");
+    page.number(count);
+    page.add(b",\"printed\":");
+    page.number(printed);
+    page.add(b"}\n");
+}
+
+/// Prints that of so many refused lines that were skipped.
+pub fn print_skipped_end<P: Page>(count: u64, page: &mut P)
+    ensures { P.adds page.old page.new (skipped_end count) }
+{
+    page.add(b"{\"is\":\"skipped\",\"refused\":");
+    page.number(count);
+    page.add(b"}\n");
 }

@@ -1,60 +1,58 @@
 //! Where a fault lies, exactly and in degrees.
 
 ghost use Rattle.std.specs.Prelude.{◌≡◌};
-ghost use Rattle.tl_cert_output.specs.Printing.{Prints};
 ghost use Rattle.tigertopo_faults.specs.Objects.Places.{degrees_text, fraction_text, fractions_text, place_text};
 
 use crate::geojson::{print_position, print_signed};
 use crate::places::is_in_reach;
-use tl_cert_output::Printer;
+use tl_cert_output::Page;
 use tl_geom::Rational;
-use tl_record::Sink;
 
 /// Prints where a fault lies, or null where it has no place.
-pub fn print_place<S: Sink>(at: Option<Rational>, printer: &mut Printer, out: &mut S)
-    ensures { Prints S.contents S.failure_count (out.old, printer.old) (out.new, printer.new) (place_text at) }
+pub fn print_place<P: Page>(at: Option<Rational>, page: &mut P)
+    ensures { P.adds page.old page.new (place_text at) }
 {
     match at {
         Some(at) => {
-            printer.add(b"{\"exact\":", out);
-            print_fractions(at, printer, out);
-            printer.add(b",\"degrees\":", out);
-            print_degrees(at, printer, out);
-            printer.add(b"}", out);
+            page.add(b"{\"exact\":");
+            print_fractions(at, page);
+            page.add(b",\"degrees\":");
+            print_degrees(at, page);
+            page.add(b"}");
         }
-        None => printer.add(b"null", out),
+        None => page.add(b"null"),
     }
 }
 
 // Prints a place in degrees, or null where it can't be printed.
-fn print_degrees<S: Sink>(at: Rational, printer: &mut Printer, out: &mut S)
-    ensures { Prints S.contents S.failure_count (out.old, printer.old) (out.new, printer.new) (degrees_text at) }
+fn print_degrees<P: Page>(at: Rational, page: &mut P)
+    ensures { P.adds page.old page.new (degrees_text at) }
 {
     if is_in_reach(&at) {
-        print_position(at, printer, out);
+        print_position(at, page);
     } else {
-        printer.add(b"null", out);
+        page.add(b"null");
     }
 }
 
 /// Prints a place exactly, in millionths of a degree.
-pub fn print_fractions<S: Sink>(at: Rational, printer: &mut Printer, out: &mut S)
-    ensures { Prints S.contents S.failure_count (out.old, printer.old) (out.new, printer.new) (fractions_text at) }
+pub fn print_fractions<P: Page>(at: Rational, page: &mut P)
+    ensures { P.adds page.old page.new (fractions_text at) }
 {
-    printer.add(b"[", out);
-    print_fraction(at.x, at.d, printer, out);
-    printer.add(b",", out);
-    print_fraction(at.y, at.d, printer, out);
-    printer.add(b"]", out);
+    page.add(b"[");
+    print_fraction(at.x, at.d, page);
+    page.add(b",");
+    print_fraction(at.y, at.d, page);
+    page.add(b"]");
 }
 
 // Prints a fraction.
-fn print_fraction<S: Sink>(x: i128, d: i128, printer: &mut Printer, out: &mut S)
-    ensures { Prints S.contents S.failure_count (out.old, printer.old) (out.new, printer.new) (fraction_text x d) }
+fn print_fraction<P: Page>(x: i128, d: i128, page: &mut P)
+    ensures { P.adds page.old page.new (fraction_text x d) }
 {
-    printer.add(b"\"", out);
-    print_signed(x, printer, out);
-    printer.add(b"/", out);
-    print_signed(d, printer, out);
-    printer.add(b"\"", out);
+    page.add(b"\"");
+    print_signed(x, page);
+    page.add(b"/");
+    print_signed(d, page);
+    page.add(b"\"");
 }

@@ -1,16 +1,15 @@
 //! Faults as a text of objects.
 
 use crate::lines::chosen;
-use crate::objects::end::faults_end;
+use crate::objects::end::print_faults_end;
 use crate::objects::fault::print_objects;
 use crate::records::RecordLines;
-use std::alloc::Global;
+use std::alloc::{AllocError, Global};
 use tigertopo_words::Told;
-use tl_cert_output::{Printer, Stop, Text};
+use tl_cert_output::{Page, Text};
 use tl_check_verdict::MapFault;
 use tl_geom::Rational;
 use tl_map_county::Map;
-use tl_record::Sink;
 
 /// The first fault as an object, or all, or so many from the front, and behind them how many there are.
 #[derive(Clone, Copy)]
@@ -42,8 +41,7 @@ impl Text for FaultObjects<'_> {
 
     ghost is_ready = { λ told. ⊤ };
 
-    fn print<S: Sink>(&self, _alloc: Global, out: &mut S) -> Result<(), Stop> {
-        let mut printer = Printer::new();
+    fn add_to<P: Page>(&self, _alloc: Global, page: &mut P) -> Result<(), AllocError> {
         let shown = chosen(self.faults, self.told);
         print_objects(
             self.names,
@@ -52,11 +50,10 @@ impl Text for FaultObjects<'_> {
             self.lines,
             self.places,
             shown,
-            &mut printer,
-            out,
+            page,
         );
-        let end = faults_end(self.faults.len() as u64, shown.len() as u64, self.touched);
-        printer.add(end.as_str().as_bytes(), out);
-        printer.finish(out)
+        let count = self.faults.len() as u64;
+        print_faults_end(count, shown.len() as u64, self.touched, page);
+        Ok(())
     }
 }

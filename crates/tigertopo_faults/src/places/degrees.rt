@@ -1,19 +1,11 @@
 //! Places in decimal degrees.
 
-ghost use Rattle.std.specs.Prelude.{◌≡◌, ◌+◌, ◌<◌, ◌≤◌, ◌++◌, ◌*◌, ◌-◌, ◌^◌, true, unsigned_abs};
-ghost use Rattle.arrayvec.specs.ArrayString.{array_string_len};
+ghost use Rattle.std.specs.Prelude.{◌≡◌, ◌<◌, ◌≤◌, ◌*◌, ◌-◌, ◌^◌, true, unsigned_abs};
 ghost use Rattle.tigertopo_faults.specs.Places.Degrees.{degrees_text, digits_below, is_in_reach, reach, nearest, sign_of};
 ghost use Rattle.tigertopo_faults.specs.Places.Degrees.{is_whole, decimals_of, location_text};
 
-use arrayvec::ArrayString;
-use itoa::Buffer;
+use tl_cert_output::Page;
 use tl_geom::Rational;
-
-/// How many bytes a coordinate takes at most.
-pub const COORDINATE_ROOM: usize = 60;
-
-/// How many bytes a place takes at most: two coordinates and a comma.
-pub const LOCATION_ROOM: usize = 121;
 
 // How great a number of a place may be.
 const REACH: u128 = 1 << 100;
@@ -25,38 +17,34 @@ pub fn is_in_reach(at: &Rational) -> bool
     at.x.unsigned_abs() < REACH && at.y.unsigned_abs() < REACH && at.d.unsigned_abs() < REACH
 }
 
-/// Adds a coordinate, of `x / d` millionths of a degree, in decimal degrees with so many places, from 6 to 12. It is
+/// Prints a coordinate, of `x / d` millionths of a degree, in decimal degrees with so many places, from 6 to 12. It is
 /// rounded to the nearest, half away from zero.
-pub fn push_degrees<const N: usize>(line: &mut ArrayString<N>, x: i128, d: i128, places: u32)
-    requires room { array_string_len line.old + COORDINATE_ROOM ≤ N }
+pub fn print_degrees<P: Page>(x: i128, d: i128, places: u32, page: &mut P)
     requires from_six { 6 ≤ places }
     requires to_twelve { places ≤ 12 }
     requires numerator { unsigned_abs x < reach }
     requires denominator { unsigned_abs d < reach }
     requires above_zero { 0 < unsigned_abs d }
-    ensures bytes { line.new.bytes ≡ line.old.bytes ++ degrees_text places x d }
-    ensures len { array_string_len line.new ≤ array_string_len line.old + COORDINATE_ROOM }
+    ensures { P.adds page.old page.new (degrees_text places x d) }
 {
     let units = units_of(distance(x), distance(d), places);
-    push_sign(line, x, units);
-    let mut digits = Buffer::new();
-    line.push_str(digits.format(units / power(places)));
-    line.push_str(".");
-    push_digits(line, units, places);
+    print_sign(x, units, page);
+    page.number(units / power(places));
+    page.add(b".");
+    print_digits(units, places, page);
 }
 
-/// Adds a place in decimal degrees, the longitude, a comma and the latitude: with six decimals where it lies at whole millionths
+/// Prints a place in decimal degrees, the longitude, a comma and the latitude: with six decimals where it lies at whole millionths
 /// of a degree, so that it is exact and `@` in front makes a word of it that spells the point, and else with ten, rounded as a
 /// coordinate is.
-pub fn push_location<const N: usize>(line: &mut ArrayString<N>, at: &Rational)
-    requires room { array_string_len line.old + LOCATION_ROOM ≤ N }
-    requires reach { is_in_reach at.now ≡ true }
-    ensures { line.new.bytes ≡ line.old.bytes ++ location_text at.now }
+pub fn print_location<P: Page>(at: Rational, page: &mut P)
+    requires { is_in_reach at ≡ true }
+    ensures { P.adds page.old page.new (location_text at) }
 {
-    let decimals = decimals_of(at);
-    push_degrees(line, at.x, at.d, decimals);
-    line.push_str(",");
-    push_degrees(line, at.y, at.d, decimals);
+    let decimals = decimals_of(&at);
+    print_degrees(at.x, at.d, decimals, page);
+    page.add(b",");
+    print_degrees(at.y, at.d, decimals, page);
 }
 
 // With how many decimals a place is printed.
@@ -83,14 +71,12 @@ fn distance(number: i128) -> u128
     number.unsigned_abs()
 }
 
-// Adds the sign of a coordinate of so many units.
-fn push_sign<const N: usize>(line: &mut ArrayString<N>, x: i128, units: u128)
-    requires { array_string_len line.old + 1 ≤ N }
-    ensures bytes { line.new.bytes ≡ line.old.bytes ++ sign_of x units }
-    ensures len { array_string_len line.new ≤ array_string_len line.old + 1 }
+// Prints the sign of a coordinate of so many units.
+fn print_sign<P: Page>(x: i128, units: u128, page: &mut P)
+    ensures { P.adds page.old page.new (sign_of x units) }
 {
     if x < 0 && units > 0 {
-        line.push_str("-");
+        page.add(b"-");
     }
 }
 
@@ -121,15 +107,13 @@ fn power(exponent: u32) -> u128
     power
 }
 
-// Adds so many digits of a number, the last of them.
-fn push_digits<const N: usize>(line: &mut ArrayString<N>, number: u128, places: u32)
-    requires few { places ≤ 12 }
-    requires room { array_string_len line.old + 12 ≤ N }
-    ensures bytes { line.new.bytes ≡ line.old.bytes ++ digits_below places number }
-    ensures len { array_string_len line.new ≤ array_string_len line.old + 12 }
+// Prints so many digits of a number, the last of them.
+fn print_digits<P: Page>(number: u128, places: u32, page: &mut P)
+    requires { places ≤ 12 }
+    ensures { P.adds page.old page.new (digits_below places number) }
 {
     for done in 0..places {
         let digit = number / power(places - 1 - done) % 10;
-        line.push(char::from(b'0' + digit as u8));
+        page.add(&[b'0' + digit as u8]);
     }
 }

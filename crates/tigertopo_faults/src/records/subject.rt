@@ -1,14 +1,15 @@
 //! What faults speak of.
 
 ghost use Rattle.std.specs.Prelude.{◌≡◌, Some, option_copied, option_map};
-ghost use Rattle.tigertopo_faults.specs.Records.SpokenOf.{subjects_of, subjects_about, subject_in, subjects_of_faces, sides_of_darts};
+ghost use Rattle.tigertopo_faults.specs.Records.SpokenOf.{subjects_of, subjects_about, subject_about, subject_in, subjects_of_faces, sides_of_darts};
 ghost use Rattle.tigertopo_faults.specs.Records.SpokenOf.{other_tlid, tlid_of, chains_of};
 ghost use Rattle.tigertopo_faults.specs.Records.Naming.{subjects_naming};
 ghost use Rattle.tigertopo_faults.specs.declared.records.subject.Subject.TheVariants.{Drawn, Sides};
 
 use tl_check_faces::FaceFault;
-use tl_check_verdict::{About, MapFault, Which, row};
+use tl_check_verdict::{About, MapFault, row};
 use tl_map_county::Map;
+use tl_map_rules::{AboutRecords, Which};
 use tl_record::{PolyKey, Record};
 
 /// What names records: their type and what they are of.
@@ -45,12 +46,7 @@ fn subjects_about(map: Option<&Map>, about: &About) -> Subjects
     ensures { result ≡ subjects_about (chains_of (option_copied map.entry)) about.now }
 {
     match *about {
-        About::Tlid(tlid, records) => (Some(subject_in(records, tlid)), None),
-        About::Polygon(polygon) => (Some(Subject::Polygon(polygon)), None),
-        About::TlidPolygon(tlid, _) => (Some(Subject::Sides(tlid)), None),
-        About::Land(land) => (Some(Subject::Land(land)), None),
-        About::PolygonLand(polygon, land) => (Some(Subject::Link(polygon, land)), None),
-        About::Limit(_) | About::Types(_) => (None, None),
+        About::Records(records) => (subject_about(records), None),
         About::Meet(meet) => subjects_of_meet(meet.tlid, meet.other),
         About::Darts { first, next, .. } => sides_of_darts(tlid_of(map, first), tlid_of(map, next)),
         About::PolygonTlid(polygon, tlid) => {
@@ -64,6 +60,20 @@ fn subjects_about(map: Option<&Map>, about: &About) -> Subjects
         }
         About::Cells(odds) => sides_of_darts(tlid_of(map, odds.first), tlid_of(map, odds.second)),
         About::Faces(fault) => subjects_of_faces(&fault),
+    }
+}
+
+// What a fault of records, or of a polygon alone, speaks of.
+fn subject_about(about: AboutRecords) -> Option<Subject>
+    ensures { result ≡ subject_about about }
+{
+    match about {
+        AboutRecords::Tlid(tlid, records) => Some(subject_in(records, tlid)),
+        AboutRecords::Polygon(polygon) => Some(Subject::Polygon(polygon)),
+        AboutRecords::TlidPolygon(tlid, _) => Some(Subject::Sides(tlid)),
+        AboutRecords::Land(land) => Some(Subject::Land(land)),
+        AboutRecords::PolygonLand(polygon, land) => Some(Subject::Link(polygon, land)),
+        AboutRecords::Limit(_) | AboutRecords::Types(_) => None,
     }
 }
 

@@ -1,19 +1,19 @@
 -- Parts of a picture's text.
-use Rattle.std.proofs.Common.{◌≡◌, ℕ, ℤ, pos, ◌+ℤ◌, List, [], ◌∷◌, ◌++◌, ◌+◌, ◌-◌, ◌<◌, ◌≤◌, length, drop, Some, get_or, codes, true, false, refl, sym, ap, ap₂, ◌∙◌, arith}
-use Rattle.std.specs.Prelude.{◌-ℤ◌, ◌==◌, decimal, not, if◌then◌else◌, Option, slice_get, flat_map, zip}
-use Rattle.std.proofs.lemmas.List.{drop_all, drop_more}
+use Rattle.std.proofs.Common.{◌≡◌, ℕ, ℤ, List, [], ◌++◌, ◌+◌, ◌-◌, ◌<◌, ◌≤◌, length, drop, Some, get_or, codes, true, false, refl, sym, ap, ap₂, ◌∙◌, arith}
+use Rattle.std.specs.Prelude.{◌-ℤ◌, ◌==◌, not, if◌then◌else◌, Option, slice_get, flat_map, zip}
+use Rattle.std.proofs.lemmas.List.{drop_all}
 use Rattle.std.specs.Option.{option_map_or}
 use Rattle.std.proofs.lemmas.Option.{slice_get-get_or}
 use Rattle.std.specs.Fmt.{signed_decimal}
 use Rattle.tl_geom.specs.declared.point.Point.{Point}
 use Rattle.tl_geom.specs.declared.rational.Rational.{Rational}
 use Rattle.tl_check_verdict.specs.declared.fault.MapFault.{MapFault}
-use Rattle.tigertopo_pictures.proofs.PieceLemmas.{from_place, flat_next, flat_end, five_pieces}
+use Rattle.tigertopo_pictures.proofs.PieceLemmas.{from_place, five_pieces}
 use Rattle.tigertopo_pictures.specs.declared.svg.frame.Frame.{Frame}
 use Rattle.tigertopo_pictures.specs.declared.svg.frame.Spot.{Spot}
 use Rattle.tigertopo_pictures.specs.declared.svg.walk.Stroke.{Stroke}
 use Rattle.tigertopo_pictures.specs.Svg.Frames.{spot_of, is_inside}
-use Rattle.tigertopo_pictures.specs.Svg.Texts.{pair_text, move_text, start_text, stroke_text, dot_text, dot_at, ends_text, escaped_byte, circle_head, closer, closer_text, east_label, west_label, fault_text, faults_part}
+use Rattle.tigertopo_pictures.specs.Svg.Texts.{pair_text, move_text, start_text, stroke_text, dot_text, dot_at, ends_text, fault_text, faults_part}
 
 -- the command that goes to a place
 pub move_parts : (s : Spot) (x y : ℤ) → x ≡ s.x → y ≡ s.y → pair_text (codes "M") x y ≡ move_text s
@@ -36,12 +36,6 @@ pub no_dot : (f : Frame) (p : Point) → is_inside f p ≡ false → [] ≡ dot_
 unfolding dot_text
 no_dot f p outside = rw outside refl
 
--- the beginning of a circle that is put together
-pub circle_parts : (s : Spot) (x y : ℤ) (one two three : List ℕ) → one ≡ codes "<circle cx=\"" ++ signed_decimal x → two ≡ one ++ codes "\" cy=\"" ++ signed_decimal y
-    → three ≡ two ++ codes "\" r=\"60\"><title>" → x ≡ s.x → y ≡ s.y → three ≡ circle_head s
-unfolding circle_head
-circle_parts s x y one two three first second third east south = rw (third, second, first, east, south) refl
-
 -- the dot at a point of a chain
 dot_here : (f : Frame) (points : List Point) (i : ℕ) (d : Point) → i < length points → dot_at f points i ≡ dot_text f (get_or points i d)
 dot_here f points i d within = ap (λ o. option_map_or (dot_text f) o []) (slice_get-get_or points i d within)
@@ -57,22 +51,6 @@ ends_parts f strokes points d e shown some =
 pub no_ends : (f : Frame) (strokes : List Stroke) (points : List Point) → not (length strokes == 0) ≡ false → [] ≡ ends_text f (record { strokes = strokes; points = points })
 no_ends f strokes points none = sym (ap (λ b. if b then dot_at f points 0 ++ dot_at f points (length points - 1) else []) none)
 
--- what to type for a place, and the beginning of a label, that are put together
-pub closer_parts : (f : Frame) (p : Point) (x y : ℤ) (w : ℕ) (one two three four : List ℕ) → one ≡ codes "\n--at @" ++ signed_decimal x → two ≡ one ++ codes "," ++ signed_decimal y
-    → three ≡ two ++ codes " --width " ++ decimal w → four ≡ three ++ codes "</title></circle>" → x ≡ p.x → y ≡ p.y → w ≡ closer f → four ≡ closer_text f p
-unfolding closer_text
-closer_parts f p x y w one two three four first second third fourth east north wide = rw (fourth, third, second, first, east, north, wide) refl
-
-pub east_parts : (s : Spot) (x y : ℤ) (one two three : List ℕ) → one ≡ codes "<text class=\"code\" x=\"" ++ signed_decimal x → two ≡ one ++ codes "\" y=\"" ++ signed_decimal y
-    → three ≡ two ++ codes "\">" → x ≡ s.x +ℤ pos 80 → y ≡ s.y +ℤ pos 45 → three ≡ east_label s
-unfolding east_label
-east_parts s x y one two three first second third east south = rw (third, second, first, east, south) refl
-
-pub west_parts : (s : Spot) (x y : ℤ) (one two three : List ℕ) → one ≡ codes "<text class=\"code\" text-anchor=\"end\" x=\"" ++ signed_decimal x → two ≡ one ++ codes "\" y=\"" ++ signed_decimal y
-    → three ≡ two ++ codes "\">" → x ≡ s.x -ℤ pos 80 → y ≡ s.y +ℤ pos 45 → three ≡ west_label s
-unfolding west_label
-west_parts s x y one two three first second third west south = rw (third, second, first, west, south) refl
-
 -- the circle of a fault before those of the faults behind it
 pub faults_next : (f : Frame) (faults : List MapFault) (places : List (Option Rational)) (n : ℕ) (fault : MapFault) (place : Option Rational)
     → slice_get faults n ≡ Some fault → slice_get places n ≡ Some place
@@ -86,12 +64,3 @@ pub faults_end : (f : Frame) (faults : List MapFault) (places : List (Option Rat
 unfolding faults_part
 faults_end f faults places n past =
     ap (λ xs. flat_map (λ (it : MapFault × Option Rational). fault_text f it.0 it.1) (zip xs (drop n places))) (drop_all n faults past)
-
--- a byte more that stands in the file as it is
-pub plain_more : (text : List ℕ) (i d : ℕ) → i < length text → escaped_byte (get_or text i d) ≡ get_or text i d ∷ [] → flat_map escaped_byte (drop (i + 1) text) ≡ drop (i + 1) text
-    → flat_map escaped_byte (drop i text) ≡ drop i text
-plain_more text i d within plain same =
-    flat_next escaped_byte text i d within ∙ ap₂ (λ a b. a ++ b) plain same ∙ sym (drop_more text i d within)
-
-pub plain_end : (text : List ℕ) (i : ℕ) → length text ≤ i → flat_map escaped_byte (drop i text) ≡ drop i text
-plain_end text i past = flat_end escaped_byte text i past ∙ sym (drop_all i text past)

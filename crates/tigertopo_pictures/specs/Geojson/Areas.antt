@@ -1,6 +1,5 @@
 -- The area of a polygon, twice.
-use Rattle.std.specs.Prelude.{◌≡◌, ◌<◌, ◌^◌, slice_index_or, ℕ, zero, suc, ◌+◌, ◌-◌, ◌*◌, ◌/◌, ◌%◌, ◌==◌, if◌then◌else◌, List, [], ◌∷◌, ◌++◌, length, slice_get, Option, Some, None, ℤ, pos, ◌+ℤ◌, unsigned_abs, int_lt, Bool, not, codes, decimal}
-use Rattle.std.specs.Option.{option_map_or}
+use Rattle.std.specs.Prelude.{◌≡◌, ◌<◌, ◌^◌, slice_index_or, ℕ, zero, suc, ◌+◌, ◌-◌, ◌*◌, ◌/◌, ◌%◌, ◌==◌, if◌then◌else◌, List, [], ◌++◌, length, slice_get, Option, Some, None, ℤ, pos, ◌+ℤ◌, unsigned_abs, int_lt, Bool, not, codes, decimal}
 use Rattle.tl_geom.specs.declared.point.Point.{Point}
 use Rattle.tl_geom.specs.Plane.{cross}
 use Rattle.tl_map_county.specs.declared.sides.Side.{Side}

@@ -12,7 +12,7 @@ use Rattle.tl_map_county.specs.Darts.{dart_start}
 use Rattle.tl_check_sides.specs.Lists.{list_at}
 use Rattle.tigertopo_pictures.specs.Groups.{places, Linked, AreGroups}
 use Rattle.tigertopo_pictures.specs.Geojson.Areas.{sum_below, dart_sum}
-use Rattle.tigertopo_pictures.specs.Walks.{dart_points, polygon_on, walk_polygon}
+use Rattle.tigertopo_pictures.specs.Walks.{dart_points, walk_polygon}
 
 -- twice the area of a ring: the sum over the steps of its darts
 abbrev pub ring_area : List MapChain → List ℕ → ℤ

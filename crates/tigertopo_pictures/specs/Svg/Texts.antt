@@ -1,5 +1,5 @@
 -- The text of a picture.
-use Rattle.std.specs.Prelude.{ℕ, ◌+◌, ◌*◌, ◌/◌, max, ◌==◌, nat_le, Bool, int_lt, ℤ, pos, ◌+ℤ◌, ◌-ℤ◌, if◌then◌else◌, not, List, [], ◌∷◌, ◌++◌, codes, decimal, Option, take, drop, flat_map, zip, slice_get, length, ◌-◌}
+use Rattle.std.specs.Prelude.{ℕ, ◌+◌, ◌*◌, ◌/◌, max, ◌==◌, nat_le, Bool, int_lt, ℤ, pos, ◌+ℤ◌, ◌-ℤ◌, if◌then◌else◌, not, List, [], ◌∷◌, ◌++◌, codes, decimal, Option, flat_map, zip, slice_get, length, ◌-◌}
 use Rattle.std.specs.Option.{option_map_or}
 use Rattle.std.specs.Fmt.{signed_decimal}
 use Rattle.tl_geom.specs.declared.point.Point.{Point}
@@ -7,7 +7,8 @@ use Rattle.tl_geom.specs.declared.rational.Rational.{Rational}
 use Rattle.tl_map_county.specs.declared.polygons.Polygon.{Polygon}
 use Rattle.tl_map_county.specs.TheMap.{TheMap}
 use Rattle.tl_check_verdict.specs.declared.fault.MapFault.{MapFault}
-use Rattle.tl_check_verdict.specs.Messages.{map_fault_text}
+use Rattle.tl_check_verdict.specs.Rows.{row}
+use Rattle.tl_check_verdict.specs.Messages.{row_text}
 use Rattle.tigertopo_pictures.specs.declared.svg.frame.Frame.{Frame}
 use Rattle.tigertopo_pictures.specs.declared.svg.frame.Spot.{Spot}
 use Rattle.tigertopo_pictures.specs.declared.svg.walk.Stroke.{Stroke}
@@ -61,17 +62,9 @@ escaped_byte b =
     else if b == 62 then codes "&gt;"
     else b ∷ []
 
--- what is printed of a fault without the words `map fault `
-abbrev pub said_of : MapFault → List ℕ
-said_of fault = drop 10 (map_fault_text fault)
-
--- the same, as it stands in the file
+-- what is said of a fault, as it stands in the file
 abbrev pub title_text : MapFault → List ℕ
-title_text fault = flat_map escaped_byte (said_of fault)
-
--- the fault's code, its first two letters
-abbrev pub code_text : MapFault → List ℕ
-code_text fault = take 2 (said_of fault)
+title_text fault = flat_map escaped_byte (row_text (row fault))
 
 -- how the circle of a fault at a place begins
 unfoldable pub circle_head : Spot → List ℕ
@@ -104,7 +97,7 @@ label_head f s = if is_eastern f s then west_label s else east_label s
 -- the circle of a fault at a place, with what is said of it and its code
 abbrev pub circle_text : Frame → Mark → MapFault → List ℕ
 circle_text f mark fault =
-    circle_head (spot_at f mark.at) ++ title_text fault ++ closer_text f mark.corner ++ label_head f (spot_at f mark.at) ++ code_text fault ++ codes "</text>\n"
+    circle_head (spot_at f mark.at) ++ title_text fault ++ closer_text f mark.corner ++ label_head f (spot_at f mark.at) ++ (row fault).0 ++ codes "</text>\n"
 
 -- the same, where it lies in the picture
 abbrev pub circle_at : Frame → MapFault → Mark → List ℕ

@@ -1,9 +1,7 @@
 //! A county as one FeatureCollection.
 
-ghost use Rattle.std.specs.Prelude.{◌≡◌, ◌+◌, ◌<◌, ◌^◌, ◌++◌, IfOk, length, map as map_list, option_map, count_by, is_some};
+ghost use Rattle.std.specs.Prelude.{◌≡◌, ◌+◌, ◌<◌, ◌^◌, ◌++◌, IfOk, OnOk, OnErr, length, map as map_list, option_map, count_by, is_some};
 ghost use Rattle.tl_check_sides.specs.Walks.{AreWalks};
-ghost use Rattle.tl_cert_output.specs.Printing.{Prints};
-ghost use Rattle.tl_cert_output.specs.Texts.{PrintsText};
 ghost use Rattle.tigertopo_pictures.specs.Geojson.Features.{linked_lands, linked_polygons, collection_opening};
 ghost use Rattle.tigertopo_pictures.specs.Groups.{AreGroups};
 ghost use Rattle.tigertopo_pictures.specs.Geojson.Holes.{AreShapes};
@@ -20,49 +18,47 @@ use crate::groups::Groups;
 use std::alloc::{AllocError, Global};
 use std::marker::Model;
 use tigertopo_words::Layer;
-use tl_cert_output::{Printer, Stop};
+use tl_cert_output::Page;
 use tl_map_county::Map;
-use tl_record::Sink;
 
 /// Prints a county, or one layer of it: each chain with its TLID and its sides, each polygon's point with its key and its landmarks, and
-/// each landmark's point; of each feature its file, if one is told.
-pub fn print_county<S: Sink>(
+/// each landmark's point; of each feature its file, if one is told. The error is that memory was refused, and then nothing is printed.
+pub fn print_county<P: Page>(
     alloc: Global,
     map: &Map,
     layer: Option<Layer>,
     file: Option<&str>,
-    out: &mut S,
-) -> Result<(), Stop>
-    ensures { PrintsText S.contents S.failure_count out.old out.new
-        (county_text (option_map (λ name. name.now) file.entry) layer map.now) result }
+    page: &mut P,
+) -> Result<(), AllocError>
+    ensures adds { OnOk result (P.adds page.old page.new (county_text (option_map (λ name. name.now) file.entry) layer map.now)) }
+    ensures none { OnErr result (page.new ≡ page.old) }
 {
     let links = Links::new(alloc, map)?;
-    let mut printer = Printer::new();
-    print_front(map, layer, file, &links, &mut printer, out);
-    print_last(map, layer, points_of(map, layer), file, &mut printer, out);
-    printer.add(b"\n]}\n", out);
-    printer.finish(out)
+    print_front(map, layer, file, &links, page);
+    print_last(map, layer, points_of(map, layer), file, page);
+    page.add(b"\n]}\n");
+    Ok(())
 }
 
-/// Prints a county, or one layer of it, with the shape of each polygon, whose rings are of these walks, and its area.
-pub fn print_county_with<S: Sink>(
+/// Prints a county, or one layer of it, with the shape of each polygon, whose rings are of these walks, and its area. The error is as above.
+pub fn print_county_with<P: Page>(
     alloc: Global,
     map: &Map,
     layer: Option<Layer>,
     file: Option<&str>,
     walks: &[Vec<u32>],
     shapes: &Shapes,
-    out: &mut S,
-) -> Result<(), Stop>
+    page: &mut P,
+) -> Result<(), AllocError>
     requires walks { AreWalks map.now.chains (map_list (λ w. w.items) walks.now) }
     requires shapes { AreShapes map.now (map_list (λ w. w.items) walks.now) shapes.now }
-    ensures { PrintsText S.contents S.failure_count out.old out.new
-        (county_text_with (option_map (λ name. name.now) file.entry) layer map.now (map_list (λ w. w.items) walks.now)) result }
+    ensures adds { OnOk result (P.adds page.old page.new
+        (county_text_with (option_map (λ name. name.now) file.entry) layer map.now (map_list (λ w. w.items) walks.now))) }
+    ensures none { OnErr result (page.new ≡ page.old) }
 {
     let links = Links::new(alloc, map)?;
     let areas = doubled_areas(alloc, map)?;
-    let mut printer = Printer::new();
-    print_front(map, layer, file, &links, &mut printer, out);
+    print_front(map, layer, file, &links, page);
     let (outers, holes) = (&shapes.outers, &shapes.holes);
     print_boundaries(
         map,
@@ -73,12 +69,11 @@ pub fn print_county_with<S: Sink>(
         outers,
         holes,
         areas.as_slice(),
-        &mut printer,
-        out,
+        page,
     );
-    print_last(map, layer, shapes_of(map, layer), file, &mut printer, out);
-    printer.add(b"\n]}\n", out);
-    printer.finish(out)
+    print_last(map, layer, shapes_of(map, layer), file, page);
+    page.add(b"\n]}\n");
+    Ok(())
 }
 
 // How many chains and polygons' points are written.
@@ -172,44 +167,39 @@ fn count_some(list: &[Option<u32>]) -> u64
 }
 
 // Prints the landmarks' points, before which so many features stand, where they are written.
-fn print_last<S: Sink>(
+fn print_last<P: Page>(
     map: &Map,
     layer: Option<Layer>,
     before: u64,
     file: Option<&str>,
-    printer: &mut Printer,
-    out: &mut S,
+    page: &mut P,
 )
     requires { before < 2 ^ 34 }
-    ensures { Prints S.contents S.failure_count (out.old, printer.old) (out.new, printer.new)
+    ensures { P.adds page.old page.new
         (landmarks_text (option_map (λ name. name.now) file.entry) layer before map.now) }
 {
     if is_shown(layer, Layer::Landmarks) {
-        print_landmarks(map, before, file, printer, out);
+        print_landmarks(map, before, file, page);
     }
 }
 
 // Prints how a county begins: all but the boundaries and the end.
-fn print_front<S: Sink>(
+fn print_front<P: Page>(
     map: &Map,
     layer: Option<Layer>,
     file: Option<&str>,
     links: &Links,
-    printer: &mut Printer,
-    out: &mut S,
+    page: &mut P,
 )
     requires lands { links.now.lands.items ≡ linked_lands map.now.landmarks }
     requires polygons { AreGroups (length map.now.polygons) (linked_polygons map.now.landmarks) links.now.polygons }
-    ensures { Prints S.contents S.failure_count (out.old, printer.old) (out.new, printer.new)
+    ensures { P.adds page.old page.new
         (collection_opening ++ chains_and_points (option_map (λ name. name.now) file.entry) layer map.now) }
 {
-    printer.add(
-        b"{\"type\":\"FeatureCollection\",\"name\":\"tigertopo\",\"features\":[",
-        out,
-    );
+    page.add(b"{\"type\":\"FeatureCollection\",\"name\":\"tigertopo\",\"features\":[");
     let chains = shown(layer, Layer::Chains, map.chains());
     let points = shown(layer, Layer::Points, map.polygons());
-    print_chains(map, chains, file, printer, out);
+    print_chains(map, chains, file, page);
     print_polygons(
         map,
         chains,
@@ -217,7 +207,6 @@ fn print_front<S: Sink>(
         file,
         links.lands.as_slice(),
         &links.polygons,
-        printer,
-        out,
+        page,
     );
 }

@@ -1,13 +1,11 @@
 //! Areas in square metres.
 
 ghost use Rattle.std.specs.Prelude.{◌≡◌, ◌*◌, ◌+◌, ◌/◌, ◌<◌, ◌≤◌, ◌^◌, unsigned_abs};
-ghost use Rattle.tl_cert_output.specs.Printing.{Prints};
 ghost use Rattle.tigertopo_pictures.specs.Geojson.Metres.{part_of, squared, cosine, north, east, square_degree, distance, metres, has_sign, metres_text};
 
 use crate::geojson::positions::sign;
-use tl_cert_output::Printer;
+use tl_cert_output::Page;
 use tl_geom::Point;
-use tl_record::Sink;
 
 // Of how many parts shares are.
 const UNIT: u64 = 1_000_000_000;
@@ -16,13 +14,13 @@ const UNIT: u64 = 1_000_000_000;
 const TWO: u128 = 20_000_000_000_000_000;
 
 /// Prints an area in square metres, as a whole number, of which this is twice the size in square millionths of a degree, about this point.
-pub fn print_metres<S: Sink>(doubled: i128, about: Point, printer: &mut Printer, out: &mut S)
+pub fn print_metres<P: Page>(doubled: i128, about: Point, page: &mut P)
     requires { unsigned_abs doubled < 2 ^ 127 }
-    ensures { Prints S.contents S.failure_count (out.old, printer.old) (out.new, printer.new) (metres_text doubled about.y) }
+    ensures { P.adds page.old page.new (metres_text doubled about.y) }
 {
     let whole = metres(doubled.unsigned_abs(), about);
-    printer.add(sign(has_sign(doubled, whole)), out);
-    printer.number(whole, out);
+    page.add(sign(has_sign(doubled, whole)));
+    page.number(whole);
 }
 
 // Whether an area is told with a sign: it is below 0, and isn't told as 0.

@@ -2,7 +2,6 @@
 
 ghost use Rattle.std.specs.Prelude.{◌≡◌, ◌+◌, ◌<◌, ◌≤◌, ◌++◌, option_map, [], ◌∷◌};
 ghost use Rattle.std.specs.Prelude.{IfOk, OnOk, Some, length};
-ghost use Rattle.tl_cert_output.specs.Printing.{Prints};
 ghost use Rattle.std.specs.List.{flat_map};
 ghost use Rattle.tigertopo_pictures.specs.Groups.{AreGroups};
 ghost use Rattle.tigertopo_pictures.specs.Geojson.Features.{features_below, linked_lands, linked_polygons, polygon_feature};
@@ -13,9 +12,8 @@ use crate::geojson::strings::print_key_members;
 use crate::groups::Groups;
 use crate::items::{Items, print_separated};
 use std::alloc::{AllocError, Global};
-use tl_cert_output::Printer;
+use tl_cert_output::Page;
 use tl_map_county::{Landmark, Map};
-use tl_record::Sink;
 
 /// Of each link of a landmark with a polygon the LAND, and the polygon.
 pub fn list_links(alloc: Global, map: &Map) -> Result<(Vec<u64>, Vec<Option<u32>>), AllocError>
@@ -47,59 +45,54 @@ fn add_links(
 }
 
 /// Prints the first so many polygons of a map, before which so many features stand: their points, keys and landmarks.
-pub fn print_polygons<S: Sink>(
+pub fn print_polygons<P: Page>(
     map: &Map,
     before: u32,
     count: u32,
     file: Option<&str>,
     lands: &[u64],
     links: &Groups,
-    printer: &mut Printer,
-    out: &mut S,
+    page: &mut P,
 )
     requires count { count ≤ length map.now.polygons }
     requires lands { lands.now ≡ linked_lands map.now.landmarks }
     requires links { AreGroups (length map.now.polygons) (linked_polygons map.now.landmarks) links.now }
     requires beside { length lands.now ≡ length links.now.next }
-    ensures { Prints S.contents S.failure_count (out.old, printer.old) (out.new, printer.new)
+    ensures { P.adds page.old page.new
         (features_below before (polygon_feature (option_map (λ name. name.now) file.entry) map.now) count) }
 {
     for number in 0..count {
-        print_lead(u64::from(before) + u64::from(number), printer, out);
-        print_polygon(map, number, file, lands, links, printer, out);
+        print_lead(u64::from(before) + u64::from(number), page);
+        print_polygon(map, number, file, lands, links, page);
     }
 }
 
 // Prints the polygon of this number.
-fn print_polygon<S: Sink>(
+fn print_polygon<P: Page>(
     map: &Map,
     number: u32,
     file: Option<&str>,
     lands: &[u64],
     links: &Groups,
-    printer: &mut Printer,
-    out: &mut S,
+    page: &mut P,
 )
     requires number { number < length map.now.polygons }
     requires lands { lands.now ≡ linked_lands map.now.landmarks }
     requires links { AreGroups (length map.now.polygons) (linked_polygons map.now.landmarks) links.now }
     requires beside { length lands.now ≡ length links.now.next }
-    ensures { Prints S.contents S.failure_count (out.old, printer.old) (out.new, printer.new)
+    ensures { P.adds page.old page.new
         (polygon_feature (option_map (λ name. name.now) file.entry) map.now number) }
 {
     let polygon = map.polygon(number);
-    printer.add(
-        b"{\"type\":\"Feature\",\"geometry\":{\"type\":\"Point\",\"coordinates\":",
-        out,
-    );
-    print_position(polygon.point, printer, out);
-    printer.add(b"},\"properties\":{", out);
-    print_key_members(polygon.key, printer, out);
-    printer.add(b",\"landmarks\":[", out);
-    print_separated(&Lands { lands }, links, number, printer, out);
-    printer.add(b"]", out);
-    print_file(file, printer, out);
-    printer.add(b"}}", out);
+    page.add(b"{\"type\":\"Feature\",\"geometry\":{\"type\":\"Point\",\"coordinates\":");
+    print_position(polygon.point, page);
+    page.add(b"},\"properties\":{");
+    print_key_members(polygon.key, page);
+    page.add(b",\"landmarks\":[");
+    print_separated(&Lands { lands }, links, number, page);
+    page.add(b"]");
+    print_file(file, page);
+    page.add(b"}}");
 }
 
 // The LANDs of links.
@@ -115,7 +108,7 @@ impl Items for Lands<'_> {
 
     ghost has = { λ links n. n < length links.lands.now };
 
-    fn print<S: Sink>(&self, number: usize, printer: &mut Printer, out: &mut S) {
-        printer.number(self.lands[number], out);
+    fn print<P: Page>(&self, number: usize, page: &mut P) {
+        page.number(self.lands[number]);
     }
 }

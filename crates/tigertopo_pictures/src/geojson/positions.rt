@@ -1,13 +1,11 @@
 //! Positions: longitude and latitude in degrees.
 
 ghost use Rattle.std.specs.Prelude.{◌≡◌, ◌+◌, ◌<◌, length};
-ghost use Rattle.tl_cert_output.specs.Printing.{Prints};
 ghost use Rattle.tigertopo_pictures.specs.Geojson.Positions.{sign_text, six_digits, degrees_text, position_text, positions_text};
 
 use crate::rings::{Pen, print_line};
-use tl_cert_output::Printer;
+use tl_cert_output::Page;
 use tl_geom::Point;
-use tl_record::Sink;
 
 /// The pen of GeoJSON, which writes positions with a comma between two.
 #[derive(Clone, Copy)]
@@ -18,45 +16,45 @@ impl Pen for Positions {
 
     ghost pen = { λ positions. positions_pen };
 
-    fn start<S: Sink>(&self, at: Point, printer: &mut Printer, out: &mut S) {
-        print_position(at, printer, out);
+    fn start<P: Page>(&self, at: Point, page: &mut P) {
+        print_position(at, page);
     }
 
-    fn step<S: Sink>(&self, _from: Point, to: Point, printer: &mut Printer, out: &mut S) {
-        printer.add(b",", out);
-        print_position(to, printer, out);
+    fn step<P: Page>(&self, _from: Point, to: Point, page: &mut P) {
+        page.add(b",");
+        print_position(to, page);
     }
 }
 
 /// Prints positions with a comma between two.
-pub fn print_positions<S: Sink>(points: &[Point], printer: &mut Printer, out: &mut S)
+pub fn print_positions<P: Page>(points: &[Point], page: &mut P)
     requires { 0 < length points.now }
-    ensures { Prints S.contents S.failure_count (out.old, printer.old) (out.new, printer.new) (positions_text points.now) }
+    ensures { P.adds page.old page.new (positions_text points.now) }
 {
-    print_position(points[0], printer, out);
-    print_line(&Positions, points, true, printer, out);
+    print_position(points[0], page);
+    print_line(&Positions, points, true, page);
 }
 
 /// Prints a position.
-pub fn print_position<S: Sink>(point: Point, printer: &mut Printer, out: &mut S)
-    ensures { Prints S.contents S.failure_count (out.old, printer.old) (out.new, printer.new) (position_text point) }
+pub fn print_position<P: Page>(point: Point, page: &mut P)
+    ensures { P.adds page.old page.new (position_text point) }
 {
-    printer.add(b"[", out);
-    print_degrees(point.x, printer, out);
-    printer.add(b",", out);
-    print_degrees(point.y, printer, out);
-    printer.add(b"]", out);
+    page.add(b"[");
+    print_degrees(point.x, page);
+    page.add(b",");
+    print_degrees(point.y, page);
+    page.add(b"]");
 }
 
 // Prints a number of millionths of a degree in degrees.
-fn print_degrees<S: Sink>(millionths: i32, printer: &mut Printer, out: &mut S)
-    ensures { Prints S.contents S.failure_count (out.old, printer.old) (out.new, printer.new) (degrees_text millionths) }
+fn print_degrees<P: Page>(millionths: i32, page: &mut P)
+    ensures { P.adds page.old page.new (degrees_text millionths) }
 {
     let size = millionths.unsigned_abs();
-    printer.add(sign(millionths < 0), out);
-    printer.number(size / 1_000_000, out);
-    printer.add(b".", out);
-    printer.add(&places(size % 1_000_000), out);
+    page.add(sign(millionths < 0));
+    page.number(size / 1_000_000);
+    page.add(b".");
+    page.add(&places(size % 1_000_000));
 }
 
 /// The sign of a number that is below 0 or isn't.

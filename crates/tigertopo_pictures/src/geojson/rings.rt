@@ -3,7 +3,6 @@
 ghost use Rattle.std.specs.Prelude.{◌≡◌, ◌+◌, ◌*◌, ◌<◌, ◌≤◌, ◌^◌, ◌++◌};
 ghost use Rattle.std.specs.Prelude.{option_map, ℕ, List, length, map as map_list, slice_index};
 ghost use Rattle.tl_check_sides.specs.Walks.{AreWalks};
-ghost use Rattle.tl_cert_output.specs.Printing.{Prints};
 ghost use Rattle.tigertopo_pictures.specs.Groups.{GoesThrough, AreGroups};
 ghost use Rattle.tigertopo_pictures.specs.Geojson.Areas.{AreAreas, half_part, half_text};
 ghost use Rattle.tigertopo_pictures.specs.Geojson.Features.{features_below};
@@ -18,13 +17,12 @@ use crate::geojson::strings::print_key_members;
 use crate::groups::Groups;
 use crate::items::{Items, print_items, print_separated};
 use crate::rings::Rings;
-use tl_cert_output::Printer;
+use tl_cert_output::Page;
 use tl_map_county::Map;
-use tl_record::Sink;
 
 /// Prints the first so many of a map's polygons, before which so many features stand. `outers` are the outer rings of each, and
 /// `holes` the holes of each ring.
-pub fn print_boundaries<S: Sink>(
+pub fn print_boundaries<P: Page>(
     map: &Map,
     before: u64,
     count: u32,
@@ -33,8 +31,7 @@ pub fn print_boundaries<S: Sink>(
     outers: &Groups,
     holes: &Groups,
     areas: &[i128],
-    printer: &mut Printer,
-    out: &mut S,
+    page: &mut P,
 )
     requires before { before < 2 ^ 33 }
     requires count { count ≤ length map.now.polygons }
@@ -44,17 +41,17 @@ pub fn print_boundaries<S: Sink>(
     requires holes { AreGroups (length walks.now)
         (map_list (home map.now.chains (map_list (λ w. w.items) walks.now)) (map_list (λ w. w.items) walks.now)) holes.now }
     requires areas { AreAreas map.now areas.now }
-    ensures { Prints S.contents S.failure_count (out.old, printer.old) (out.new, printer.new)
+    ensures { P.adds page.old page.new
         (features_below before (boundary_feature (option_map (λ name. name.now) file.entry) map.now (map_list (λ w. w.items) walks.now)) count) }
 {
     for number in 0..count {
-        print_lead(before + u64::from(number), printer, out);
-        print_boundary(map, number, file, walks, outers, holes, areas, printer, out);
+        print_lead(before + u64::from(number), page);
+        print_boundary(map, number, file, walks, outers, holes, areas, page);
     }
 }
 
 // Prints the polygon of this number.
-fn print_boundary<S: Sink>(
+fn print_boundary<P: Page>(
     map: &Map,
     number: u32,
     file: Option<&str>,
@@ -62,8 +59,7 @@ fn print_boundary<S: Sink>(
     outers: &Groups,
     holes: &Groups,
     areas: &[i128],
-    printer: &mut Printer,
-    out: &mut S,
+    page: &mut P,
 )
     requires number { number < length map.now.polygons }
     requires walks { AreWalks map.now.chains (map_list (λ w. w.items) walks.now) }
@@ -72,31 +68,30 @@ fn print_boundary<S: Sink>(
     requires holes { AreGroups (length walks.now)
         (map_list (home map.now.chains (map_list (λ w. w.items) walks.now)) (map_list (λ w. w.items) walks.now)) holes.now }
     requires areas { AreAreas map.now areas.now }
-    ensures { Prints S.contents S.failure_count (out.old, printer.old) (out.new, printer.new)
+    ensures { P.adds page.old page.new
         (boundary_feature (option_map (λ name. name.now) file.entry) map.now (map_list (λ w. w.items) walks.now) number) }
 {
     let polygon = map.polygon(number);
-    printer.add(b"{\"type\":\"Feature\",\"geometry\":", out);
-    print_shape(map, walks, outers, holes, number, printer, out);
-    printer.add(b",\"properties\":{", out);
-    print_key_members(polygon.key, printer, out);
-    printer.add(b",\"area\":\"", out);
-    print_half(areas[number as usize], printer, out);
-    printer.add(b"\",\"square_metres_rounded\":", out);
-    print_metres(areas[number as usize], polygon.point, printer, out);
-    print_file(file, printer, out);
-    printer.add(b"}}", out);
+    page.add(b"{\"type\":\"Feature\",\"geometry\":");
+    print_shape(map, walks, outers, holes, number, page);
+    page.add(b",\"properties\":{");
+    print_key_members(polygon.key, page);
+    page.add(b",\"area\":\"");
+    print_half(areas[number as usize], page);
+    page.add(b"\",\"square_metres_rounded\":");
+    print_metres(areas[number as usize], polygon.point, page);
+    print_file(file, page);
+    page.add(b"}}");
 }
 
 // Prints the shape of a polygon.
-fn print_shape<S: Sink>(
+fn print_shape<P: Page>(
     map: &Map,
     walks: &[Vec<u32>],
     outers: &Groups,
     holes: &Groups,
     polygon: u32,
-    printer: &mut Printer,
-    out: &mut S,
+    page: &mut P,
 )
     requires walks { AreWalks map.now.chains (map_list (λ w. w.items) walks.now) }
     requires holes { AreGroups (length walks.now)
@@ -104,7 +99,7 @@ fn print_shape<S: Sink>(
     requires polygon { polygon < length outers.now.first }
     requires beside { length walks.now ≡ length outers.now.next }
     ensures { (ns : List ℕ) → GoesThrough outers.now.next (slice_index outers.now.first polygon) ns →
-        Prints S.contents S.failure_count (out.old, printer.old) (out.new, printer.new)
+        P.adds page.old page.new
         (shape_text map.now.chains (map_list (λ w. w.items) walks.now) ns) }
 {
     let is_one = outers.has_one(polygon);
@@ -113,9 +108,9 @@ fn print_shape<S: Sink>(
         rings: Rings { pen, map, walks },
         holes,
     };
-    printer.add(opening(is_one), out);
-    print_separated(&parts, outers, polygon, printer, out);
-    printer.add(closing(is_one), out);
+    page.add(opening(is_one));
+    print_separated(&parts, outers, polygon, page);
+    page.add(closing(is_one));
 }
 
 // How a shape begins.
@@ -158,26 +153,26 @@ impl Items for Parts<'_> {
         × AreGroups (length parts.rings.walks.now) (map_list (home parts.rings.map.now.chains walks) walks) parts.holes.now
         × (n < length parts.rings.walks.now) };
 
-    fn print<S: Sink>(&self, number: usize, printer: &mut Printer, out: &mut S) {
+    fn print<P: Page>(&self, number: usize, page: &mut P) {
         // So walks are fewer than 2^32.
         let _darts = self.rings.map.darts();
-        printer.add(b"[[", out);
-        self.rings.print(number, printer, out);
-        printer.add(b"]", out);
+        page.add(b"[[");
+        self.rings.print(number, page);
+        page.add(b"]");
         let first = self.holes.first(number as u32);
-        print_items(&self.rings, b",[", b"]", self.holes, first, printer, out);
-        printer.add(b"]", out);
+        print_items(&self.rings, b",[", b"]", self.holes, first, page);
+        page.add(b"]");
     }
 }
 
 // Prints half of a number.
-fn print_half<S: Sink>(doubled: i128, printer: &mut Printer, out: &mut S)
-    ensures { Prints S.contents S.failure_count (out.old, printer.old) (out.new, printer.new) (half_text doubled) }
+fn print_half<P: Page>(doubled: i128, page: &mut P)
+    ensures { P.adds page.old page.new (half_text doubled) }
 {
     let size = doubled.unsigned_abs();
-    printer.add(sign(doubled < 0), out);
-    printer.number(size / 2, out);
-    printer.add(point_five(size % 2 != 0), out);
+    page.add(sign(doubled < 0));
+    page.number(size / 2);
+    page.add(point_five(size % 2 != 0));
 }
 
 // What stands behind a number that is half an odd one.

@@ -1,11 +1,10 @@
 //! Counties as texts that are printed.
 
 use crate::geojson::county::{Shapes, print_county, print_county_with};
-use std::alloc::Global;
+use std::alloc::{AllocError, Global};
 use tigertopo_words::Layer;
-use tl_cert_output::{Stop, Text};
+use tl_cert_output::{Page, Text};
 use tl_map_county::Map;
-use tl_record::Sink;
 
 /// A county's chains and its polygons' points, or one layer of it; on each feature its file, if one is told.
 #[derive(Clone, Copy)]
@@ -23,8 +22,8 @@ impl Text for CountyText<'_> {
 
     ghost is_ready = { λ county. ⊤ };
 
-    fn print<S: Sink>(&self, alloc: Global, out: &mut S) -> Result<(), Stop> {
-        print_county(alloc, self.map, self.layer, self.file, out)
+    fn add_to<P: Page>(&self, alloc: Global, page: &mut P) -> Result<(), AllocError> {
+        print_county(alloc, self.map, self.layer, self.file, page)
     }
 }
 
@@ -50,7 +49,7 @@ impl Text for CountyTextWith<'_> {
     ghost is_ready = { λ county. AreWalks county.map.now.chains (map_list (λ w. w.items) county.walks.now)
         × AreShapes county.map.now (map_list (λ w. w.items) county.walks.now) county.shapes.now };
 
-    fn print<S: Sink>(&self, alloc: Global, out: &mut S) -> Result<(), Stop> {
+    fn add_to<P: Page>(&self, alloc: Global, page: &mut P) -> Result<(), AllocError> {
         print_county_with(
             alloc,
             self.map,
@@ -58,7 +57,7 @@ impl Text for CountyTextWith<'_> {
             self.file,
             self.walks,
             self.shapes,
-            out,
+            page,
         )
     }
 }

@@ -2,12 +2,11 @@
 
 ghost use Rattle.std.specs.Prelude.{◌≡◌, ◌<◌, ◌*◌, ℕ, List, length, map as map_list, option_map, slice_index, IfSome};
 ghost use Rattle.tl_check_sides.specs.Walks.{AreWalks};
-ghost use Rattle.tl_cert_output.specs.Printing.{Prints};
 ghost use Rattle.tigertopo_pictures.specs.Groups.{GoesThrough};
 ghost use Rattle.tigertopo_pictures.specs.Svg.Frames.{no_points};
 ghost use Rattle.tigertopo_pictures.specs.Svg.Colours.{hue};
 ghost use Rattle.tigertopo_pictures.specs.Svg.Fills.{AreFillsOf, rings_of, around_dart, around_darts, around_walks, is_filled};
-ghost use Rattle.tigertopo_pictures.specs.Svg.Fills.{is_spot, step_text, fill_head, fill_text, polygon_fill, fills_below};
+ghost use Rattle.tigertopo_pictures.specs.Svg.Fills.{is_spot, step_text, fill_text, polygon_fill, fills_below};
 ghost use Rattle.tigertopo_pictures.specs.Svg.Fills.{all_fills, fills_part};
 
 use crate::groups::Groups;
@@ -17,71 +16,51 @@ use crate::svg::bounds::around;
 use crate::svg::fills::Fills;
 use crate::svg::frame::{Frame, Spot};
 use crate::svg::pairs::{print_move, print_pair};
-use crate::svg::text::fill_head;
+use crate::svg::text::print_fill_head;
 use crate::walks::walk_at;
-use tl_cert_output::Printer;
+use tl_cert_output::Page;
 use tl_geom::{Point, Rect};
 use tl_map_county::Map;
-use tl_record::Sink;
 
 /// Prints the polygons of a map, filled, where there is something to fill them by.
-pub fn print_fills<S: Sink>(
-    map: &Map,
-    frame: Frame,
-    fills: Option<&Fills>,
-    printer: &mut Printer,
-    out: &mut S,
-)
+pub fn print_fills<P: Page>(map: &Map, frame: Frame, fills: Option<&Fills>, page: &mut P)
     requires { IfSome fills (λ f. AreFillsOf map.now f.now) }
-    ensures { Prints S.contents S.failure_count (out.old, printer.old) (out.new, printer.new)
+    ensures { P.adds page.old page.new
         (fills_part frame map.now (option_map (λ f. f.now.filling) fills.entry)) }
 {
     match fills {
-        Some(fills) => print_all(map, frame, fills, printer, out),
+        Some(fills) => print_all(map, frame, fills, page),
         None => {}
     }
 }
 
 // Prints them.
-fn print_all<S: Sink>(map: &Map, frame: Frame, fills: &Fills, printer: &mut Printer, out: &mut S)
+fn print_all<P: Page>(map: &Map, frame: Frame, fills: &Fills, page: &mut P)
     requires { AreFillsOf map.now fills.now }
-    ensures { Prints S.contents S.failure_count (out.old, printer.old) (out.new, printer.new)
+    ensures { P.adds page.old page.new
         (all_fills frame map.now fills.now.filling) }
 {
-    printer.add(b"<g class=\"polygons\">\n", out);
-    print_polygons(map, frame, fills, printer, out);
-    printer.add(b"</g>\n", out);
+    page.add(b"<g class=\"polygons\">\n");
+    print_polygons(map, frame, fills, page);
+    page.add(b"</g>\n");
 }
 
 // Prints one after the other.
-fn print_polygons<S: Sink>(
-    map: &Map,
-    frame: Frame,
-    fills: &Fills,
-    printer: &mut Printer,
-    out: &mut S,
-)
+fn print_polygons<P: Page>(map: &Map, frame: Frame, fills: &Fills, page: &mut P)
     requires { AreFillsOf map.now fills.now }
-    ensures { Prints S.contents S.failure_count (out.old, printer.old) (out.new, printer.new)
+    ensures { P.adds page.old page.new
         (fills_below frame map.now.chains fills.now.filling (length map.now.polygons)) }
 {
     for polygon in 0..map.polygons() {
-        print_polygon(map, frame, fills, polygon, printer, out);
+        print_polygon(map, frame, fills, polygon, page);
     }
 }
 
 // Prints a polygon, where it is filled.
-fn print_polygon<S: Sink>(
-    map: &Map,
-    frame: Frame,
-    fills: &Fills,
-    polygon: u32,
-    printer: &mut Printer,
-    out: &mut S,
-)
+fn print_polygon<P: Page>(map: &Map, frame: Frame, fills: &Fills, polygon: u32, page: &mut P)
     requires fills { AreFillsOf map.now fills.now }
     requires polygon { polygon < length map.now.polygons }
-    ensures { Prints S.contents S.failure_count (out.old, printer.old) (out.new, printer.new)
+    ensures { P.adds page.old page.new
         (polygon_fill frame map.now.chains fills.now.filling polygon) }
 {
     let first = fills.rings().first(polygon);
@@ -94,8 +73,7 @@ fn print_polygon<S: Sink>(
             fills.rings(),
             first,
             fills.colour(polygon),
-            printer,
-            out,
+            page,
         );
     }
 }
@@ -144,28 +122,26 @@ fn around_dart(map: &Map, rect: Rect, dart: u32) -> Rect
 }
 
 // Prints rings, from this one on, filled with a colour.
-fn print_fill<S: Sink>(
+fn print_fill<P: Page>(
     map: &Map,
     frame: Frame,
     walks: &[Vec<u32>],
     rings: &Groups,
     start: usize,
     colour: u32,
-    printer: &mut Printer,
-    out: &mut S,
+    page: &mut P,
 )
     requires walks { AreWalks map.now.chains (map_list (λ w. w.items) walks.now) }
     requires beside { length walks.now ≡ length rings.now.next }
     ensures { (ns : List ℕ) → GoesThrough rings.now.next start ns →
-        Prints S.contents S.failure_count (out.old, printer.old) (out.new, printer.new)
+        P.adds page.old page.new
         (fill_text frame map.now.chains (map_list (λ w. w.items) walks.now) colour ns) }
 {
-    let head = fill_head(colour);
-    printer.add(head.as_str().as_bytes(), out);
+    print_fill_head(colour, page);
     let pen = frame;
     let items = Rings { pen, map, walks };
-    print_items(&items, b"", b"z", rings, start, printer, out);
-    printer.add(b"\"/>\n", out);
+    print_items(&items, b"", b"z", rings, start, page);
+    page.add(b"\"/>\n");
 }
 
 impl Pen for Frame {
@@ -173,21 +149,21 @@ impl Pen for Frame {
 
     ghost pen = { frame_pen };
 
-    fn start<S: Sink>(&self, at: Point, printer: &mut Printer, out: &mut S) {
-        print_move(self.spot(at), printer, out);
+    fn start<P: Page>(&self, at: Point, page: &mut P) {
+        print_move(self.spot(at), page);
     }
 
-    fn step<S: Sink>(&self, from: Point, to: Point, printer: &mut Printer, out: &mut S) {
-        print_step(self.spot(from), self.spot(to), printer, out);
+    fn step<P: Page>(&self, from: Point, to: Point, page: &mut P) {
+        print_step(self.spot(from), self.spot(to), page);
     }
 }
 
 // Prints the way from one place of the picture to another, if it is another.
-fn print_step<S: Sink>(from: Spot, to: Spot, printer: &mut Printer, out: &mut S)
-    ensures { Prints S.contents S.failure_count (out.old, printer.old) (out.new, printer.new) (step_text from to) }
+fn print_step<P: Page>(from: Spot, to: Spot, page: &mut P)
+    ensures { P.adds page.old page.new (step_text from to) }
 {
     if !is_spot(from, to) {
-        print_pair(b"L", to.x, to.y, printer, out);
+        print_pair(b"L", to.x, to.y, page);
     }
 }
 

@@ -1,15 +1,13 @@
 //! What the lines, dots and circles of a picture mean, and its scale.
 
 ghost use Rattle.std.specs.Prelude.{if◌then◌else◌, []};
-ghost use Rattle.tl_cert_output.specs.Printing.{Prints};
-ghost use Rattle.tigertopo_pictures.specs.Svg.Texts.{chain_key, marks_key, faults_key, scale_part, key_part};
+ghost use Rattle.tigertopo_pictures.specs.Svg.Texts.{chain_key, marks_key, faults_key, key_part};
 
 use crate::svg::frame::Frame;
 use crate::svg::picture::Picture;
-use crate::svg::scale::scale_text;
-use tl_cert_output::Printer;
+use crate::svg::scale::print_scale;
+use tl_cert_output::Page;
 use tl_check_verdict::MapFault;
-use tl_record::Sink;
 
 const CHAIN_KEY: &[u8] =
     b"<rect x=\"-100\" y=\"-600\" width=\"100%\" height=\"500\" fill=\"#fff\"/>\n\
@@ -24,47 +22,39 @@ const FAULTS_KEY: &[u8] =
 <text x=\"4560\" y=\"-385\">fault</text>\n";
 
 /// Prints what of these is in the picture, and its scale.
-pub fn print_key<S: Sink>(picture: Picture, faults: &[MapFault], printer: &mut Printer, out: &mut S)
-    ensures { Prints S.contents S.failure_count (out.old, printer.old) (out.new, printer.new)
+pub fn print_key<P: Page>(picture: Picture, faults: &[MapFault], page: &mut P)
+    ensures { P.adds page.old page.new
         (key_part picture faults.now) }
 {
-    print_chain_key(printer, out);
-    print_marks_key(picture.is_marked, printer, out);
-    print_faults_key(!faults.is_empty(), printer, out);
-    print_scale(picture.frame, printer, out);
+    print_chain_key(page);
+    print_marks_key(picture.is_marked, page);
+    print_faults_key(!faults.is_empty(), page);
+    print_scale(picture.frame, page);
 }
 
 // What the line of a chain is.
-fn print_chain_key<S: Sink>(printer: &mut Printer, out: &mut S)
-    ensures { Prints S.contents S.failure_count (out.old, printer.old) (out.new, printer.new) chain_key }
+fn print_chain_key<P: Page>(page: &mut P)
+    ensures { P.adds page.old page.new chain_key }
 {
-    printer.add(CHAIN_KEY, out);
+    page.add(CHAIN_KEY);
 }
 
 // What the dots are, where there are any.
-fn print_marks_key<S: Sink>(is_marked: bool, printer: &mut Printer, out: &mut S)
-    ensures { Prints S.contents S.failure_count (out.old, printer.old) (out.new, printer.new)
+fn print_marks_key<P: Page>(is_marked: bool, page: &mut P)
+    ensures { P.adds page.old page.new
         (if is_marked then marks_key else []) }
 {
     if is_marked {
-        printer.add(MARKS_KEY, out);
+        page.add(MARKS_KEY);
     }
 }
 
 // What the circles are, where there are any.
-fn print_faults_key<S: Sink>(has_faults: bool, printer: &mut Printer, out: &mut S)
-    ensures { Prints S.contents S.failure_count (out.old, printer.old) (out.new, printer.new)
+fn print_faults_key<P: Page>(has_faults: bool, page: &mut P)
+    ensures { P.adds page.old page.new
         (if has_faults then faults_key else []) }
 {
     if has_faults {
-        printer.add(FAULTS_KEY, out);
+        page.add(FAULTS_KEY);
     }
-}
-
-// The scale.
-fn print_scale<S: Sink>(frame: Frame, printer: &mut Printer, out: &mut S)
-    ensures { Prints S.contents S.failure_count (out.old, printer.old) (out.new, printer.new) (scale_part frame) }
-{
-    let text = scale_text(frame);
-    printer.add(text.as_str().as_bytes(), out);
 }

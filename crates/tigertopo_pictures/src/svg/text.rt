@@ -1,39 +1,22 @@
-//! Parts of a picture's text, each put together before it is added to an output.
+//! Parts of a picture's text.
 
-ghost use Rattle.std.specs.Prelude.{◌≡◌, ◌+◌, ◌≤◌, ◌++◌, pos, ◌+ℤ◌, ◌-ℤ◌, length};
-ghost use Rattle.arrayvec.specs.ArrayString.{array_string_len};
+ghost use Rattle.std.specs.Prelude.{◌≡◌, pos, ◌+ℤ◌, ◌-ℤ◌};
 ghost use Rattle.tigertopo_pictures.specs.Svg.Texts.{size_text, circle_head};
 ghost use Rattle.tigertopo_pictures.specs.Svg.Colours.{hue};
 ghost use Rattle.tigertopo_pictures.specs.Svg.Fills.{fill_head};
 ghost use Rattle.tigertopo_pictures.specs.Svg.Texts.{closer, closer_text, is_eastern, west_label, east_label, label_head};
 
 use crate::svg::frame::{Frame, Spot};
-use arrayvec::ArrayString;
-use itoa::{Buffer, Integer};
+use tl_cert_output::Page;
 use tl_geom::Point;
 
-/// More bytes than a part may have.
-pub const PART_ROOM: usize = 512;
-
-/// Adds a word and a number.
-pub fn push_number<I: Integer>(text: &mut ArrayString<PART_ROOM>, word: &str, number: I)
-    requires { array_string_len text.old + length word.now ≤ 470 }
-    ensures bytes { text.new.bytes ≡ text.old.bytes ++ word.now ++ I.text number }
-    ensures room { array_string_len text.new ≤ array_string_len text.old + length word.now + 40 }
+/// Prints how what has a colour begins.
+pub fn print_fill_head<P: Page>(colour: u32, page: &mut P)
+    ensures { P.adds page.old page.new (fill_head colour) }
 {
-    let mut digits = Buffer::new();
-    text.push_str(word);
-    text.push_str(digits.format(number));
-}
-
-/// How what has a colour begins.
-pub fn fill_head(colour: u32) -> ArrayString<PART_ROOM>
-    ensures { result.bytes ≡ fill_head colour }
-{
-    let mut text = ArrayString::new();
-    push_number(&mut text, "<path style=\"fill:hsl(", hue(colour));
-    text.push_str(",70%,88%)\" d=\"");
-    text
+    page.add(b"<path style=\"fill:hsl(");
+    page.number(hue(colour));
+    page.add(b",70%,88%)\" d=\"");
 }
 
 // The hue of a colour, in degrees.
@@ -43,45 +26,40 @@ fn hue(colour: u32) -> u64
     137 * u64::from(colour) % 360
 }
 
-/// How the file begins: what it shows, in tenths of a pixel.
-pub fn size_text(frame: Frame) -> ArrayString<PART_ROOM>
-    ensures { result.bytes ≡ size_text frame }
+/// Prints how the file begins: what it shows, in tenths of a pixel.
+pub fn print_size<P: Page>(frame: Frame, page: &mut P)
+    ensures { P.adds page.old page.new (size_text frame) }
 {
     let side = frame.side();
-    let wide = frame.reach_east() / side + 200;
-    let high = frame.reach_south() / side + 700;
-    let mut text = ArrayString::new();
-    push_number(
-        &mut text,
-        "<svg xmlns=\"http://www.w3.org/2000/svg\" class=\"tigertopo\" viewBox=\"-100 -600 ",
-        wide,
-    );
-    push_number(&mut text, " ", high);
-    text.push_str("\" style=\"width:100%;height:auto\">\n");
-    text
+    page.add(b"<svg xmlns=\"http://www.w3.org/2000/svg\" class=\"tigertopo\" viewBox=\"-100 -600 ");
+    page.number(frame.reach_east() / side + 200);
+    page.add(b" ");
+    page.number(frame.reach_south() / side + 700);
+    page.add(b"\" style=\"width:100%;height:auto\">\n");
 }
 
-/// How the circle of a fault at a place begins.
-pub fn circle_head(spot: Spot) -> ArrayString<PART_ROOM>
-    ensures { result.bytes ≡ circle_head spot }
+/// Prints how the circle of a fault at a place begins.
+pub fn print_circle_head<P: Page>(spot: Spot, page: &mut P)
+    ensures { P.adds page.old page.new (circle_head spot) }
 {
-    let mut text = ArrayString::new();
-    push_number(&mut text, "<circle cx=\"", spot.x);
-    push_number(&mut text, "\" cy=\"", spot.y);
-    text.push_str("\" r=\"60\"><title>");
-    text
+    page.add(b"<circle cx=\"");
+    page.number(spot.x);
+    page.add(b"\" cy=\"");
+    page.number(spot.y);
+    page.add(b"\" r=\"60\"><title>");
 }
 
-/// What to type for a picture of a place by itself, behind a fault's title.
-pub fn closer_text(frame: Frame, p: Point) -> ArrayString<PART_ROOM>
-    ensures { result.bytes ≡ closer_text frame p }
+/// Prints what to type for a picture of a place by itself, behind a fault's title.
+pub fn print_closer<P: Page>(frame: Frame, p: Point, page: &mut P)
+    ensures { P.adds page.old page.new (closer_text frame p) }
 {
-    let mut text = ArrayString::new();
-    push_number(&mut text, "\n--at @", p.x);
-    push_number(&mut text, ",", p.y);
-    push_number(&mut text, " --width ", closer(frame));
-    text.push_str("</title></circle>");
-    text
+    page.add(b"\n--at @");
+    page.number(p.x);
+    page.add(b",");
+    page.number(p.y);
+    page.add(b" --width ");
+    page.number(closer(frame));
+    page.add(b"</title></circle>");
 }
 
 // How wide a picture is that shows a place closer, in millionths of a degree.
@@ -91,14 +69,14 @@ fn closer(frame: Frame) -> u32
     (frame.wide.max(frame.high) / 10).max(2)
 }
 
-/// How a fault's code beside its circle begins, where there is room for it.
-pub fn label_head(frame: Frame, spot: Spot) -> ArrayString<PART_ROOM>
-    ensures { result.bytes ≡ label_head frame spot }
+/// Prints how a fault's code beside its circle begins, where there is room for it.
+pub fn print_label_head<P: Page>(frame: Frame, spot: Spot, page: &mut P)
+    ensures { P.adds page.old page.new (label_head frame spot) }
 {
     if is_eastern(frame, spot) {
-        west_label(spot)
+        print_west_label(spot, page);
     } else {
-        east_label(spot)
+        print_east_label(spot, page);
     }
 }
 
@@ -111,29 +89,25 @@ fn is_eastern(frame: Frame, spot: Spot) -> bool
 }
 
 // How a fault's code to the west of its circle begins.
-fn west_label(spot: Spot) -> ArrayString<PART_ROOM>
-    ensures { result.bytes ≡ west_label spot }
+fn print_west_label<P: Page>(spot: Spot, page: &mut P)
+    ensures { P.adds page.old page.new (west_label spot) }
 {
-    let mut text = ArrayString::new();
-    push_number(
-        &mut text,
-        "<text class=\"code\" text-anchor=\"end\" x=\"",
-        short_of(spot.x, 80),
-    );
-    push_number(&mut text, "\" y=\"", beyond(spot.y, 45));
-    text.push_str("\">");
-    text
+    page.add(b"<text class=\"code\" text-anchor=\"end\" x=\"");
+    page.number(short_of(spot.x, 80));
+    page.add(b"\" y=\"");
+    page.number(beyond(spot.y, 45));
+    page.add(b"\">");
 }
 
 // How one to the east of it begins.
-fn east_label(spot: Spot) -> ArrayString<PART_ROOM>
-    ensures { result.bytes ≡ east_label spot }
+fn print_east_label<P: Page>(spot: Spot, page: &mut P)
+    ensures { P.adds page.old page.new (east_label spot) }
 {
-    let mut text = ArrayString::new();
-    push_number(&mut text, "<text class=\"code\" x=\"", beyond(spot.x, 80));
-    push_number(&mut text, "\" y=\"", beyond(spot.y, 45));
-    text.push_str("\">");
-    text
+    page.add(b"<text class=\"code\" x=\"");
+    page.number(beyond(spot.x, 80));
+    page.add(b"\" y=\"");
+    page.number(beyond(spot.y, 45));
+    page.add(b"\">");
 }
 
 // A number, and so many more.

@@ -31,7 +31,8 @@ use Rattle.tl_list.proofs.Listed.{no_map, each_true}
 use Rattle.tigertopo_files.specs.World.{MayStop}
 use Rattle.tigertopo_program.specs.Records.{IsOfRecords, StopsRecords}
 use Rattle.tigertopo_program.specs.Draw.Subjects.{AreFaultsOf, AreToShow}
-use Rattle.tigertopo_program.specs.Draw.Keeping.{listed_faults, listed_touched, stop_of_refusal, first_listed}
+use Rattle.tigertopo_program.specs.Draw.Keeping.{listed_faults, listed_touched, first_listed}
+use Rattle.tigertopo_program.specs.Lists.Keeping.{stop_of_refusal}
 
 first_is : (layout : Layout) (text : List ℕ) → slice_get (refusals_of layout text) 0 ≡ (records_of layout text).refusal
 first_is layout text = first_of_judged (judgements layout 0 (raw_lines text))

@@ -1,9 +1,9 @@
 -- Kept on the way: what is prepared before it is told. No public contract cites this file.
-use Rattle.std.specs.Prelude.{◌≡◌, ℕ, Bool, true, false, is_some, length, List, [], ◌∷◌, ◌++◌, Option, Some, None, Vec}
+use Rattle.std.specs.Prelude.{◌≡◌, ℕ, Bool, true, false, is_some, length, List, [], ◌++◌, Option, Some, None, Vec}
 use Rattle.std.specs.Global.{Global}
 use Rattle.tl_map_county.specs.TheMap.{MapChain}
 use Rattle.tigertopo_words.specs.declared.budget.Told.{Told}
-use Rattle.tigertopo_words.specs.declared.budget.Told.TheVariants.{One, All}
+use Rattle.tigertopo_words.specs.declared.budget.Told.TheVariants.{All}
 use Rattle.tl_check_verdict.specs.declared.fault.MapFault.{MapFault}
 use Rattle.tl_record.specs.declared.refusal.Refusal.{Refusal}
 use Rattle.tl_cert_output.specs.declared.stop.Stop.{Stop}
@@ -13,9 +13,7 @@ use Rattle.tigertopo_faults.specs.declared.lines.again.Spoken.{Spoken}
 use Rattle.tigertopo_program.specs.declared.answer.Answer.{Answer}
 use Rattle.tigertopo_program.specs.declared.answer.Answer.TheVariants as answer
 use Rattle.tigertopo_program.specs.Texts.{answer_status, answer_text}
-use Rattle.tl_list_text.specs.Texts.{lines, printed}
-use Rattle.tl_check_verdict.specs.Messages.{map_fault_text}
-use Rattle.tigertopo_faults.specs.Lines.Texts.{chosen}
+use Rattle.tl_list_text.specs.Texts.{printed}
 use Rattle.tigertopo_words.specs.declared.form.Form.{Form}
 use Rattle.tigertopo_words.specs.declared.form.Form.TheVariants.{Lines}
 use Rattle.tl_record.specs.declared.layout.Layout.{Layout}
@@ -31,21 +29,14 @@ use Rattle.tigertopo_faults.specs.Lines.Again.{AreSpoken}
 use Rattle.tigertopo_faults.specs.Records.SpokenOf.{chains_of}
 use Rattle.tigertopo_program.specs.Lists.Listed.{Asked, featured, has_places, most_of, reads_again, refused_form, refusals_text, skipped_text, told_text}
 
--- the line of the first fault, or nothing where all are told
-abbrev pub IsPlain : Told → List MapFault → Option (Vec ℕ Global) → Type 0
-IsPlain One faults (Some text) = text.items ≡ lines map_fault_text (chosen One faults)
-IsPlain One faults None = ⊥
-IsPlain (All most skips) faults text = text ≡ None
-
 -- the text of faults, or nothing where they are printed as they are listed
 abbrev pub IsPrepared : List (List ℕ) → List MapChain → Spoken → Form → Told → List MapFault → ℕ → Option (Vec ℕ Global) → Type 0
 IsPrepared names chains spoken form told faults touched (Some text) = text.items ≡ told_text names chains spoken form told faults touched
 IsPrepared names chains spoken form told faults touched None = (form ≡ Lines) × ((most : Option ℕ) × (skips : Bool) × (told ≡ All most skips))
 
--- why there is no answer, where these lines are refused: the first of them
-abbrev pub IsFirstStop : List Refusal → Stop → Type 0
-IsFirstStop [] stop = ⊥
-IsFirstStop (refusal ∷ rest) stop = stop ≡ Record refusal.line refusal.cause
+-- the stop of a refusal
+abbrev pub stop_of_refusal : Refusal → Stop
+stop_of_refusal refusal = Record refusal.line refusal.cause
 
 -- what was prepared of faults, or the listing of them
 abbrev pub faults_answer : Option (Vec ℕ Global) → Vec MapFault Global → ℕ → Told → Answer

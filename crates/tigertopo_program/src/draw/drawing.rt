@@ -20,7 +20,7 @@ use crate::answer::{Answer, Drawn};
 use crate::draw::subject::{Subject, SubjectOf};
 use crate::making::answer_with_file;
 use crate::reading::over_records;
-use std::alloc::Global;
+use std::alloc::{AllocError, Global};
 use std::hash::RandomState;
 use tigertopo_faults::lines::fault_places;
 use tigertopo_files::{FileKind, FileSystem};
@@ -29,11 +29,11 @@ use tigertopo_pictures::svg::{
 };
 use tigertopo_words::View;
 use tl_build::{find_walks, planar_walks};
-use tl_cert_output::{Stop, Text};
+use tl_cert_output::{Page, Stop, Text};
 use tl_check_verdict::MapFault;
 use tl_geom::Rational;
 use tl_map_county::Map;
-use tl_record::{Options, Sink};
+use tl_record::Options;
 
 // A picture of a map with faults, which lie at these places, and its polygons filled where it is sound, as a text.
 #[derive(Clone, Copy)]
@@ -50,15 +50,16 @@ impl Text for PictureText<'_> {
 
     ghost is_ready = { λ text. (length text.places.now ≡ length text.faults.now) × IfSome text.fills (λ f. AreFillsOf text.map.now f.now) };
 
-    fn print<S: Sink>(&self, _alloc: Global, out: &mut S) -> Result<(), Stop> {
+    fn add_to<P: Page>(&self, _alloc: Global, page: &mut P) -> Result<(), AllocError> {
         print_picture(
             self.map,
             self.picture,
             self.fills,
             self.faults,
             self.places,
-            out,
-        )
+            page,
+        );
+        Ok(())
     }
 }
 

@@ -1,15 +1,16 @@
 //! What a picture is drawn of.
 
-ghost use Rattle.std.specs.Prelude.{◌≡◌, ◌<◌, ℕ, List, Option, None, Some, true, IfOk, IfErr, IfSome, length, slice_get, option_map};
+ghost use Rattle.std.specs.Prelude.{◌≡◌, ℕ, List, Option, None, Some, true, IfOk, IfErr, IfSome, slice_get};
 ghost use Rattle.tl_record.specs.declared.options.Options.{Options};
 ghost use Rattle.tl_record.specs.Layout.{layout_with};
 ghost use Rattle.tl_list.specs.Findings.{AreFindingsOf, AreOfMap, BeginWithRecords, SaysWhy};
 ghost use Rattle.tigertopo_files.specs.World.{MayStop};
 ghost use Rattle.tl_cert_output.specs.declared.stop.Stop.TheVariants.{Device};
 ghost use Rattle.tigertopo_program.specs.Records.{StopsRecords};
-ghost use Rattle.tigertopo_program.specs.Draw.Keeping.{listed_faults, listed_touched, stop_of_refusal, first_listed};
+ghost use Rattle.tigertopo_program.specs.Draw.Keeping.{listed_faults, listed_touched, first_listed};
 ghost use Rattle.tigertopo_program.specs.Draw.Subjects.{IsSubjectOf};
 
+use crate::lists::first_stop;
 use crate::reading::Question;
 use std::alloc::Global;
 use std::hash::RandomState;
@@ -19,7 +20,7 @@ use tl_list::{Findings, has_sound_map, list_with_map};
 use tl_list_text::Listing;
 use tl_map::read_map_with;
 use tl_map_county::Map;
-use tl_record::{Options, Refusal, Source};
+use tl_record::{Options, Source};
 
 /// A map, the faults of it that are to be shown, how many polygons they touch, and whether the map is known to be sound.
 #[derive(Drop)]
@@ -115,22 +116,8 @@ fn first_of(listing: &Listing) -> Result<MapFault, Stop>
 {
     match listing {
         Listing::Sound(_) => unreachable!(),
-        Listing::Refused(list) => Err(first_refused(list.as_slice())),
+        Listing::Refused(list) => Err(first_stop(list.as_slice())),
         Listing::Faults { faults, .. } => Ok(first_fault(faults.as_slice())),
-    }
-}
-
-// The first of refusals.
-fn first_refused(list: &[Refusal]) -> Stop
-    requires { 0 < length list.now }
-    ensures { option_map stop_of_refusal (slice_get list.now 0) ≡ Some result }
-{
-    match list {
-        [refusal, ..] => Stop::Record {
-            line: refusal.line,
-            cause: refusal.cause,
-        },
-        [] => unreachable!(),
     }
 }
 
@@ -139,8 +126,5 @@ fn first_fault(list: &[MapFault]) -> MapFault
     requires { BeginWithRecords list.now }
     ensures { slice_get list.now 0 ≡ Some result }
 {
-    match list {
-        [fault, ..] => *fault,
-        [] => unreachable!(),
-    }
+    list[0]
 }

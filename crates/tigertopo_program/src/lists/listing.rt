@@ -1,8 +1,9 @@
 //! Lists over files: what is found is answered, and the file is made.
 
-ghost use Rattle.std.specs.Prelude.{◌≡◌, [], ℕ, List, Option, None, true, IfOk, map as map_list, option_map, string_bytes};
+ghost use Rattle.std.specs.Prelude.{◌≡◌, [], ℕ, List, Option, None, true, IfOk, IfErr, map as map_list, option_map, string_bytes};
 ghost use Rattle.tl_record.specs.declared.options.Options.{Options};
 ghost use Rattle.tl_record.specs.Layout.{layout_with};
+ghost use Rattle.tl_cert_output.specs.declared.stop.Stop.TheVariants.{Memory};
 ghost use Rattle.tl_list.specs.Findings.{IsFoundIn, SaysWhy};
 ghost use Rattle.tigertopo_files.specs.World.{Does, MayMake, world};
 ghost use Rattle.tigertopo_files.specs.declared.beginning.FileKind.TheVariants.{Collection};
@@ -16,15 +17,15 @@ ghost use Rattle.tigertopo_program.specs.Lists.Keeping.{faults_answer};
 use crate::answer::Answer;
 use crate::lists::collection::{make_collection, make_without_faults};
 use crate::lists::found::FindingsIn;
-use crate::lists::prepared::prepare;
+use crate::lists::prepared::{ToldFaults, prepare};
 use crate::lists::refused::{is_skipping, tell_refused};
 use crate::lists::speaking::{featured, speak_of};
 use crate::reading::over_records;
 use crate::stop::{DONE, MAP_FAULT};
-use std::alloc::{AllocError, Global};
+use std::alloc::Global;
 use std::hash::RandomState;
-use tigertopo_faults::objects::sound_object;
-use tigertopo_files::FileSystem;
+use tigertopo_faults::objects::SoundObject;
+use tigertopo_files::{FileSystem, with_printed};
 use tigertopo_words::{Form, Told};
 use tl_cert_output::Stop;
 use tl_check_verdict::{MapFault, Report};
@@ -145,8 +146,9 @@ fn tell_sound<F: FileSystem>(
 }
 
 // The report of a sound map, in this form.
-fn sound_answer(alloc: Global, form: Form, report: Report) -> Result<Answer, AllocError>
-    ensures { IfOk result (IsSaid (λ status text. (status ≡ 0) × (text ≡ report_text form report))) }
+fn sound_answer(alloc: Global, form: Form, report: Report) -> Result<Answer, Stop>
+    ensures said { IfOk result (IsSaid (λ status text. (status ≡ 0) × (text ≡ report_text form report))) }
+    ensures stop { IfErr result (λ stop. stop ≡ Memory) }
 {
     match form {
         Form::Lines | Form::Records => Ok(Answer::Listing {
@@ -154,11 +156,8 @@ fn sound_answer(alloc: Global, form: Form, report: Report) -> Result<Answer, All
             most: None,
         }),
         Form::Objects => {
-            let object = sound_object(&report);
-            Ok(Answer::Lines {
-                status: DONE,
-                text: Vec::from_slice(alloc, object.as_str().as_bytes())?,
-            })
+            let text = with_printed(alloc, &[], &SoundObject { report: &report })?;
+            Ok(Answer::Lines { status: DONE, text })
         }
     }
 }
@@ -205,16 +204,16 @@ fn tell_faults<F: FileSystem>(
         drawn,
         shown,
     )?;
-    let text = prepare(
-        alloc,
+    let told = ToldFaults {
         names,
         drawn,
-        &spoken,
-        wanted.form,
-        wanted.told,
-        listed,
+        spoken: &spoken,
+        form: wanted.form,
+        told: wanted.told,
+        faults: listed,
         touched,
-    )?;
+    };
+    let text = prepare(alloc, &told)?;
     make_collection(
         files,
         alloc,

@@ -4,134 +4,109 @@ ghost use Rattle.std.specs.Prelude.{◌≡◌, IfOk, IfErr, map, option_copied, 
 ghost use Rattle.tigertopo_faults.specs.Records.SpokenOf.{chains_of};
 ghost use Rattle.tl_list_text.specs.Texts.{lines};
 ghost use Rattle.tl_check_verdict.specs.Messages.{map_fault_text};
-ghost use Rattle.tigertopo_faults.specs.Lines.Texts.{chosen};
-ghost use Rattle.tigertopo_words.specs.declared.budget.Told.TheVariants.{One};
 ghost use Rattle.tl_cert_output.specs.declared.stop.Stop.TheVariants.{Memory};
-ghost use Rattle.tigertopo_program.specs.Lists.Listed.{plain_text, told_text};
-ghost use Rattle.tigertopo_program.specs.Lists.Keeping.{IsPlain, IsPrepared};
+ghost use Rattle.tigertopo_program.specs.Lists.Listed.{plain_text};
+ghost use Rattle.tigertopo_program.specs.Lists.Keeping.{IsPrepared};
 
 use crate::lists::listing::most_of;
 use std::alloc::{AllocError, Global};
-use tigertopo_faults::lines::{Spoken, placed_text};
+use tigertopo_faults::lines::{PlacedFaults, Spoken};
 use tigertopo_faults::objects::FaultObjects;
 use tigertopo_files::with_printed;
 use tigertopo_words::{Form, Told};
-use tl_cert_output::Stop;
+use tl_cert_output::{Page, Stop, Text};
 use tl_check_verdict::MapFault;
-use tl_list_text::{fault_line, first_of, text_of_end};
+use tl_list_text::{first_of, print_end, print_fault};
 use tl_map_county::Map;
 
-/// The text of faults in this form; of all faults as lines there is none, since they are printed as they are listed.
-pub(crate) fn prepare(
-    alloc: Global,
-    names: &[String],
-    drawn: Option<&Map>,
-    spoken: &Spoken,
-    form: Form,
-    told: Told,
-    faults: &[MapFault],
-    touched: u64,
-) -> Result<Option<Vec<u8>>, Stop>
-    ensures prepared { IfOk result (IsPrepared (map string_bytes names.now) (chains_of (option_copied drawn.entry)) spoken.now
-        form told faults.now touched) }
-    ensures stop { IfErr result (λ stop. stop ≡ Memory) }
-{
-    let counts = spoken.counts.as_slice();
-    let places = spoken.places.as_slice();
-    match form {
-        Form::Lines => Ok(plain(alloc, told, faults)?),
-        Form::Records => Ok(Some(placed_text(
-            alloc,
-            names,
-            counts,
-            drawn,
-            &spoken.lines,
-            places,
-            told,
-            faults,
-            touched,
-        )?)),
-        Form::Objects => {
-            let objects = FaultObjects {
-                names,
-                counts,
-                drawn,
-                lines: &spoken.lines,
-                places,
-                told,
-                faults,
-                touched,
-            };
-            Ok(Some(with_printed(alloc, &[], &objects)?))
+/// Faults as they are told: in this form, and the first, or all, or so many from the front.
+#[derive(Clone, Copy)]
+pub(crate) struct ToldFaults<'a> {
+    /// The files' names.
+    pub names: &'a [String],
+    /// The map, where the records have one.
+    pub drawn: Option<&'a Map>,
+    /// Where the faults lie, and the records that they speak of.
+    pub spoken: &'a Spoken,
+    pub form: Form,
+    pub told: Told,
+    pub faults: &'a [MapFault],
+    /// How many polygons are touched.
+    pub touched: u64,
+}
+
+impl Text for ToldFaults<'_> {
+    ghost use Rattle.std.specs.Prelude.{⊤, map as map_list};
+    ghost use Rattle.tigertopo_program.specs.Lists.Listed.{told_text};
+
+    ghost text = { λ text. told_text (map_list string_bytes text.names.now) (chains_of (option_copied text.drawn)) text.spoken.now
+        text.form text.told text.faults.now text.touched };
+
+    ghost is_ready = { λ text. ⊤ };
+
+    fn add_to<P: Page>(&self, alloc: Global, page: &mut P) -> Result<(), AllocError> {
+        match self.form {
+            Form::Lines => {
+                print_plain(self.told, self.faults, self.touched, page);
+                Ok(())
+            }
+            Form::Records => {
+                let placed = PlacedFaults {
+                    names: self.names,
+                    counts: self.spoken.counts.as_slice(),
+                    drawn: self.drawn,
+                    lines: &self.spoken.lines,
+                    places: self.spoken.places.as_slice(),
+                    told: self.told,
+                    faults: self.faults,
+                    touched: self.touched,
+                };
+                placed.add_to(alloc, page)
+            }
+            Form::Objects => {
+                let objects = FaultObjects {
+                    names: self.names,
+                    counts: self.spoken.counts.as_slice(),
+                    drawn: self.drawn,
+                    lines: &self.spoken.lines,
+                    places: self.spoken.places.as_slice(),
+                    told: self.told,
+                    faults: self.faults,
+                    touched: self.touched,
+                };
+                objects.add_to(alloc, page)
+            }
         }
     }
 }
 
-/// The whole text of faults in this form.
-pub(crate) fn whole_text(
-    alloc: Global,
-    names: &[String],
-    drawn: Option<&Map>,
-    spoken: &Spoken,
-    form: Form,
-    told: Told,
-    faults: &[MapFault],
-    touched: u64,
-) -> Result<Vec<u8>, Stop>
-    ensures told { IfOk result (λ text. text.items ≡ told_text (map string_bytes names.now) (chains_of (option_copied drawn.entry)) spoken.now
-        form told faults.now touched) }
+/// The text of faults in this form; of all faults as lines there is none, since they are printed as they are listed.
+pub(crate) fn prepare(alloc: Global, text: &ToldFaults<'_>) -> Result<Option<Vec<u8>>, Stop>
+    ensures prepared { IfOk result (IsPrepared (map string_bytes text.now.names.now) (chains_of (option_copied text.now.drawn))
+        text.now.spoken.now text.now.form text.now.told text.now.faults.now text.now.touched) }
     ensures stop { IfErr result (λ stop. stop ≡ Memory) }
 {
-    match prepare(alloc, names, drawn, spoken, form, told, faults, touched)? {
-        Some(text) => Ok(text),
-        None => Ok(listed_text(alloc, told, faults, touched)?),
+    match (text.form, text.told) {
+        (Form::Lines, Told::All { .. }) => Ok(None),
+        _ => Ok(Some(with_printed(alloc, &[], text)?)),
     }
 }
 
-// The text of faults without their records.
-fn listed_text(
-    alloc: Global,
-    told: Told,
-    faults: &[MapFault],
-    touched: u64,
-) -> Result<Vec<u8>, AllocError>
-    ensures { IfOk result (λ text. text.items ≡ plain_text told faults.now touched) }
+// Prints faults without their records, and where all are told, how many there are.
+fn print_plain<P: Page>(told: Told, faults: &[MapFault], touched: u64, page: &mut P)
+    ensures { P.adds page.old page.new (plain_text told faults.now touched) }
 {
-    let mut text = lines_of(alloc, first_of(faults, most_of(told)))?;
+    print_lines(first_of(faults, most_of(told)), page);
     if let Told::All { most, .. } = told {
-        let end = text_of_end(touched, "faults=", most, faults.len() as u64);
-        text.extend_from_slice(end.as_str().as_bytes())?;
+        print_end(touched, "faults=", most, faults.len() as u64, page);
     }
-    Ok(text)
 }
 
-// The lines of these faults.
-fn lines_of(alloc: Global, faults: &[MapFault]) -> Result<Vec<u8>, AllocError>
-    ensures { IfOk result (λ text. text.items ≡ lines map_fault_text faults.now) }
+// Prints the lines of these faults.
+fn print_lines<P: Page>(faults: &[MapFault], page: &mut P)
+    ensures { P.adds page.old page.new (lines map_fault_text faults.now) }
 {
-    let mut text = Vec::new(alloc);
     for fault in faults {
-        text.extend_from_slice(fault_line(fault).as_str().as_bytes())?;
-    }
-    Ok(text)
-}
-
-// The line of the first fault, where it alone is told.
-fn plain(alloc: Global, told: Told, faults: &[MapFault]) -> Result<Option<Vec<u8>>, AllocError>
-    ensures { IfOk result (IsPlain told faults.now) }
-{
-    match told {
-        Told::One => Ok(Some(first_line(alloc, faults)?)),
-        Told::All { .. } => Ok(None),
-    }
-}
-
-// The line of the first fault.
-fn first_line(alloc: Global, faults: &[MapFault]) -> Result<Vec<u8>, AllocError>
-    ensures { IfOk result (λ text. text.items ≡ lines map_fault_text (chosen One faults.now)) }
-{
-    match faults {
-        [fault, ..] => Vec::from_slice(alloc, fault_line(fault).as_str().as_bytes()),
-        [] => Ok(Vec::new(alloc)),
+        print_fault(fault, page);
     }
 }

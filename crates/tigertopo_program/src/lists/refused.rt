@@ -1,12 +1,13 @@
 //! Lines that are refused, as they are answered, and the file of them.
 
-ghost use Rattle.std.specs.Prelude.{◌≡◌, ◌<◌, ◌++◌, [], ℕ, List, Option, None, true, false, IfOk, IfErr, IfSome};
-ghost use Rattle.std.specs.Prelude.{length, map as map_list, option_map, is_some, string_bytes};
+ghost use Rattle.std.specs.Prelude.{◌≡◌, ◌<◌, ◌++◌, [], ℕ, List, Option, None, Some, true, false, IfOk, IfErr, IfSome};
+ghost use Rattle.std.specs.Prelude.{length, map as map_list, option_map, is_some, slice_get, string_bytes};
 ghost use Rattle.tl_record.specs.Layout.{layout_with};
 ghost use Rattle.tl_cert_output.specs.Stops.{StopsFor};
+ghost use Rattle.tl_cert_output.specs.declared.stop.Stop.TheVariants.{Memory};
 ghost use Rattle.tl_list.specs.Listings.{IsListingOf};
 ghost use Rattle.tl_list_text.specs.Texts.{printed};
-ghost use Rattle.tl_list_text.specs.declared.listing.Listing.TheVariants.{Refused as RefusedLines};
+ghost use Rattle.tl_list_text.specs.declared.listing.Listing.TheVariants.{Refused as RefusedListing};
 ghost use Rattle.tigertopo_files.specs.Log.{LogsAgain};
 ghost use Rattle.tigertopo_faults.specs.Hint.Again.{FailsAgain};
 ghost use Rattle.tigertopo_files.specs.World.{Does, MayMake, world};
@@ -17,7 +18,7 @@ ghost use Rattle.tl_list.specs.Findings.{IsLeft};
 ghost use Rattle.tigertopo_program.specs.Lists.Listed.{ListAnswers, StopsList, has_places};
 ghost use Rattle.tigertopo_program.specs.Answers.{IsSaid};
 ghost use Rattle.tigertopo_program.specs.Lists.Listed.{is_skipping, reads_again, refusals_last, refused_form, stops_refused, wanted_of};
-ghost use Rattle.tigertopo_program.specs.Lists.Keeping.{AnswersFound, ArePrepared, ArePreparedOf, IsFirstStop};
+ghost use Rattle.tigertopo_program.specs.Lists.Keeping.{AnswersFound, ArePrepared, ArePreparedOf, stop_of_refusal};
 
 use crate::answer::Answer;
 use crate::lists::collection::make_without_faults;
@@ -25,16 +26,15 @@ use crate::lists::listing::{Wanted, has_places, most_of};
 use crate::lists::skipping::tell_left;
 use crate::lists::speaking::{featured, speak_of};
 use crate::stop::REFUSED;
-use arrayvec::ArrayString;
 use std::alloc::{AllocError, Global};
 use std::hash::RandomState;
-use tigertopo_faults::hint::{FoundLine, RefusedForm, push_refusals};
-use tigertopo_faults::objects::refusals_end;
-use tigertopo_files::FileSystem;
+use tigertopo_faults::hint::{FoundLine, RefusedForm, RefusedLines, print_refusals};
+use tigertopo_faults::objects::print_refusals_end;
+use tigertopo_files::{FileSystem, with_printed};
 use tigertopo_words::{Form, Told};
-use tl_cert_output::Stop;
+use tl_cert_output::{Page, Stop, Text};
 use tl_list::LeftFaults;
-use tl_list_text::{LINE_ROOM, Listing, first_of, text_of_end};
+use tl_list_text::{Listing, first_of, print_end};
 use tl_record::{Options, Refusal};
 
 /// Answers lines that are refused: all, or so many from the front, with where they stand if the form has that, and makes the file that is
@@ -52,8 +52,8 @@ pub(crate) fn tell_refused<F: FileSystem>(
 ) -> Result<Answer, Stop>
     requires some { 0 < length list.items }
     requires made { MayMake (F.under files.old) (option_map string_bytes wanted.made.now) (map_list string_bytes names.now) Collection }
-    ensures { (known : Option (List ℕ)) → IfSome known (λ text. IsListingOf options text (RefusedLines list))
-        → IsLeft options (is_skipping wanted.entry.told) known (RefusedLines list) left →
+    ensures { (known : Option (List ℕ)) → IfSome known (λ text. IsListingOf options text (RefusedListing list))
+        → IsLeft options (is_skipping wanted.entry.told) known (RefusedListing list) left →
         let w = world F.under F.log F.knows files.old files.new in
         let asked = wanted_of (map_list string_bytes names.now) wanted.entry in
         Does w [] asked.made (IsSaid (ListAnswers w options known asked))
@@ -81,8 +81,8 @@ fn tell_refusals<F: FileSystem>(
     requires { MayMake (F.under files.old) (option_map string_bytes wanted.made.now) (map_list string_bytes names.now) Collection }
     ensures { let w = world F.under F.log F.knows files.old files.new in
         let asked = wanted_of (map_list string_bytes names.now) wanted.entry in
-        (known : Option (List ℕ)) → stops_refused asked.told asked.form ≡ false → IfSome known (λ text. IsListingOf options text (RefusedLines list))
-        → IsLeft options (is_skipping asked.told) known (RefusedLines list) None
+        (known : Option (List ℕ)) → stops_refused asked.told asked.form ≡ false → IfSome known (λ text. IsListingOf options text (RefusedListing list))
+        → IsLeft options (is_skipping asked.told) known (RefusedListing list) None
         → Does w [] asked.made (IsSaid (ListAnswers w options known asked))
         (StopsList w options known asked) result }
 {
@@ -127,7 +127,7 @@ fn prepare_refused<F: FileSystem>(
         &[],
     )?;
     let found = spoken.refused.as_slice();
-    Ok(refused_texts(alloc, options, names, wanted, list, found)?)
+    refused_texts(alloc, options, names, wanted, list, found)
 }
 
 /// The same of lines that were found in files.
@@ -138,8 +138,9 @@ pub(crate) fn refused_texts(
     wanted: Wanted<'_>,
     list: Vec<Refusal>,
     found: &[FoundLine],
-) -> Result<(Answer, Vec<u8>), AllocError>
-    ensures { IfOk result (ArePreparedOf (layout_with options) (wanted_of (map_list string_bytes names.now) wanted.entry) list found.now) }
+) -> Result<(Answer, Vec<u8>), Stop>
+    ensures prepared { IfOk result (ArePreparedOf (layout_with options) (wanted_of (map_list string_bytes names.now) wanted.entry) list found.now) }
+    ensures stop { IfErr result (λ stop. stop ≡ Memory) }
 {
     let shown = featured(wanted.told, list.as_slice());
     let features = features_of(alloc, options, names, wanted.made, shown, found)?;
@@ -155,16 +156,22 @@ fn features_of(
     made: &Option<String>,
     refusals: &[Refusal],
     found: &[FoundLine],
-) -> Result<Vec<u8>, AllocError>
-    ensures { IfOk result (λ text. is_some (option_map string_bytes made.now) ≡ true
+) -> Result<Vec<u8>, Stop>
+    ensures text { IfOk result (λ text. is_some (option_map string_bytes made.now) ≡ true
         → text.items ≡ found_text Features (layout_with options) (map_list string_bytes names.now) refusals.now found.now) }
+    ensures stop { IfErr result (λ stop. stop ≡ Memory) }
 {
-    let mut text = Vec::new(alloc);
-    if made.is_some() {
-        let form = RefusedForm::Features;
-        push_refusals(&mut text, form, options, names, refusals, found)?;
+    if made.is_none() {
+        return Ok(Vec::new(alloc));
     }
-    Ok(text)
+    let features = RefusedLines {
+        form: RefusedForm::Features,
+        options,
+        names,
+        refusals,
+        found,
+    };
+    with_printed(alloc, &[], &features)
 }
 
 /// Whether refused lines are skipped.
@@ -196,8 +203,9 @@ fn tell_all_refused(
     wanted: Wanted<'_>,
     list: Vec<Refusal>,
     found: &[FoundLine],
-) -> Result<Answer, AllocError>
-    ensures { IfOk result (AnswersFound (layout_with options) (wanted_of (map_list string_bytes names.now) wanted.entry) list found.now) }
+) -> Result<Answer, Stop>
+    ensures answer { IfOk result (AnswersFound (layout_with options) (wanted_of (map_list string_bytes names.now) wanted.entry) list found.now) }
+    ensures stop { IfErr result (λ stop. stop ≡ Memory) }
 {
     let most = most_of(wanted.told);
     if !has_places(wanted.form) {
@@ -206,8 +214,15 @@ fn tell_all_refused(
             most,
         });
     }
-    let listed = list.as_slice();
-    let text = placed_list(alloc, options, names, wanted.form, listed, most, found)?;
+    let placed = PlacedList {
+        options,
+        names,
+        form: wanted.form,
+        list: list.as_slice(),
+        most,
+        found,
+    };
+    let text = with_printed(alloc, &[], &placed)?;
     Ok(Answer::Lines {
         status: REFUSED,
         text,
@@ -215,25 +230,44 @@ fn tell_all_refused(
 }
 
 // Lines that are refused, all or so many from the front, each with where it was found, and how many there are.
-fn placed_list(
-    alloc: Global,
+#[derive(Clone, Copy)]
+struct PlacedList<'a> {
     options: Options,
-    names: &[String],
+    names: &'a [String],
     form: Form,
-    list: &[Refusal],
+    list: &'a [Refusal],
     most: Option<u64>,
-    found: &[FoundLine],
-) -> Result<Vec<u8>, AllocError>
-    ensures { let shown = printed most list.now in
-        IfOk result (λ text. text.items ≡ found_text (refused_form form) (layout_with options) (map_list string_bytes names.now) shown found.now
-        ++ refusals_last form most (length list.now) (length shown)) }
-{
-    let shown = first_of(list, most);
-    let mut text = Vec::new(alloc);
-    push_refusals(&mut text, refused_form(form), options, names, shown, found)?;
-    let end = refusals_last(form, most, list.len() as u64, shown.len() as u64);
-    text.extend_from_slice(end.as_str().as_bytes())?;
-    Ok(text)
+    found: &'a [FoundLine],
+}
+
+impl Text for PlacedList<'_> {
+    ghost use Rattle.std.specs.Prelude.{⊤};
+
+    ghost text = { λ told. let shown = printed told.most told.list.now in
+        found_text (refused_form told.form) (layout_with told.options) (map_list string_bytes told.names.now) shown told.found.now
+        ++ refusals_last told.form told.most (length told.list.now) (length shown) };
+
+    ghost is_ready = { λ told. ⊤ };
+
+    fn add_to<P: Page>(&self, _alloc: Global, page: &mut P) -> Result<(), AllocError> {
+        let shown = first_of(self.list, self.most);
+        print_refusals(
+            refused_form(self.form),
+            self.options,
+            self.names,
+            shown,
+            self.found,
+            page,
+        );
+        print_last(
+            self.form,
+            self.most,
+            self.list.len() as u64,
+            shown.len() as u64,
+            page,
+        );
+        Ok(())
+    }
 }
 
 // In which form refused lines are printed, with where they stand.
@@ -246,26 +280,23 @@ fn refused_form(form: Form) -> RefusedForm
     }
 }
 
-// How many lines are refused, and how many of them are printed where a number is given.
-fn refusals_last(form: Form, most: Option<u64>, count: u64, printed: u64) -> ArrayString<LINE_ROOM>
-    ensures { result.bytes ≡ refusals_last form most count printed }
+// Prints how many lines are refused, and how many of them are printed where a number is given.
+fn print_last<P: Page>(form: Form, most: Option<u64>, count: u64, printed: u64, page: &mut P)
+    ensures { P.adds page.old page.new (refusals_last form most count printed) }
 {
     match form {
-        Form::Lines | Form::Records => text_of_end(0, "refused=", most, count),
-        Form::Objects => refusals_end(count, printed),
+        Form::Lines | Form::Records => print_end(0, "refused=", most, count, page),
+        Form::Objects => print_refusals_end(count, printed, page),
     }
 }
 
-// Why there is no answer, where these lines are refused: the first of them.
-fn first_stop(list: &[Refusal]) -> Stop
+/// Why there is no answer, where these lines are refused: the first of them.
+pub(crate) fn first_stop(list: &[Refusal]) -> Stop
     requires { 0 < length list.now }
-    ensures { IsFirstStop list.now result }
+    ensures { option_map stop_of_refusal (slice_get list.now 0) ≡ Some result }
 {
-    match list {
-        [refusal, ..] => Stop::Record {
-            line: refusal.line,
-            cause: refusal.cause,
-        },
-        [] => unreachable!(),
+    Stop::Record {
+        line: list[0].line,
+        cause: list[0].cause,
     }
 }

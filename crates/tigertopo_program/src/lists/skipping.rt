@@ -4,7 +4,6 @@ ghost use Rattle.std.specs.Prelude.{◌≡◌, ◌++◌, [], true, ℕ, List, Op
 ghost use Rattle.std.specs.Prelude.{map as map_list, option_copied, option_map, string_bytes};
 ghost use Rattle.tl_record.specs.Layout.{layout_with};
 ghost use Rattle.tl_cert_output.specs.Stops.{StopsFor};
-ghost use Rattle.tl_cert_output.specs.declared.stop.Stop.TheVariants.{Memory};
 ghost use Rattle.tl_list.specs.Listings.{IsListingOf};
 ghost use Rattle.tl_list_text.specs.declared.listing.Listing.TheVariants.{Refused as RefusedLines};
 ghost use Rattle.tigertopo_files.specs.Log.{LogsAgain};
@@ -18,22 +17,21 @@ ghost use Rattle.tigertopo_program.specs.Answers.{IsSaid};
 ghost use Rattle.tigertopo_program.specs.Texts.{answer_text};
 
 use crate::answer::Answer;
+use crate::line::add_answer;
 use crate::lists::collection::make_collection;
 use crate::lists::listing::Wanted;
-use crate::lists::prepared::whole_text;
+use crate::lists::prepared::ToldFaults;
 use crate::lists::refused::refused_texts;
 use crate::lists::speaking::{featured, speak_of};
 use crate::stop::REFUSED;
-use arrayvec::ArrayString;
-use std::alloc::Global;
+use std::alloc::{AllocError, Global};
 use std::hash::RandomState;
 use tigertopo_faults::lines::Spoken;
-use tigertopo_faults::objects::skipped_end;
+use tigertopo_faults::objects::print_skipped_end;
 use tigertopo_files::{FileSystem, with_printed};
 use tigertopo_words::Form;
-use tl_cert_output::Stop;
+use tl_cert_output::{Page, Stop, Text};
 use tl_list::LeftFaults;
-use tl_list_text::{LINE_ROOM, push_number};
 use tl_record::{Options, Refusal};
 
 /// Answers lines that are refused, behind them the faults of what is left, and how many lines were skipped, and makes the file that is
@@ -112,21 +110,26 @@ fn prepare_left<F: FileSystem>(
     let spoken = speak_of(
         files, alloc, hasher, names, options, wanted, refusals, drawn, shown,
     )?;
-    let told = whole_text(
-        alloc,
+    let told = ToldFaults {
         names,
         drawn,
-        &spoken,
-        wanted.form,
-        wanted.told,
+        spoken: &spoken,
+        form: wanted.form,
+        told: wanted.told,
         faults,
-        left.touched,
-    )?;
+        touched: left.touched,
+    };
+    let behind = with_printed(alloc, &[], &told)?;
     let count = refusals.len() as u64;
     let found = spoken.refused.as_slice();
     let refused = refused_texts(alloc, options, names, wanted, list, found)?;
-    let behind = told.as_slice();
-    let text = text_of_all(alloc, &refused.0, behind, wanted.form, count)?;
+    let whole = LeftText {
+        refused: &refused.0,
+        behind: behind.as_slice(),
+        form: wanted.form,
+        count,
+    };
+    let text = with_printed(alloc, &[], &whole)?;
     Ok(LeftTexts {
         text,
         spoken,
@@ -134,35 +137,40 @@ fn prepare_left<F: FileSystem>(
     })
 }
 
-// A text of refused lines, one of faults, and the last line.
-fn text_of_all(
-    alloc: Global,
-    refused: &Answer,
-    told: &[u8],
+// What is answered of refused lines, behind it a text of faults, and how many lines were skipped.
+#[derive(Clone, Copy)]
+struct LeftText<'a> {
+    refused: &'a Answer,
+    behind: &'a [u8],
     form: Form,
     count: u64,
-) -> Result<Vec<u8>, Stop>
-    ensures told { IfOk result (λ text. text.items ≡ answer_text refused.now ++ told.now ++ skipped_text form count) }
-    ensures stop { IfErr result (λ stop. stop ≡ Memory) }
-{
-    let mut text = with_printed(alloc, &[], refused)?;
-    text.extend_from_slice(told)?;
-    let end = skipped_text(form, count);
-    text.extend_from_slice(end.as_str().as_bytes())?;
-    Ok(text)
 }
 
-// The last line, which says how many refused lines were skipped.
-fn skipped_text(form: Form, count: u64) -> ArrayString<LINE_ROOM>
-    ensures { result.bytes ≡ skipped_text form count }
+impl Text for LeftText<'_> {
+    ghost use Rattle.std.specs.Prelude.{⊤};
+
+    ghost text = { λ left. answer_text left.refused.now ++ left.behind.now ++ skipped_text left.form left.count };
+
+    ghost is_ready = { λ left. ⊤ };
+
+    fn add_to<P: Page>(&self, _alloc: Global, page: &mut P) -> Result<(), AllocError> {
+        add_answer(self.refused, page);
+        page.add(self.behind);
+        print_skipped(self.form, self.count, page);
+        Ok(())
+    }
+}
+
+// Prints the last line, which says how many refused lines were skipped.
+fn print_skipped<P: Page>(form: Form, count: u64, page: &mut P)
+    ensures { P.adds page.old page.new (skipped_text form count) }
 {
     match form {
         Form::Lines | Form::Records => {
-            let mut text = ArrayString::new();
-            push_number(&mut text, "refused lines=", count);
-            text.push_str(" skipped\n");
-            text
+            page.add(b"refused lines=");
+            page.number(count);
+            page.add(b" skipped\n");
         }
-        Form::Objects => skipped_end(count),
+        Form::Objects => print_skipped_end(count, page),
     }
 }

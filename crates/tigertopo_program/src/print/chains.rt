@@ -3,13 +3,11 @@
 ghost use Rattle.std.specs.Prelude.{◌≡◌, ◌+◌, ◌*◌, ◌≤◌, ◌++◌, drop, length};
 ghost use Rattle.std.specs.Fmt.{signed_decimal};
 ghost use Rattle.tigertopo_program.specs.Print.Printing.{point_text, points_text, chain_text, counts_text, shown_text};
-ghost use Rattle.tl_cert_output.specs.Printing.{Prints};
 
 use itoa::write_digits;
-use tl_cert_output::Printer;
+use tl_cert_output::Page;
 use tl_geom::Point;
 use tl_map_county::Chains;
-use tl_record::Sink;
 
 // A blank, a comma, and two numbers with a sign and ten digits each.
 const LONGEST_POINT: usize = 24;
@@ -20,65 +18,49 @@ const TOGETHER: usize = 8;
 const LONGEST_POINTS: usize = TOGETHER * LONGEST_POINT;
 
 /// Prints a line for each chain and a line of counts.
-pub fn print_chains<S: Sink>(chains: &Chains, printer: &mut Printer, out: &mut S)
-    ensures { Prints S.contents S.failure_count (out.old, printer.old) (out.new, printer.new)
-        (shown_text chains.now) }
+pub fn print_chains<P: Page>(chains: &Chains, page: &mut P)
+    ensures { P.adds page.old page.new (shown_text chains.now) }
 {
     for chain in 0..chains.len() {
-        print_chain(chains.tlid(chain), chains.points(chain), printer, out);
+        print_chain(chains.tlid(chain), chains.points(chain), page);
     }
-    print_counts(
-        chains.len(),
-        chains.segments(),
-        chains.skipped(),
-        printer,
-        out,
-    );
+    print_counts(chains.len(), chains.segments(), chains.skipped(), page);
 }
 
-fn print_counts<S: Sink>(
-    chains: u32,
-    segments: u32,
-    skipped: u64,
-    printer: &mut Printer,
-    out: &mut S,
-)
-    ensures { Prints S.contents S.failure_count (out.old, printer.old) (out.new, printer.new)
-        (counts_text chains segments skipped) }
+fn print_counts<P: Page>(chains: u32, segments: u32, skipped: u64, page: &mut P)
+    ensures { P.adds page.old page.new (counts_text chains segments skipped) }
 {
-    printer.add(b"chains=", out);
-    printer.number(chains, out);
-    printer.add(b" segments=", out);
-    printer.number(segments, out);
-    printer.add(b" skipped=", out);
-    printer.number(skipped, out);
-    printer.add(b"\n", out);
+    page.add(b"chains=");
+    page.number(chains);
+    page.add(b" segments=");
+    page.number(segments);
+    page.add(b" skipped=");
+    page.number(skipped);
+    page.add(b"\n");
 }
 
-fn print_chain<S: Sink>(tlid: u64, points: &[Point], printer: &mut Printer, out: &mut S)
-    ensures { Prints S.contents S.failure_count (out.old, printer.old) (out.new, printer.new)
-        (chain_text (record { tlid = tlid; points = points.now })) }
+fn print_chain<P: Page>(tlid: u64, points: &[Point], page: &mut P)
+    ensures { P.adds page.old page.new (chain_text (record { tlid = tlid; points = points.now })) }
 {
-    printer.add(b"tlid ", out);
-    printer.number(tlid, out);
+    page.add(b"tlid ");
+    page.number(tlid);
     let mut printed = 0;
     while points.len() - printed > TOGETHER {
-        print_points(&points[printed..printed + TOGETHER], printer, out);
+        print_points(&points[printed..printed + TOGETHER], page);
         printed += TOGETHER;
     }
-    print_points(&points[printed..], printer, out);
-    printer.add(b"\n", out);
+    print_points(&points[printed..], page);
+    page.add(b"\n");
 }
 
 // Points one after the other, put together before they are added.
-fn print_points<S: Sink>(points: &[Point], printer: &mut Printer, out: &mut S)
+fn print_points<P: Page>(points: &[Point], page: &mut P)
     requires { length points.now ≤ 8 }
-    ensures { Prints S.contents S.failure_count (out.old, printer.old) (out.new, printer.new)
-        (points_text points.now) }
+    ensures { P.adds page.old page.new (points_text points.now) }
 {
     let mut text = [0; LONGEST_POINTS];
     let start = put_points(points, &mut text, LONGEST_POINTS);
-    printer.add(&text[start..], out);
+    page.add(&text[start..]);
 }
 
 // Points one after the other, put so that they end at `end`. Gives where they start.
@@ -98,13 +80,12 @@ fn put_points(points: &[Point], text: &mut [u8], end: usize) -> usize
 }
 
 /// Prints a blank, the longitude, a comma and the latitude.
-pub fn print_point<S: Sink>(point: Point, printer: &mut Printer, out: &mut S)
-    ensures { Prints S.contents S.failure_count (out.old, printer.old) (out.new, printer.new)
-        (point_text point) }
+pub fn print_point<P: Page>(point: Point, page: &mut P)
+    ensures { P.adds page.old page.new (point_text point) }
 {
     let mut text = [0; LONGEST_POINT];
     let start = put_point(point, &mut text, LONGEST_POINT);
-    printer.add(&text[start..], out);
+    page.add(&text[start..]);
 }
 
 // A blank, the longitude, a comma and the latitude, put so that they end at `end`. Gives where they start.

@@ -1,126 +1,84 @@
 //! The lines of landmarks.
 
-ghost use Rattle.std.specs.Prelude.{◌≡◌, ◌+◌, ◌<◌, ◌≤◌, ◌++◌, All, codes, decimal, encode_utf8, length};
-ghost use Rattle.arrayvec.specs.ArrayString.{array_string_len};
-ghost use Rattle.tl_record_key.specs.KeyText.{cenid_text};
+ghost use Rattle.std.specs.Prelude.{◌<◌, ◌++◌, All, codes, decimal, length};
 ghost use Rattle.tigertopo_program.specs.Print.Printing.{polygon_text, listed_text, polygons_text, place_text, landmark_text};
 ghost use Rattle.tigertopo_program.specs.Print.Printing.{landmark_count_text, listing_text};
-ghost use Rattle.tl_cert_output.specs.Printing.{Prints};
 
 use crate::print::chains::print_point;
-use arrayvec::ArrayString;
-use tl_cert_output::Printer;
+use tl_cert_output::Page;
 use tl_geom::Point;
+use tl_list_text::print_key;
 use tl_map_county::{Landmark, Map};
-use tl_record::{PolyKey, Sink};
-
-// A blank, and five characters of up to four bytes each.
-const LONGEST_CENID: usize = 21;
 
 /// Prints a line for each landmark, with the keys of its polygons, and a line of their number.
-pub fn print_landmarks<S: Sink>(map: &Map, printer: &mut Printer, out: &mut S)
-    ensures { Prints S.contents S.failure_count (out.old, printer.old) (out.new, printer.new)
-        (listing_text map.now) }
+pub fn print_landmarks<P: Page>(map: &Map, page: &mut P)
+    ensures { P.adds page.old page.new (listing_text map.now) }
 {
     for number in 0..map.landmarks() {
-        print_landmark(map, &map.landmark(number), printer, out);
+        print_landmark(map, &map.landmark(number), page);
     }
-    print_count(map.landmarks(), printer, out);
+    print_count(map.landmarks(), page);
 }
 
-fn print_count<S: Sink>(count: u32, printer: &mut Printer, out: &mut S)
-    ensures { Prints S.contents S.failure_count (out.old, printer.old) (out.new, printer.new)
-        (landmark_count_text count) }
+fn print_count<P: Page>(count: u32, page: &mut P)
+    ensures { P.adds page.old page.new (landmark_count_text count) }
 {
-    printer.add(b"landmarks=", out);
-    printer.number(count, out);
-    printer.add(b"\n", out);
+    page.add(b"landmarks=");
+    page.number(count);
+    page.add(b"\n");
 }
 
-fn print_landmark<S: Sink>(map: &Map, landmark: &Landmark<'_>, printer: &mut Printer, out: &mut S)
+fn print_landmark<P: Page>(map: &Map, landmark: &Landmark<'_>, page: &mut P)
     requires { All (λ p. p < length map.now.polygons) landmark.now.polygons.now }
-    ensures { Prints S.contents S.failure_count (out.old, printer.old) (out.new, printer.new)
+    ensures { P.adds page.old page.new
         (landmark_text map.now.polygons
         (record { land = landmark.now.land; point = landmark.now.point; polygons = landmark.now.polygons.now })) }
 {
-    print_place(landmark.land, landmark.point, printer, out);
-    printer.add(b" polygons", out);
-    print_listed(map, landmark.polygons, printer, out);
-    printer.add(b"\n", out);
+    print_place(landmark.land, landmark.point, page);
+    page.add(b" polygons");
+    print_listed(map, landmark.polygons, page);
+    page.add(b"\n");
 }
 
 // The beginning of a landmark's line: its LAND, and whether it is an area or where its point lies.
-fn print_place<S: Sink>(land: u64, point: Option<Point>, printer: &mut Printer, out: &mut S)
-    ensures { Prints S.contents S.failure_count (out.old, printer.old) (out.new, printer.new)
-        (codes "land " ++ decimal land ++ place_text point) }
+fn print_place<P: Page>(land: u64, point: Option<Point>, page: &mut P)
+    ensures { P.adds page.old page.new (codes "land " ++ decimal land ++ place_text point) }
 {
-    printer.add(b"land ", out);
-    printer.number(land, out);
+    page.add(b"land ");
+    page.number(land);
     match point {
-        None => printer.add(b" area", out),
+        None => page.add(b" area"),
         Some(point) => {
-            printer.add(b" point", out);
-            print_point(point, printer, out);
+            page.add(b" point");
+            print_point(point, page);
         }
     }
 }
 
 /// Prints the keys of the polygons with these numbers, or that there are none.
-pub fn print_listed<S: Sink>(map: &Map, numbers: &[u32], printer: &mut Printer, out: &mut S)
+pub fn print_listed<P: Page>(map: &Map, numbers: &[u32], page: &mut P)
     requires { All (λ p. p < length map.now.polygons) numbers.now }
-    ensures { Prints S.contents S.failure_count (out.old, printer.old) (out.new, printer.new)
-        (listed_text map.now.polygons numbers.now) }
+    ensures { P.adds page.old page.new (listed_text map.now.polygons numbers.now) }
 {
     if numbers.is_empty() {
-        return printer.add(b" none", out);
+        return page.add(b" none");
     }
-    print_polygons(map, numbers, printer, out);
+    print_polygons(map, numbers, page);
 }
 
-fn print_polygons<S: Sink>(map: &Map, numbers: &[u32], printer: &mut Printer, out: &mut S)
+fn print_polygons<P: Page>(map: &Map, numbers: &[u32], page: &mut P)
     requires { All (λ p. p < length map.now.polygons) numbers.now }
-    ensures { Prints S.contents S.failure_count (out.old, printer.old) (out.new, printer.new)
-        (polygons_text map.now.polygons numbers.now) }
+    ensures { P.adds page.old page.new (polygons_text map.now.polygons numbers.now) }
 {
     for number in numbers {
-        print_polygon(map, *number, printer, out);
+        print_polygon(map, *number, page);
     }
 }
 
-fn print_polygon<S: Sink>(map: &Map, number: u32, printer: &mut Printer, out: &mut S)
+fn print_polygon<P: Page>(map: &Map, number: u32, page: &mut P)
     requires { number < length map.now.polygons }
-    ensures { Prints S.contents S.failure_count (out.old, printer.old) (out.new, printer.new)
-        (polygon_text map.now.polygons number) }
+    ensures { P.adds page.old page.new (polygon_text map.now.polygons number) }
 {
-    let key = map.polygon(number).key;
-    let cenid = text_of_cenid(key);
-    printer.add(cenid.as_str().as_bytes(), out);
-    printer.add(b"/", out);
-    printer.number(key.polyid, out);
-}
-
-// A blank and the five bytes of a CENID, put together before they are added.
-fn text_of_cenid(key: PolyKey) -> ArrayString<LONGEST_CENID>
-    ensures { result.bytes ≡ codes " " ++ cenid_text key 0 ++ cenid_text key 1 ++ cenid_text key 2 ++ cenid_text key 3
-        ++ cenid_text key 4 }
-{
-    let [first, second, third, fourth, fifth] = key.shown_cenid();
-    let mut text = ArrayString::new();
-    text.push_str(" ");
-    push_char(&mut text, first);
-    push_char(&mut text, second);
-    push_char(&mut text, third);
-    push_char(&mut text, fourth);
-    push_char(&mut text, fifth);
-    text
-}
-
-// Puts a character behind the text.
-fn push_char(text: &mut ArrayString<LONGEST_CENID>, c: char)
-    requires { array_string_len text.old ≤ 17 }
-    ensures bytes { text.new.bytes ≡ text.old.bytes ++ encode_utf8 c }
-    ensures room { array_string_len text.new ≤ array_string_len text.old + 4 }
-{
-    let mut bytes = [0; 4];
-    text.push_str(c.encode_utf8(&mut bytes));
+    page.add(b" ");
+    print_key(map.polygon(number).key, page);
 }

@@ -1,4 +1,4 @@
-use Rattle.std.proofs.Common.{ap, ◌∙◌, arith, refl, sym, take_all, ◌+◌}
+use Rattle.std.proofs.Common.{ap, ◌∙◌, arith, refl, take_all, ◌+◌}
 use Rattle.std.specs.Prelude.{sum_by}
 use Rattle.tigertopo_border.specs.Border.{segments_of}
 use Rattle.tigertopo_border.proofs.CountLemmas.{segments_more, few_segments}

@@ -1,5 +1,7 @@
-use Rattle.tl_cert_output.proofs.PrinterLemmas.{both}
+use Rattle.tl_cert_output.proofs.PageLemmas.{both}
 use Rattle.tigertopo_border.proofs.fields.print_key.Goals as goal
 
 pub returns : goal.returns
-returns g c = both c.add.ensures c.print_number.ensures
+returns g c =
+    let page = g.met.P.Page.adding in
+    both page c.add.ensures c.print_number.ensures

@@ -1,5 +1,4 @@
 use Rattle.std.proofs.Common.{ℕ, List, ◌++◌, ◌-◌, length}
-use Rattle.tl_cert_output.specs.Printing.{Prints}
 use Rattle.tigertopo_pictures.specs.Groups.{GoesThrough}
 use Rattle.tigertopo_pictures.proofs.GroupLemmas.{IsOnTheWay}
 use Rattle.tigertopo_pictures.proofs.items.print_items.Given as goal
@@ -7,7 +6,7 @@ use Rattle.tigertopo_pictures.proofs.items.print_items.Given as goal
 abbrev pub invariant-loop-at : goal.invariant-loop-at
 invariant-loop-at g l = (ns : List ℕ) → GoesThrough l.groups.next l.initial.at ns
     → IsOnTheWay (λ n. l.before ++ g.I.Items.text l.items n ++ l.behind) l.groups.next l.at ns
-    (Prints g.S.Sink.contents g.S.Sink.failure_count (l.initial.out, l.initial.printer) (l.out, l.printer))
+    (g.P.Page.adds l.initial.page l.page)
 
 abbrev pub decreases-loop-at : goal.decreases-loop-at
 decreases-loop-at g l = length l.groups.next - l.at

@@ -6,5 +6,5 @@ use Rattle.tigertopo_pictures.proofs.rings.print_line.Given as goal
 
 abbrev pub invariant-loop-place : goal.invariant-loop-place
 invariant-loop-place g l =
-    (1 ≤ l.place) × PrintsUpTo g.S.Sink.contents g.S.Sink.failure_count (l.initial.out, l.initial.printer) (l.out, l.printer)
-    (line_text (g.P.Pen.pen l.pen) (directed l.is_along l.points)) (line_text (g.P.Pen.pen l.pen) (drop (l.place - 1) (directed l.is_along l.points)))
+    (1 ≤ l.place) × PrintsUpTo g.P.Page.adds l.initial.page l.page
+    (line_text (g.N.Pen.pen l.pen) (directed l.is_along l.points)) (line_text (g.N.Pen.pen l.pen) (drop (l.place - 1) (directed l.is_along l.points)))

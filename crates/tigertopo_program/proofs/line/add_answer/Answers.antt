@@ -1,4 +1,4 @@
-use Rattle.tl_cert_output.proofs.PrinterLemmas.{as_text}
+use Rattle.tl_cert_output.proofs.PageLemmas.{as_text}
 use Rattle.tigertopo_program.proofs.line.add_answer.Goals as goal
 
 pub returns-in-Chains : goal.returns-in-Chains
@@ -26,7 +26,9 @@ pub returns-in-Bordered : goal.returns-in-Bordered
 returns-in-Bordered g c = rw c.in-Bordered.is c.add_bordered.ensures
 
 pub returns-in-Listing : goal.returns-in-Listing
-returns-in-Listing g c = rw c.in-Listing.is c.add_listing.ensures
+returns-in-Listing g c = rw c.in-Listing.is c.print_listing.ensures
 
 pub returns-in-Lines : goal.returns-in-Lines
-returns-in-Lines g c = rw c.in-Lines.is (as_text c.add.ensures c.as_slice.ensures.value)
+returns-in-Lines g c =
+    let page = g.met.P.Page.adding in
+    rw c.in-Lines.is (as_text page c.add.ensures c.as_slice.ensures.value)

@@ -1,5 +1,5 @@
 use Rattle.std.proofs.Common.{◌*◌, length, refl, arith}
-use Rattle.tl_cert_output.proofs.PrinterLemmas.{as_text}
+use Rattle.tl_cert_output.proofs.PageLemmas.{as_text}
 use Rattle.tl_cert.proofs.PutLemmas.{put_slice}
 use Rattle.tl_cert.proofs.write.write_batch.Goals as goal
 
@@ -8,4 +8,5 @@ put_numbers-start-requires g c = record { room = omega (arith, c.requires); with
 
 pub returns : goal.returns
 returns g c =
-    as_text c.add.ensures (put_slice (13 * length c.args.numbers.now) c.put_numbers-start.result 208 _ c.put_numbers-start.new.text _ refl c.put_numbers-start.ensures)
+    let page = g.met.P.Page.adding in
+    as_text page c.add.ensures (put_slice (13 * length c.args.numbers.now) c.put_numbers-start.result 208 _ c.put_numbers-start.new.text _ refl c.put_numbers-start.ensures)

@@ -1,6 +1,6 @@
 use Rattle.std.proofs.Common.{◌≡◌, length, arith, rules}
 use Rattle.std.proofs.lemmas.Fmt.{length-decimal-le}
-use Rattle.tl_cert_output.proofs.PrinterLemmas.{as_text}
+use Rattle.tl_cert_output.proofs.PageLemmas.{as_text}
 use Rattle.tl_cert.proofs.WriteLemmas.{line_slice}
 use Rattle.tl_cert.proofs.write.write_number.Goals as goal
 
@@ -26,9 +26,10 @@ overflow_sub-digits g c =
 
 pub returns : goal.returns
 returns g c =
+    let page = g.met.P.Page.adding in
     let short = length-decimal-le 20 c.args.number (omega arith) (omega (arith, c.ranges.number.fits)) c.ranges.number.fits in
     let size : length c.write_digits-digits.new.buf ≡ 23 = search rules in
-    as_text c.add.ensures
+    as_text page c.add.ensures
     (line_slice c.args.letter c.write_digits-digits.result c.args.number 23 c.write_digits-digits.new.buf size
     (omega (arith, short, c.write_digits-digits.ensures.start)) (omega (arith, c.write_digits-digits.ensures.start))
     c.write_digits-digits.ensures.written)

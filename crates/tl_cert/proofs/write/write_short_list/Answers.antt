@@ -1,6 +1,6 @@
 use Rattle.std.proofs.Common.{◌≡◌, ◌*◌, ◌∷◌, [], length, rules, arith}
 use Rattle.tl_cert_output.specs.Writing.{line_of}
-use Rattle.tl_cert_output.proofs.PrinterLemmas.{as_text}
+use Rattle.tl_cert_output.proofs.PageLemmas.{as_text}
 use Rattle.tl_cert.specs.Text.{numbered_line, dart_lines}
 use Rattle.tl_record.specs.Lines.{joined_lines}
 use Rattle.tl_cert.proofs.WriteLemmas.{line_first}
@@ -19,9 +19,10 @@ put_number-start-requires g c =
 
 pub returns : goal.returns
 returns g c =
+    let page = g.met.P.Page.adding in
     let size : length c.args.text.now ≡ 221 = search rules in
     let line = line_of (numbered_line (c.args.letter ∷ []) (length c.args.darts.now)) in
     let put = puts_both 221 (13 * length c.args.darts.now) 13 221 _ _ _ _ _ line (joined_lines (dart_lines c.args.darts.now)) _ (omega (arith, c.requires))
     c.put_numbers-behind.ensures c.put_number-start.ensures
     (line_first (numbered_line (c.args.letter ∷ []) (length c.args.darts.now)) (dart_lines c.args.darts.now)) in
-    as_text c.add.ensures (put_slice 221 c.put_number-start.result 221 c.args.text.now c.put_number-start.new.text _ size put)
+    as_text page c.add.ensures (put_slice 221 c.put_number-start.result 221 c.args.text.now c.put_number-start.new.text _ size put)

@@ -1,10 +1,9 @@
 use Rattle.std.proofs.Common.{take}
 use Rattle.std.specs.List.{flat_map}
-use Rattle.tl_cert_output.specs.Printing.{Prints}
 use Rattle.tigertopo_faults.specs.Geojson.Texts.{named_chain}
 use Rattle.tigertopo_faults.proofs.geojson.chains.print_chains_of.Given as goal
 
 abbrev pub invariant-loop-number : goal.invariant-loop-number
 invariant-loop-number g l =
-    Prints g.S.Sink.contents g.S.Sink.failure_count (l.initial.out, l.initial.printer) (l.out, l.printer)
+    g.P.Page.adds l.initial.page l.page
     (flat_map (named_chain l.map.polygons l.tlids) (take l.number l.map.chains))

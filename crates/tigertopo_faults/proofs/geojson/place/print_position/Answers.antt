@@ -1,10 +1,13 @@
-use Rattle.std.proofs.Common.{refl}
+use Rattle.std.proofs.Common.{rules}
+use Rattle.tigertopo_faults.specs.Places.Degrees.{degrees_text}
 use Rattle.tigertopo_faults.specs.Geojson.Places.{position_text}
-use Rattle.tl_cert_output.proofs.PrinterLemmas.{both, as_text}
+use Rattle.tl_cert_output.proofs.PageLemmas.{both}
 use Rattle.tigertopo_faults.proofs.geojson.place.print_position.Goals as goal
 
 pub returns : goal.returns
 unfolding position_text
 returns g c =
-    as_text (both (both (both (both c.add.ensures c.add-2.ensures) c.add-3.ensures) c.add-4.ensures) c.add-5.ensures)
-    (rw (c.as_bytes.ensures.value, c.as_str.ensures.value, c.longitude.ensures, c.as_bytes-2.ensures.value, c.as_str-2.ensures.value, c.latitude.ensures) refl)
+    let page = g.met.P.Page.adding in
+    let x : g.P.Page.adds _ _ (degrees_text 12 c.args.at.x c.args.at.d) = search rules in
+    let y : g.P.Page.adds _ _ (degrees_text 12 c.args.at.y c.args.at.d) = search rules in
+    both page (both page (both page (both page c.add.ensures x) c.add-2.ensures) y) c.add-3.ensures

@@ -1,7 +1,9 @@
 use Rattle.tigertopo_faults.specs.Objects.About.{pair_text}
-use Rattle.tl_cert_output.proofs.PrinterLemmas.{both}
+use Rattle.tl_cert_output.proofs.PageLemmas.{both}
 use Rattle.tigertopo_faults.proofs.objects.about.print_pair.Goals as goal
 
 pub returns : goal.returns
 unfolding pair_text
-returns g c = both (both (both (both (both c.add.ensures c.add-2.ensures) c.number.ensures) c.add-3.ensures) c.number-2.ensures) c.add-4.ensures
+returns g c =
+    let page = g.met.P.Page.adding in
+    both page (both page (both page (both page (both page c.add.ensures c.add-2.ensures) c.number.ensures) c.add-3.ensures) c.number-2.ensures) c.add-4.ensures

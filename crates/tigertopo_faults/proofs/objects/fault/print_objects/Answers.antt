@@ -2,7 +2,7 @@ use Rattle.std.proofs.Common.{map, string_bytes}
 use Rattle.std.specs.Prelude.{option_copied}
 use Rattle.tigertopo_faults.specs.Records.SpokenOf.{chains_of}
 use Rattle.tigertopo_faults.specs.Records.Keeping.{held}
-use Rattle.tl_cert_output.proofs.PrinterLemmas.{both, as_text}
+use Rattle.tl_cert_output.proofs.PageLemmas.{both, as_text}
 use Rattle.tigertopo_faults.specs.Lines.Places.{place_at}
 use Rattle.tigertopo_faults.specs.Objects.Texts.{object_text, fault_object}
 use Rattle.tigertopo_faults.proofs.GeojsonLemmas.ListLemmas.{text_at}
@@ -11,8 +11,9 @@ use Rattle.tigertopo_faults.proofs.objects.fault.print_objects.Goals as goal
 
 pub loop-number-preserved : goal.loop-number-preserved
 loop-number-preserved g c =
+    let page = g.met.P.Page.adding in
     let number = c.loop-number.number in
     let text = object_text (map string_bytes c.args.names.now) c.args.counts.now (chains_of (option_copied c.args.drawn)) (held c.args.lines.now) (place_at c.args.places.now number) in
     let object = fault_object (map string_bytes c.args.names.now) c.args.counts.now (chains_of (option_copied c.args.drawn)) (held c.args.lines.now) c.args.places.now c.args.faults.now in
     let here = text_at text c.args.faults.now number c.index-faults-number.result c.loop-number-test.true c.index-faults-number.is in
-    as_text (both c.loop-number.invariant (as_text (rw c.place_at-at.ensures at c.print_object.ensures) here)) (one_object_more object number)
+    as_text page (both page c.loop-number.invariant (as_text page (rw c.place_at-at.ensures at c.print_object.ensures) here)) (one_object_more object number)

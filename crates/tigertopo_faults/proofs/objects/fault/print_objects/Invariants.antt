@@ -1,6 +1,5 @@
 use Rattle.std.proofs.Common.{map, string_bytes}
 use Rattle.std.specs.Prelude.{option_copied}
-use Rattle.tl_cert_output.specs.Printing.{Prints}
 use Rattle.tigertopo_faults.specs.Records.SpokenOf.{chains_of}
 use Rattle.tigertopo_faults.specs.Records.Keeping.{held}
 use Rattle.tigertopo_faults.specs.Objects.Texts.{fault_object, objects_below}
@@ -8,5 +7,5 @@ use Rattle.tigertopo_faults.proofs.objects.fault.print_objects.Given as goal
 
 abbrev pub invariant-loop-number : goal.invariant-loop-number
 invariant-loop-number g l =
-    Prints g.S.Sink.contents g.S.Sink.failure_count (l.initial.out, l.initial.printer) (l.out, l.printer)
+    g.P.Page.adds l.initial.page l.page
     (objects_below (fault_object (map string_bytes l.names) l.counts (chains_of (option_copied l.drawn)) (held l.lines) l.places l.faults) l.number)

@@ -5,17 +5,18 @@ use Rattle.std.proofs.lemmas.List.{length-map}
 use Rattle.tigertopo_pictures.specs.Geojson.Areas.{doubled_area}
 use Rattle.tigertopo_pictures.specs.Geojson.Holes.{outer_polygon}
 use Rattle.tigertopo_pictures.specs.Geojson.Rings.{boundary_text}
-use Rattle.tl_cert_output.proofs.PrinterLemmas.{both, as_text}
+use Rattle.tl_cert_output.proofs.PageLemmas.{both, as_text}
 use Rattle.tigertopo_pictures.proofs.WalkLemmas.{many_lists}
 use Rattle.tigertopo_pictures.proofs.geojson.rings.print_boundary.Goals as goal
 
 pub returns : goal.returns
 unfolding boundary_text
 returns g c =
+    let page = g.met.P.Page.adding in
     let shape = c.print_shape.ensures _ (c.requires.outers.each c.args.number c.requires.number) in
     let area = c.requires.areas.each c.args.number c.requires.number in
     let back = to_z-of_z {z = doubled_area c.args.map.now.chains c.args.number} (fits_signed_from_abs w128 _ (c.requires.areas.small c.args.number c.requires.number)) in
-    as_text (both (both (both (both (both (both (both (both (both c.add.ensures shape) c.add-2.ensures) c.print_key_members.ensures) c.add-3.ensures) c.print_half.ensures) c.add-4.ensures) c.print_metres.ensures) c.print_file.ensures) c.add-5.ensures)
+    as_text page (both page (both page (both page (both page (both page (both page (both page (both page (both page c.add.ensures shape) c.add-2.ensures) c.print_key_members.ensures) c.add-3.ensures) c.print_half.ensures) c.add-4.ensures) c.print_metres.ensures) c.print_file.ensures) c.add-5.ensures)
     (rw (c.polygon-polygon.ensures, area, back) refl)
 
 pub print_shape-requires : goal.print_shape-requires

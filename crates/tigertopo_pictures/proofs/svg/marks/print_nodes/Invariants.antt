@@ -8,5 +8,5 @@ use Rattle.tigertopo_pictures.proofs.svg.marks.print_nodes.Given as goal
 
 abbrev pub invariant-loop-number : goal.invariant-loop-number
 invariant-loop-number g l =
-    PrintsUpTo g.S.Sink.contents g.S.Sink.failure_count (l.initial.out, l.initial.printer) (l.out, l.printer)
+    PrintsUpTo g.P.Page.adds l.initial.page l.page
     (flat_map (ends_text l.picture.frame) (drawn l.picture l.map)) (flat_map (ends_text l.picture.frame) (drawings l.picture.frame (drop l.number l.map.chains)))

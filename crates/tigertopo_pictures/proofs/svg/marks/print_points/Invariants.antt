@@ -6,5 +6,5 @@ use Rattle.tigertopo_pictures.proofs.svg.marks.print_points.Given as goal
 
 abbrev pub invariant-loop-number : goal.invariant-loop-number
 invariant-loop-number g l =
-    PrintsUpTo g.S.Sink.contents g.S.Sink.failure_count (l.initial.out, l.initial.printer) (l.out, l.printer)
+    PrintsUpTo g.P.Page.adds l.initial.page l.page
     (flat_map (polygon_text l.frame) l.map.polygons) (flat_map (polygon_text l.frame) (drop l.number l.map.polygons))

@@ -7,7 +7,7 @@ use Rattle.tigertopo_pictures.proofs.svg.print.print_strokes.Given as goal
 
 abbrev pub invariant-loop-stroke : goal.invariant-loop-stroke
 invariant-loop-stroke g l =
-    PrintsUpTo g.S.Sink.contents g.S.Sink.failure_count (l.initial.out, l.initial.printer) (l.out, l.printer)
+    PrintsUpTo g.P.Page.adds l.initial.page l.page
     (flat_map stroke_text (strokes_left l.initial.walk)) (flat_map stroke_text (strokes_left l.walk))
 
 abbrev pub decreases-loop-stroke : goal.decreases-loop-stroke

@@ -1,12 +1,13 @@
-use Rattle.std.proofs.Common.{[], option_map, string_bytes, refl}
-use Rattle.tl_cert_output.specs.declared.stop.Stop.TheVariants.{Memory}
+use Rattle.std.proofs.Common.{[], option_map, string_bytes, refl, sym, subst}
+use Rattle.tl_cert_output.specs.Stops.{StopsFor}
 use Rattle.tigertopo_files.proofs.WorldLemmas.{does_fail, does_answer}
 use Rattle.tigertopo_program.specs.Records.{StopsNever}
 use Rattle.tigertopo_program.proofs.ListLemmas.{does_not}
 use Rattle.tigertopo_program.proofs.lists.listing.tell_sound.Goals as goal
 
 pub returns-in_err-answer : goal.returns-in_err-answer
-returns-in_err-answer g c = does_not _ refl (λ known. refl) _ _ StopsNever ⊥ Memory tt (λ never. absurd never) c.from_residual.result c.from_residual.ensures.1
+returns-in_err-answer g c =
+    does_not _ refl (λ known. refl) _ _ StopsNever ⊥ c.in_err-answer.field-0.0 (subst (StopsFor ⊥) (sym c.in_err-answer.ensures.stop) tt) (λ never. absurd never) c.from_residual.result c.from_residual.ensures.1
 
 pub returns-in_err-make_without_faults : goal.returns-in_err-make_without_faults
 returns-in_err-make_without_faults g c =
@@ -18,6 +19,6 @@ returns g c =
     does_answer _ [] made _ StopsNever c.in_ok-make_without_faults.field-0 c.in_ok-make_without_faults.ensures _ _
     (record {
       kept = c.in_ok-make_without_faults.ensures.answered;
-      is = c.in_ok-answer.ensures.0;
-      line = c.in_ok-answer.ensures.1;
+      is = c.in_ok-answer.ensures.said.0;
+      line = c.in_ok-answer.ensures.said.1;
     })

@@ -1,4 +1,5 @@
 use Rattle.std.proofs.Common.{List, map, string_bytes, subst, sym}
+use Rattle.std.proofs.lemmas.Result.{IfOk-weaker}
 use Rattle.tl_record.specs.declared.refusal.Refusal.{Refusal}
 use Rattle.tigertopo_faults.specs.declared.hint.found.FoundLine.{FoundLine}
 use Rattle.tigertopo_faults.specs.Hint.Found.{AreFound}
@@ -11,6 +12,6 @@ returns-clause-prepared g c =
     let u = g.F.FileSystem.under c.args.files.now in
     let asked = wanted_of (map string_bytes c.args.names.now) c.args.wanted in
     let sought = λ (rs : List Refusal). sought_lines asked.told asked.made rs in
-    c.in_ok-refused_texts.ensures u (λ again.
+    IfOk-weaker c.refused_texts.result _ _ (λ texts are. are u (λ again.
     subst (λ (fs : List FoundLine). AreFound u asked.names (sought c.args.list.items) fs) (sym c.as_slice-found.ensures.value)
-    (subst (λ (rs : List Refusal). AreFound u asked.names (sought rs) c.in_ok-spoken.spoken.refused.items) c.as_slice-refusals.ensures.value (c.in_ok-spoken.ensures.refused again)))
+    (subst (λ (rs : List Refusal). AreFound u asked.names (sought rs) c.in_ok-spoken.spoken.refused.items) c.as_slice-refusals.ensures.value (c.in_ok-spoken.ensures.refused again)))) c.refused_texts.ensures.prepared

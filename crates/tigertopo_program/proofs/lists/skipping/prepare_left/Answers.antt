@@ -24,11 +24,11 @@ returns-clause-prepared g c =
     let shown = c.featured-shown.ensures ∙ ap (λ (fs : List MapFault). featured c.args.wanted.told fs) c.as_slice-faults.ensures.value in
     let spoken = c.in_ok-spoken.spoken in
     let sought = λ (rs : List Refusal). sought_lines asked.told asked.made rs in
-    let so = c.in_ok-refused.ensures u (λ again.
+    let so = c.in_ok-refused.ensures.prepared u (λ again.
     subst (λ (fs : List FoundLine). AreFound u asked.names (sought c.args.list.items) fs) (sym c.as_slice-found.ensures.value)
     (subst (λ (rs : List Refusal). AreFound u asked.names (sought rs) spoken.refused.items) c.as_slice-refusals.ensures.value (c.in_ok-spoken.ensures.refused again))) in
     let told =
-    c.as_slice-behind.ensures.value ∙ c.in_ok-told.ensures.told
+    c.as_slice.ensures.value ∙ c.in_ok-behind.ensures.bytes
     ∙ ap (λ (d : Option TheMap). told_text asked.names (chains_of d) spoken asked.form asked.told c.as_slice-faults.result.now left.touched) drawn
     ∙ ap (λ (fs : List MapFault). told_text asked.names (chains_of left.map) spoken asked.form asked.told fs left.touched) c.as_slice-faults.ensures.value in
     record {
@@ -36,9 +36,9 @@ returns-clause-prepared g c =
       stand = so.answer.stand;
       plain = so.answer.plain;
       lines =
-          c.in_ok-text.ensures.told
-          ∙ ap (λ (rs : List Refusal). answer_text c.in_ok-refused.refused.0 ++ c.as_slice-behind.result.now ++ skipped_text asked.form (length rs)) c.as_slice-refusals.ensures.value
-          ∙ ap (λ (t : List ℕ). t ++ c.as_slice-behind.result.now ++ skipped_text asked.form (length c.args.list.items)) so.answer.lines
+          c.in_ok-text.ensures.bytes
+          ∙ ap (λ (rs : List Refusal). answer_text c.in_ok-refused.refused.0 ++ c.as_slice.result.now ++ skipped_text asked.form (length rs)) c.as_slice-refusals.ensures.value
+          ∙ ap (λ (t : List ℕ). t ++ c.as_slice.result.now ++ skipped_text asked.form (length c.args.list.items)) so.answer.lines
           ∙ ap (λ (t : List ℕ). refusals_text asked.form (most_of asked.told) c.args.list.items so.answer.told ++ t ++ skipped_text asked.form (length c.args.list.items)) told;
       speak = λ again.
           subst (λ (rs : List Refusal). AreSpoken layout (numbers_of rs) u asked.names left.map (featured asked.told left.faults.items) spoken) c.as_slice-refusals.ensures.value

@@ -2,15 +2,16 @@ use Rattle.std.proofs.Common.{map, arith}
 use Rattle.std.proofs.lemmas.List.{length-map}
 use Rattle.tigertopo_pictures.specs.Geojson.Holes.{home}
 use Rattle.tigertopo_pictures.specs.Geojson.Rings.{part_text}
-use Rattle.tl_cert_output.proofs.PrinterLemmas.{both}
+use Rattle.tl_cert_output.proofs.PageLemmas.{both}
 use Rattle.tigertopo_pictures.proofs.WalkLemmas.{few_walks, many_lists}
 use Rattle.tigertopo_pictures.proofs.geojson.rings.PartsItems.print.Goals as goal
 
 pub returns : goal.returns
 unfolding part_text
 returns g c =
+    let page = g.met.P.Page.adding in
     let holes = c.requires.1.each c.args.number c.requires.2 in
-    both (both (both (both c.add.ensures c.print.ensures) c.add-2.ensures) (c.print_items.ensures _ (rw c.first-first.ensures holes))) c.add-3.ensures
+    both page (both page (both page (both page c.add.ensures c.print.ensures) c.add-2.ensures) (c.print_items.ensures _ (rw c.first-first.ensures holes))) c.add-3.ensures
 
 pub overflow_cast-number : goal.overflow_cast-number
 overflow_cast-number g c =

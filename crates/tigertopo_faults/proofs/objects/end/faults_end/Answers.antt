@@ -1,7 +1,0 @@
-use Rattle.std.proofs.Common.{refl}
-use Rattle.tigertopo_faults.specs.Objects.Ends.{faults_end}
-use Rattle.tigertopo_faults.proofs.objects.end.faults_end.Goals as goal
-
-pub returns : goal.returns
-unfolding faults_end
-returns c = rw (c.push_str.ensures.bytes, c.push_number-3.ensures.bytes, c.push_number-2.ensures.bytes, c.push_number.ensures.bytes, c.new-text.ensures) refl

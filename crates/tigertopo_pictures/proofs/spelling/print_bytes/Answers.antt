@@ -1,0 +1,18 @@
+use Rattle.std.proofs.Common.{arith}
+use Rattle.tigertopo_pictures.proofs.PieceLemmas.{at_start, piece_more, at_end, flat_next, flat_end}
+use Rattle.tigertopo_pictures.proofs.spelling.print_bytes.Goals as goal
+
+pub loop-byte-init : goal.loop-byte-init
+loop-byte-init g c =
+    let page = g.met.P.Page.adding in
+    at_start page
+
+pub loop-byte-preserved : goal.loop-byte-preserved
+loop-byte-preserved g c =
+    let page = g.met.P.Page.adding in
+    piece_more page _ (flat_next g.E.Spelling.spelt c.args.bytes.now c.loop-byte.byte-index _ c.loop-byte-test.true) c.loop-byte.invariant c.print.ensures
+
+pub returns : goal.returns
+returns g c =
+    let page = g.met.P.Page.adding in
+    at_end page (flat_end g.E.Spelling.spelt c.args.bytes.now c.loop-byte.byte-index (omega arith)) c.loop-byte.invariant

@@ -1,7 +1,0 @@
-use Rattle.std.proofs.Common.{◌≡◌, take}
-use Rattle.tl_list_text.specs.Texts.{lines}
-use Rattle.tl_check_verdict.specs.Messages.{map_fault_text}
-use Rattle.tigertopo_program.proofs.lists.prepared.lines_of.Given as goal
-
-abbrev pub invariant-loop-fault : goal.invariant-loop-fault
-invariant-loop-fault l = l.text.items ≡ lines map_fault_text (take l.fault-index l.faults)

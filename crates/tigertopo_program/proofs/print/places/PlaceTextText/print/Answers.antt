@@ -1,5 +1,0 @@
-use Rattle.tl_cert_output.proofs.PrinterLemmas.{ends_text}
-use Rattle.tigertopo_program.proofs.print.places.PlaceTextText.print.Goals as goal
-
-pub returns : goal.returns
-returns g c = ends_text c.finish.result c.new-printer.ensures c.add_place.ensures c.finish.ensures.prints c.finish.ensures.stop

@@ -1,0 +1,7 @@
+use Rattle.tl_cert_output.proofs.PageLemmas.{both}
+use Rattle.tl_list_text.proofs.faults.print_fault.Goals as goal
+
+pub returns : goal.returns
+returns g c =
+    let page = g.met.P.Page.adding in
+    both page (both page c.add.ensures c.print_fault_words.ensures) c.add-2.ensures
