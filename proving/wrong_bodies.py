@@ -72,7 +72,7 @@ class Tries:
         print(text.replace("must-fail ", "wrong-bodies ", 1), flush=True)
         if told not in (self.rt.REFUSED, self.rt.AT_LIMIT):
             return False
-        self.note_of(edit).parent.mkdir(exist_ok=True)
+        self.note_of(edit).parent.mkdir(parents=True, exist_ok=True)
         self.note_of(edit).write_text(self.sum_of(edit))
         return True
 

@@ -1,6 +1,6 @@
 #!/usr/bin/env python3
-"""Counts how often the built program reads each file that it is given: once for what is asked, and once more at most, for the records that
-faults speak of and the places of refused lines, or for a hint.
+"""Counts how often the built program reads each file that it is given: once for what is asked, and once more where it says something behind
+a refusal.
 
 usage: readings.py [PROGRAM]
 
@@ -38,7 +38,6 @@ RUNS = [
     *(["audit", "--all", "--skip-refused", *words, *files] for files in ([SOUND], [LONG], REFUSED, [*REFUSED, TOWN])
       for words in ([], *FORMS, ["--where", "--geojson", MADE], ["--json", "--geojson", MADE])),
 ]
-MOST_READINGS = 2
 OPENED = re.compile(r'openat\([^,]*, "(.*)", .*\) = (\d+)')
 READ = re.compile(r"(?:read|pread64)\((\d+), .*\) = (\d+)")
 
@@ -60,18 +59,18 @@ def readings(calls, names):
 
 
 def play_all(program=PROGRAM):
-    """How many runs read each file as often as they may at most, and how many didn't."""
+    """How many runs read each file no more often than they may, and how many didn't."""
     passed = failed = 0
     with tempfile.TemporaryDirectory() as folder:
         calls = Path(folder, "calls")
         for words in RUNS:
             Path(folder, MADE).unlink(missing_ok=True)
             asked = ["strace", "-f", "-e", "trace=openat,read,pread64", "-o", calls, program, *words]
-            subprocess.run(asked, cwd=folder, stdin=subprocess.DEVNULL, capture_output=True)
+            done = subprocess.run(asked, cwd=folder, stdin=subprocess.DEVNULL, capture_output=True)
             names = [str(it) for it in words if isinstance(it, Path)]
             told = readings(calls.read_text(errors="replace").splitlines(), names)
-            # That some file was read shows that the calls are told.
-            is_well = 1 <= max(told.values()) <= MOST_READINGS
+            # What is said behind a refusal begins with blanks. That some file was read shows that the calls are told.
+            is_well = 1 <= max(told.values()) <= (2 if b"\n  " in done.stderr else 1)
             passed, failed = passed + is_well, failed + (not is_well)
             if not is_well:
                 print(f"{' '.join(map(str, words))}: read so often: {told}")

@@ -13,10 +13,6 @@ use Rattle.tigertopo_faults.specs.declared.places.lines.Found.TheVariants.{Line,
 use Rattle.tigertopo_faults.specs.Places.LinePlaces.{line_at}
 use Rattle.tigertopo_faults.specs.Places.Finding.{Answers, CountsAll, IsFound, Passes, PassesTo, Shows}
 
-pub passes_none : (text : Option (List ℕ)) → PassesTo 0 text text
-passes_none None = tt
-passes_none (Some text) = (refl, omega arith, omega arith)
-
 -- nothing was passed where a buffer is empty
 pub passes_fresh : (buffer : List ℕ) (text : Option (List ℕ)) → buffer ≡ [] → PassesTo 0 text (prepend_known buffer text)
 passes_fresh buffer None none = tt

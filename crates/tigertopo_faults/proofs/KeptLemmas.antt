@@ -1,9 +1,10 @@
 -- Lines that are kept under the subjects that name their records.
-use Rattle.std.proofs.Common.{◌≡◌, ℕ, zero, suc, ◌<◌, ◌&&◌, Bool, true, false, List, [], ◌∷◌, ◌++◌, Option, None, Some, length, get_or, slice_get, slice_set, nat_eq, eqb, refl, sym, ap, subst, ◌∙◌, arith, Contains, append_assoc, append-nil, inl, inr, eqb-true, if◌then◌else◌, Vec, Global, Result, Ok, Err, OnOk}
+use Rattle.std.proofs.Common.{◌≡◌, ℕ, zero, suc, ◌+◌, ◌<◌, ◌&&◌, Bool, true, false, List, [], ◌∷◌, ◌++◌, Option, None, Some, length, get_or, slice_get, slice_set, nat_eq, eqb, refl, sym, ap, subst, ◌∙◌, arith, Contains, append_assoc, append-nil, inl, inr, eqb-true, if◌then◌else◌, Vec, Global, Result, Ok, Err, OnOk, take}
 use Rattle.std.specs.Prelude.{is_some, position}
 use Rattle.std.specs.Option.{option_map_or}
 use Rattle.std.specs.Cmp.Lexicographic.{pointwise, same_text, nat_list_eq_equiv}
 use Rattle.std.proofs.lemmas.Bool.{cases_Bool, eq-eqb}
+use Rattle.std.proofs.lemmas.List.{take_more}
 use Rattle.std.proofs.lemmas.List.Quantifiers.{position-Some}
 use Rattle.std.proofs.lemmas.Option.{slice_get-get_or}
 use Rattle.indexmap.specs.IndexSet.{insert_key}
@@ -17,8 +18,8 @@ use Rattle.tigertopo_faults.specs.declared.records.subject.Subject.TheVariants a
 use Rattle.tigertopo_faults.specs.contracts.records.subject.SubjectPartialEq.TheImpl.{eq-value}
 use Rattle.tigertopo_faults.specs.declared.records.line.RecordLine.{RecordLine}
 use Rattle.tigertopo_faults.specs.declared.records.kept.KeptLines.{KeptLines}
-use Rattle.tigertopo_faults.specs.Records.SpokenOf.{Subjects, is_about, line_of}
-use Rattle.tigertopo_faults.specs.Records.Kept.{kept_of, Grows, Notes}
+use Rattle.tigertopo_faults.specs.Records.SpokenOf.{Subjects, is_about, line_of, lines_about}
+use Rattle.tigertopo_faults.specs.Records.Kept.{kept_of, Grows, Notes, NotesAll}
 use Rattle.tigertopo_faults.specs.Records.Naming.{subjects_naming, same_subject, is_subject}
 
 both_true : (a b : Bool) → (a && b) ≡ true → (a ≡ true) × (b ≡ true)
@@ -271,24 +272,51 @@ pub noted_then : {E : Type 0} (old mid new : KeptLines) (subjects : Subjects) (n
 noted_then old mid new subjects number r (Ok done) is one two = noted old mid new subjects number r is one two
 noted_then old mid new subjects number r (Err stop) is one two = tt
 
--- ---- records that are wanted
+-- ---- several records, one after the other
 
--- a subject that isn't wanted is none that is
-pub not_wanted : (keys : List Subject) (t s : Subject) → is_some (position (same_subject t) keys) ≡ false → is_some (position (same_subject s) keys) ≡ true → same_subject t s ≡ false
-not_wanted keys t s none some =
-    elim (cases_Bool (same_subject t s)) [
-      | inl same ↦ let wrong : false ≡ true = sym none ∙ ap (λ (x : Subject). is_some (position (same_subject x) keys)) (subject_is t s same) ∙ some in absurd (let no = wrong in cc)
-      | inr other ↦ other
+lines_step : (entry : ℕ × Record) (rest : List (ℕ × Record)) (s : Subject) → lines_about (entry ∷ rest) s ≡ (if is_about s entry.1 then line_of entry ∷ [] else []) ++ lines_about rest s
+lines_step entry rest s =
+    elim (cases_Bool (is_about s entry.1)) [
+      | inl holds ↦ rw holds refl
+      | inr fails ↦ rw fails refl
     ]
 
--- a record that neither of the two names is named by no other
-pub not_named : (r : Record) (s : Subject) (subjects : Subjects) → subjects ≡ subjects_naming r → is_subject subjects.0 s ≡ false → is_subject subjects.1 s ≡ false → is_about s r ≡ false
-not_named r s subjects is narrow wide =
-    let line : RecordLine = line_of (0, r) in
-    let first : is_subject (subjects_naming r).0 s ≡ false = ap (λ (p : Subjects). is_subject p.0 s) (sym is) ∙ narrow in
-    let second : is_subject (subjects_naming r).1 s ≡ false = ap (λ (p : Subjects). is_subject p.1 s) (sym is) ∙ wide in
-    let both = named_once r s line in
-    elim (cases_Bool (is_about s r)) [
-      | inl named ↦ absurd (let wrong = rw (first, second, named) at both in cc)
-      | inr other ↦ other
-    ]
+pub about_behind : (entries more : List (ℕ × Record)) (s : Subject) → lines_about (entries ++ more) s ≡ lines_about entries s ++ lines_about more s
+about_behind [] more s = refl
+about_behind (entry ∷ rest) more s =
+    let one = if is_about s entry.1 then line_of entry ∷ [] else [] in
+    lines_step entry (rest ++ more) s ∙ ap (λ l. one ++ l) (about_behind rest more s) ∙ sym (append_assoc one (lines_about rest s) (lines_about more s))
+    ∙ ap (λ l. l ++ lines_about more s) (sym (lines_step entry rest s))
+
+pub noted_more : (first old new : KeptLines) (found : List (ℕ × Record)) (i : ℕ) (entry : ℕ × Record) → i < length found → entry ≡ get_or found i entry → NotesAll first old (take i found) → Notes old new entry
+    → NotesAll first new (take (i + 1) found)
+noted_more first old new found i entry within is before notes =
+    let split : take (i + 1) found ≡ take i found ++ entry ∷ [] = take_more found i entry within ∙ ap (λ e. take i found ++ e ∷ []) (sym is) in record {
+      wanted = λ s. notes.wanted s ∙ before.wanted s;
+      lines = λ s wanted.
+          notes.lines s (before.wanted s ∙ wanted) ∙ ap (λ l. l ++ (if is_about s entry.1 then line_of entry ∷ [] else [])) (before.lines s wanted)
+          ∙ append_assoc (kept_of first s) (lines_about (take i found) s) (if is_about s entry.1 then line_of entry ∷ [] else [])
+          ∙ ap (λ l. kept_of first s ++ (lines_about (take i found) s ++ l)) (sym (lines_step entry [] s ∙ append-nil (if is_about s entry.1 then line_of entry ∷ [] else [])))
+          ∙ ap (λ l. kept_of first s ++ l) (sym (about_behind (take i found) (entry ∷ []) s))
+          ∙ ap (λ l. kept_of first s ++ lines_about l s) (sym split);
+    }
+
+-- ---- no line
+
+-- lists that hold nothing
+abbrev pub AreEmpty : List (Vec RecordLine Global) → Type 0
+AreEmpty lists = (i : ℕ) (v : Vec RecordLine Global) → slice_get lists i ≡ Some v → v.items ≡ []
+
+pub empty_more : (lists : List (Vec RecordLine Global)) (new : Vec RecordLine Global) → new.items ≡ [] → AreEmpty lists → AreEmpty (lists ++ new ∷ [])
+empty_more [] new none empty zero v is = let same : new ≡ v = let all = is in cc in ap (λ (w : Vec RecordLine Global). w.items) (sym same) ∙ none
+empty_more [] new none empty (suc i) v is = absurd (let wrong = is in cc)
+empty_more (first ∷ lists) new none empty zero v is = empty zero v is
+empty_more (first ∷ lists) new none empty (suc i) v is = empty_more lists new none (λ j w at. empty (suc j) w at) i v is
+
+pub holds_none : (lists : List (Vec RecordLine Global)) (found : Option ℕ) → AreEmpty lists → at_number lists found ≡ []
+holds_none lists None empty = refl
+holds_none lists (Some n) empty = at_place (slice_get lists n) (λ v is. empty n v is)
+  where
+    at_place : (place : Option (Vec RecordLine Global)) → ((v : Vec RecordLine Global) → place ≡ Some v → v.items ≡ []) → option_map_or (λ (lines : Vec RecordLine Global). lines.items) place [] ≡ []
+    at_place None none = refl
+    at_place (Some v) none = none v refl

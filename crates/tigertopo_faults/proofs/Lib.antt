@@ -6,11 +6,10 @@ pub mod ShownLemmas
 pub mod DegreeLemmas
 pub mod LocationLemmas
 pub mod HintLemmas
-pub mod FoundLemmas
 pub mod PlacedLemmas
 pub mod ColumnLemmas
 pub mod KeptLemmas
-pub mod ReadingLemmas
+pub mod WantedLemmas
 pub mod WalkLemmas
 pub mod WalkedLemmas
 pub mod SegmentLemmas

@@ -1,3 +1,3 @@
-pub mod AgainLemmas
+pub mod SpeakingLemmas
 pub mod PlacesLemmas
 pub mod SpokenLemmas

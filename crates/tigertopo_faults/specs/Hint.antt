@@ -6,6 +6,6 @@ pub mod Objects
 pub mod Telling
 pub mod Again
 pub mod Placed
-pub mod Found
+pub mod Fronts
 pub mod Placing
 pub mod Unread

@@ -2,4 +2,4 @@
 pub mod Places
 pub mod Keyed
 pub mod Texts
-pub mod Again
+pub mod Speaking

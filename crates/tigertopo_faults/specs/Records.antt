@@ -6,5 +6,4 @@ pub mod Kept
 pub mod Keeping
 pub mod Wanting
 pub mod Finding
-pub mod Reading
 pub mod Walking

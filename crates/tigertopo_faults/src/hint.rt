@@ -7,7 +7,6 @@
 mod advice;
 mod asking;
 mod form;
-mod found;
 mod holding;
 mod object;
 mod placed;
@@ -18,7 +17,6 @@ mod unread;
 
 pub use asking::Asking;
 pub use form::RefusedForm;
-pub use found::{FoundLine, SoughtLines};
 pub use placed::{RefusedLines, print_refusals};
 pub use tell::{TroubleLine, say_hint};
 pub use unread::say_unread;

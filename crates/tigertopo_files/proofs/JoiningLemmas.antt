@@ -2,9 +2,10 @@
 use Rattle.std.proofs.Common.{◌≡◌, ℕ, zero, suc, ◌+◌, ◌-◌, ◌^◌, ◌<◌, ◌≤◌, min, Bool, false, not, ◌==◌, nat_eq, List, [], ◌∷◌, ◌++◌, length, take, drop, slice_index}
 use Rattle.std.proofs.Common.{Some, None, refl, ap, ◌∙◌, append_assoc, arith, map, option_map, if◌then◌else◌, slice_index_or, slice_set, slice_range, add-one, sym, drop-drop, take_at, take-append-drop}
 use Rattle.std.proofs.Math.Seq.{drop-cons}
+use Rattle.std.proofs.lemmas.Option.{same_Some, slice_get-get_or}
 use Rattle.std.proofs.lemmas.List.{drop-set, drop-set-lt, drop-take, get_or-take, length-take-le}
 use Rattle.std.specs.Io.KnownBytes.{Consumes, IsAtEnd, Keeps, prepend_known}
-use Rattle.std.specs.Prelude.{Option}
+use Rattle.std.specs.Prelude.{Option, slice_get}
 use Rattle.std.specs.Fmt.{option_append}
 use Rattle.tl_record.specs.Failures.{one_more}
 use Rattle.tigertopo_files.specs.Joining.{line_feed, leaves_open, closed, joined, joined_bytes, failures_from}
@@ -30,6 +31,16 @@ leaves_open-last before [] h = absurd (omega arith)
 leaves_open-last before (x ∷ xs) h =
     let size : length (x ∷ xs) - 1 ≡ length xs = omega arith in
     rw size (leaves_open-cons xs x before)
+
+-- the last byte, where there is one
+pub leaves_open-of_last : (before : Bool) (xs : List ℕ) (byte : ℕ) → slice_get xs (length xs - 1) ≡ Some byte → not (byte == line_feed) ≡ leaves_open before xs
+leaves_open-of_last before [] byte is = cc
+leaves_open-of_last before (x ∷ xs) byte is =
+    let last : length xs < length (x ∷ xs) = omega arith in
+    let here : length (x ∷ xs) - 1 ≡ length xs = omega arith in
+    let found : slice_index (x ∷ xs) (length xs) ≡ byte =
+    same_Some (slice_index (x ∷ xs) (length xs)) byte (sym (slice_get-get_or (x ∷ xs) (length xs) 0 last) ∙ (rw here at is)) in
+    ap (λ b. not (b == line_feed)) (sym found) ∙ sym (leaves_open-cons xs x before)
 
 -- the last of the n bytes that a read gave decides
 pub leaves_open-read : (before : Bool) (buf : List ℕ) (n : ℕ) → 0 < n → n ≤ length buf

@@ -1,5 +1,6 @@
 -- Lemmas on files.
 pub mod JoiningLemmas
+pub mod CountingLemmas
 pub mod FailureLemmas
 pub mod WorldLemmas
 pub mod OpeningLemmas

@@ -1,5 +1,6 @@
 -- What the contracts of files cite.
 pub mod Joining
+pub mod Counting
 pub mod Files
 pub mod Log
 pub mod World

@@ -1,5 +1,6 @@
 -- The texts that files are read as, and what comes of reading them.
-use Rattle.std.specs.Prelude.{◌≡◌, ◌⊎◌, ◌<◌, ℕ, true, false, List, [], ◌∷◌, ◌++◌, Contains, Option, Some, None, Result, Err, IfOk, IfErr, IfSome, IfNone}
+use Rattle.std.specs.Prelude.{◌≡◌, ◌⊎◌, ◌<◌, ℕ, true, false, List, [], ◌∷◌, ◌++◌, Contains, length, map, Option, Some, None, Result, Err, IfOk, IfErr, IfSome, IfNone}
+use Rattle.tl_record.specs.Lines.{raw_lines}
 use Rattle.tl_cert_output.specs.declared.stop.Stop.{Stop}
 use Rattle.tl_cert_output.specs.declared.stop.Stop.TheVariants.{Device}
 use Rattle.tigertopo_files.specs.Joining.{joined_bytes}
@@ -15,6 +16,11 @@ text_under under names = joined_bytes (bytes_under under) false names
 abbrev pub single_under : Under → Option (List ℕ) → Option (List ℕ)
 single_under under None = Some []
 single_under under (Some name) = bytes_under under name
+
+-- so many lines has the text under each name, where that is known
+abbrev pub HaveLines : Under → List (List ℕ) → List ℕ → Type 0
+HaveLines under names counts =
+    (texts : List (List ℕ)) → map (bytes_under under) names ≡ map Some texts → counts ≡ map (λ text. length (raw_lines text)) texts
 
 -- the names of all, that of the one that is read by itself behind the others
 abbrev pub all_names : List (List ℕ) → Option (List ℕ) → List (List ℕ)

@@ -4,7 +4,7 @@ ghost use Rattle.std.specs.Prelude.{◌≡◌, ℕ, Bool, true, false, is_some, 
 ghost use Rattle.std.specs.Prelude.{IfOk, IfErr, IfSome, OnOk, OnErr, map, option_map, string_bytes};
 ghost use Rattle.tigertopo_files.specs.Files.{Under, standing, beside, trouble_of, IsRoom, IsFree, KeepsBut, KeepsEach};
 ghost use Rattle.tigertopo_files.specs.Log.{Log, after_draft, with_settled};
-ghost use Rattle.tigertopo_files.specs.Reading.{DoesAgain, all_names, single_under, text_under};
+ghost use Rattle.tigertopo_files.specs.Reading.{DoesAgain, HaveLines, all_names, single_under, text_under};
 ghost use Rattle.tigertopo_files.specs.World.{Does, world};
 ghost use Rattle.tigertopo_files.specs.declared.beginning.FileKind.{FileKind};
 ghost use Rattle.tl_cert_output.specs.Stops.{StopsFor};
@@ -122,11 +122,15 @@ pub trait FileSystem {
         ensures stays { under self.new ≡ under self.old }
         ensures logged { knows ≡ true → log self.new ≡ record (log self.old) { watched = Some (string_bytes last) } };
 
-    /// What the next [`FileSystem::read`] reads of files that can be read but once is kept in memory, as far as that holds it, so that
-    /// they can be read again.
-    fn keep_passing(&mut self)
+    /// The lines of files of records are counted in what the next [`FileSystem::read`] reads.
+    fn count_lines(&mut self)
         ensures stays { under self.new ≡ under self.old }
         ensures logged { knows ≡ true → log self.new ≡ log self.old };
+
+    /// How many lines each of the files of these names has, which were read last, while lines were counted. The error is that memory was
+    /// refused.
+    fn line_counts(&self, alloc: Global, names: &[String]) -> Result<Vec<u64>, AllocError>
+        ensures { IfOk result (λ counts. HaveLines (under self.now) (map string_bytes names.now) counts.items) };
 
     /// Whether a new file of this kind may take a name, where those of these names are read.
     fn room(&self, alloc: Global, name: &str, read: &[String], kind: FileKind) -> Result<Room, Stop>

@@ -2,13 +2,14 @@
 //!
 //! A [`FileSystem`] lends the files of names to a [`Reading`], tells whether a file may be made of a name, and lets a new file take one
 //! when it is whole: [`make_file`] makes one of a text. Its contract says what stands under each name before and after, where that is
-//! known, and what was done. [`JoinedSources`] reads several files as one text, and [`Buffered`] many bytes at a time; [`with_printed`] prints
-//! a text into memory. `tigertopo_system_files` has the files of the system, of which neither is known, and
-//! `tigertopo_memory_files` has files of which both are.
+//! known, and what was done. [`JoinedSources`] reads several files as one text, and [`Buffered`] many bytes at a time; [`LineCount`] counts
+//! lines of bytes that are read, and [`with_printed`] prints a text into memory. `tigertopo_system_files` has the files of the system, of
+//! which neither is known, and `tigertopo_memory_files` has files of which both are.
 #![tactic(auto)]
 
 mod beginning;
 mod buffered;
+mod counting;
 mod file_system;
 mod joined;
 mod lending;
@@ -19,6 +20,7 @@ mod printed;
 
 pub use beginning::{FRONT, FileKind, first_bytes, may_be_left, may_go};
 pub use buffered::Buffered;
+pub use counting::{LineCount, leaves_open, line_count};
 pub use file_system::{Draft, FileSystem, Room};
 pub use joined::{Joined, JoinedSources};
 pub use lending::{Reading, read_each, read_each_again};

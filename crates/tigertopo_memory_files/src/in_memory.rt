@@ -3,14 +3,14 @@
 ghost use Rattle.std.specs.Prelude.{◌≡◌, ◌≢◌, ◌++◌, ℕ, List, None, Some, IfOk, IfErr, OnOk, OnErr, Contains, map, option_map, string_bytes};
 ghost use Rattle.std.specs.Bool.{OnTrue, OnFalse};
 ghost use Rattle.tl_cert_output.specs.Stops.{StopsFor};
-ghost use Rattle.tigertopo_memory_files.specs.Keeping.Stored.{found_with as found_with_of};
+ghost use Rattle.tigertopo_memory_files.specs.Keeping.Stored.{found_with as found_with_of, lines_found};
 
 use std::alloc::{AllocError, Global};
 use std::collections::VecDeque;
 use std::io;
 use std::io::{ErrorKind, Read, Write};
 use tigertopo_files::{
-    FileKind, FileSystem, Opener, Reading, Room, all_names, read_each, read_each_again,
+    FileKind, FileSystem, Opener, Reading, Room, all_names, line_count, read_each, read_each_again,
     with_printed,
 };
 use tigertopo_system_files::{Lookup, Seen, Spot, name_beside, room_of};
@@ -236,8 +236,16 @@ impl FileSystem for FilesInMemory {
         self.watched = Some(last);
     }
 
-    // Each of these files can be read again.
-    fn keep_passing(&mut self) {}
+    // The bytes of these files are there to be counted.
+    fn count_lines(&mut self) {}
+
+    fn line_counts(&self, alloc: Global, names: &[String]) -> Result<Vec<u64>, AllocError> {
+        let mut counts = Vec::new(alloc);
+        for name in names {
+            counts.push(lines_of(self.bytes(name.as_str())))?;
+        }
+        Ok(counts)
+    }
 
     fn room(
         &self,
@@ -329,6 +337,16 @@ fn held_of(bytes: Option<&[u8]>, alloc: Global) -> Result<Held, Stop>
     match held.write(bytes) {
         Ok(_) => Ok(Held { bytes: held }),
         Err(_) => Err(Stop::Memory),
+    }
+}
+
+// How many lines the bytes of a file have, where there are any.
+fn lines_of(bytes: Option<&[u8]>) -> u64
+    ensures { result ≡ lines_found (option_map (λ bytes. bytes.now) bytes.entry) }
+{
+    match bytes {
+        Some(bytes) => line_count(bytes),
+        None => 0,
     }
 }
 

@@ -1,7 +1,6 @@
 -- What is answered of what was found.
-use Rattle.std.proofs.Common.{◌≡◌, ◌⊎◌, inl, inr, ℕ, zero, suc, ◌+◌, ◌≤◌, take, Bool, true, List, [], ◌∷◌, ◌++◌, map, Some, None, Option, Result, Ok, Err, refl, sym, ap, subst, ◌∙◌, arith, append-nil}
+use Rattle.std.proofs.Common.{◌≡◌, ◌⊎◌, inl, inr, ℕ, ◌+◌, take, Bool, true, List, [], ◌∷◌, ◌++◌, map, Some, None, Option, Result, Ok, Err, refl, sym, ap, subst, ◌∙◌, arith, append-nil}
 use Rattle.std.specs.Prelude.{slice_get, Vec, IfErr, codes, is_some, length, false}
-use Rattle.std.specs.List.{filter_map, enumerate_from}
 use Rattle.std.specs.Global.{Global}
 use Rattle.std.specs.Option.{IfSome, option_map}
 use Rattle.std.specs.Result.{IsErrAnd}
@@ -11,35 +10,34 @@ use Rattle.tl_record.specs.declared.layout.Layout.{Layout}
 use Rattle.tl_record.specs.declared.options.Options.{Options}
 use Rattle.tl_record.specs.declared.refusal.Refusal.{Refusal}
 use Rattle.tl_record.specs.Layout.{layout_with}
-use Rattle.tl_record.specs.declared.stop.Cause.{Cause}
-use Rattle.tl_record.specs.declared.judge.Judgement.{Judgement}
-use Rattle.tl_record.specs.declared.judge.Judgement.TheVariants.{PassedOver, Read}
-use Rattle.tl_record.specs.declared.judge.Judgement.TheVariants.{Refused as RefusedLine}
-use Rattle.tl_record.specs.Judgement.{judgement}
-use Rattle.tl_record.specs.Records.{records_of, judgements, refusal_of}
+use Rattle.tl_record.specs.Left.{left_of}
+use Rattle.tl_record.specs.Records.{records_of, judgements, lines_read}
 use Rattle.tl_record.specs.Lines.{raw_lines}
 use Rattle.tl_record.specs.Refusals.{refusals_of}
 use Rattle.tl_record.specs.Searching.{pair_of}
 use Rattle.tl_record.proofs.RefusalLemmas.{first_refusal as first_of_judged}
 use Rattle.tl_map_county.specs.TheMap.{TheMap, MapChain}
 use Rattle.tigertopo_files.specs.Files.{Under}
-use Rattle.tigertopo_files.specs.Log.{Log, LogsAgain}
-use Rattle.tigertopo_files.specs.World.{World, Does, Failed, Keeps, MayStop, Made, Unmade}
-use Rattle.tigertopo_faults.specs.Hint.Again.{FailsAgain, SomeUnread}
-use Rattle.tigertopo_files.proofs.WorldLemmas.{all_kept, none_made, may_stop, does_then}
+use Rattle.tigertopo_files.specs.Files.{bytes_under}
+use Rattle.tigertopo_files.specs.Joining.{joined}
+use Rattle.tigertopo_files.specs.Log.{Log}
+use Rattle.tigertopo_files.specs.Reading.{HaveLines, text_under}
+use Rattle.tigertopo_files.specs.World.{World, Does, Failed, Keeps, Made, Unmade}
+use Rattle.tigertopo_files.proofs.JoiningLemmas.{joined_bytes-known}
+use Rattle.tigertopo_files.proofs.WorldLemmas.{all_kept, none_made}
 use Rattle.tigertopo_words.specs.declared.budget.Told.{Told}
 use Rattle.tigertopo_words.specs.declared.budget.Told.TheVariants.{One, All}
 use Rattle.tigertopo_words.specs.declared.form.Form.{Form}
 use Rattle.tigertopo_words.specs.declared.form.Form.TheVariants.{Lines as FormLines, Records as FormRecords, Objects as FormObjects}
 use Rattle.tl_cert_output.specs.declared.stop.Stop.{Stop}
-use Rattle.tl_cert_output.specs.declared.stop.Stop.TheVariants.{Record, Memory, Device, Budget}
-use Rattle.tl_cert_output.specs.Stops.{StopsFor}
+use Rattle.tl_cert_output.specs.declared.stop.Stop.TheVariants.{Record, Memory, Device}
+use Rattle.tl_record.specs.declared.stop.Cause.{Cause}
 use Rattle.tl_list_text.specs.Texts.{lines, printed, told_refusal, count_line}
-use Rattle.tigertopo_faults.specs.Hint.Placed.{IsPlaced, placed_text, refused_text, RiseFrom, TellsPlaces}
+use Rattle.tigertopo_faults.specs.Hint.Placed.{IsPlaced, placed_text, refused_text, TellsPlaces}
 use Rattle.tigertopo_faults.specs.declared.hint.form.RefusedForm.{RefusedForm}
-use Rattle.tigertopo_faults.specs.declared.hint.found.FoundLine.{FoundLine}
-use Rattle.tigertopo_faults.specs.Hint.Found.{AreFound, found_text}
-use Rattle.tigertopo_faults.proofs.PlacedLemmas.{found_placed}
+use Rattle.tl_record.specs.Fronts.{front_in}
+use Rattle.tigertopo_faults.specs.Hint.Fronts.{fronted_text}
+use Rattle.tigertopo_faults.proofs.PlacedLemmas.{fronted_placed}
 use Rattle.tigertopo_faults.specs.declared.hint.form.RefusedForm.TheVariants.{Features as RefusedFeatures}
 use Rattle.tigertopo_faults.specs.declared.hint.form.RefusedForm.TheVariants.{Lines as RefusedLines}
 use Rattle.tigertopo_faults.specs.Hint.Telling.{HaveTexts}
@@ -49,80 +47,43 @@ use Rattle.tl_check_verdict.proofs.OneMap.{weaker}
 use Rattle.tl_list_text.specs.declared.listing.Listing.TheVariants.{Sound, Refused, Faults}
 use Rattle.tl_list.specs.Listings.{IsListingOf}
 use Rattle.tl_list.specs.Findings.{AreFindingsOf, IsLeft}
-use Rattle.tl_record.specs.Left.{numbers_of}
+use Rattle.tl_list.specs.Noting.{IfRefused, NotesLines, WhereTold}
+use Rattle.tl_list.specs.declared.left.Found.{Found}
 use Rattle.tl_list.specs.declared.left.LeftFaults.{LeftFaults}
 use Rattle.tigertopo_program.specs.declared.lists.skipping.LeftTexts.{LeftTexts}
 use Rattle.tl_list.proofs.Listed.{sound_alone}
 use Rattle.tigertopo_faults.specs.Records.Keeping.{held}
-use Rattle.tigertopo_faults.specs.declared.lines.again.Spoken.{Spoken}
-use Rattle.tigertopo_faults.specs.Lines.Again.{AreSpoken}
+use Rattle.tigertopo_faults.specs.declared.lines.speaking.Spoken.{Spoken}
+use Rattle.tigertopo_faults.specs.Lines.Speaking.{AreSpoken}
 use Rattle.tigertopo_faults.specs.Geojson.Texts.{faults_text}
-use Rattle.tigertopo_program.specs.Records.{StopsNever}
 use Rattle.tigertopo_program.specs.declared.answer.Answer.{Answer}
 use Rattle.tigertopo_program.specs.declared.answer.Answer.TheVariants.{Listing, Lines}
 use Rattle.tigertopo_program.specs.Answers.{IsSaid}
 use Rattle.tigertopo_program.specs.Texts.{answer_status, answer_text}
-use Rattle.tigertopo_program.specs.Lists.Listed.{Asked, ListAnswers, IsSoundList, IsFaultList, StopsList, StopsAgain, has_places, most_of, told_text, featured, reads_again, refused_form, refusals_last, is_skipping, stops_refused}
+use Rattle.tigertopo_program.specs.Lists.Listed.{Asked, ListAnswers, IsSoundList, IsFaultList, StopsList, asks_lines, has_places, most_of, told_text, featured, refused_form, refusals_last, is_skipping, stops_refused}
 use Rattle.tigertopo_program.specs.Lists.Listed.{AreRefused}
 use Rattle.tigertopo_program.specs.Lists.Listed.{refused_text as refused_collection}
-use Rattle.tigertopo_program.specs.Lists.Keeping.{AnswersFound, AreFeatures, ArePrepared, IsLeftPrepared, IsPrepared, IsRefusedList, faults_answer, sought_lines, stop_of_refusal}
+use Rattle.tigertopo_program.specs.Lists.Keeping.{AnswersFronted, AreFeatures, AreFronts, AreLinesOf, AreNoted, ArePrepared, IsLeftPrepared, IsPrepared, IsRefusedList, bytes_of, faults_answer, stop_of_refusal}
 
 -- ---- what is done with files
 
+-- nothing is done with files
 module _ {T : Type 0} (w : World) (same : w.after ≡ w.before) (logs : w.knows ≡ true → w.logged ≡ w.log) (made : Option (List ℕ)) (P : T → Type 0) (S : Stop → Type 0) where
   none_opened : w.log ≡ record w.log { opened = w.log.opened ++ [] }
   none_opened = ap (λ xs. record w.log { opened = xs }) (sym (append-nil w.log.opened))
 
-  none_failed : w.log ≡ record w.log { opened = w.log.opened ++ []; failures = w.log.failures + 0 }
-  none_failed =
-      let same : w.log.failures ≡ w.log.failures + 0 = omega arith in
-      none_opened ∙ ap (λ n. record w.log { opened = w.log.opened ++ []; failures = n }) same
-
-  -- nothing is done with files
-  pub does_nothing : (t : T) → P t → Does w [] made P S (Ok t)
-  does_nothing t so = record { answered = so; stopped = tt; device = λ e. absurd (cc); keeps = all_kept w made same; unmade = tt; logged = λ known. logs known ∙ none_opened }
-
-  -- nothing is, and nothing is answered
-  pub stops_still : (stop : Stop) → MayStop S stop → (stop ≡ Device → S Device) → Does {T = T} w [] made P S (Err stop)
-  stops_still (Record line cause) why device =
-      record { answered = tt; stopped = why; device = λ e. absurd (cc); keeps = all_kept w made same; unmade = none_made w made same; logged = λ known. (0, logs known ∙ none_opened) }
-  stops_still Memory why device =
-      record { answered = tt; stopped = tt; device = λ e. absurd (cc); keeps = all_kept w made same; unmade = none_made w made same; logged = λ known. (0, logs known ∙ none_opened) }
-  stops_still Device why device =
-      record { answered = tt; stopped = tt; device = λ e. inr (device refl); keeps = all_kept w made same; unmade = none_made w made same; logged = λ known. (0, 0, logs known ∙ none_failed) }
-  stops_still Budget why device =
+  -- a line is refused
+  pub refused_alone : (line : ℕ) (cause : Cause) → S (Record line cause) → Does {T = T} w [] made P S (Err (Record line cause))
+  refused_alone line cause why =
       record { answered = tt; stopped = why; device = λ e. absurd (cc); keeps = all_kept w made same; unmade = none_made w made same; logged = λ known. (0, logs known ∙ none_opened) }
 
-  -- the same of what `?` passes on
-  pub does_not : (failed : Type 0) (stop : Stop) → StopsFor failed stop → (failed → S Device) → (r : Result T Stop) → IsErrAnd r (λ told. told ≡ stop) → Does w [] made P S r
-  does_not failed stop why device (Ok t) is = absurd is
-  does_not failed stop why device (Err other) is = subst (λ s. Does {T = T} w [] made P S (Err s)) (sym is) (stops_still stop (may_stop failed S stop why) (λ e. device (subst (StopsFor failed) e why)))
+  -- or memory was refused, as `?` passes it on
+  no_memory : Does {T = T} w [] made P S (Err Memory)
+  no_memory = record { answered = tt; stopped = tt; device = λ e. absurd (cc); keeps = all_kept w made same; unmade = none_made w made same; logged = λ known. (0, logs known ∙ none_opened) }
 
--- files were read again, and that failed
-fails_again : (w : World) (asked : Asked) → FailsAgain w asked.names → reads_again asked.form asked.made ≡ true → Failed w [] ⊎ StopsAgain w asked Device
-fails_again w asked (inl (inl missing)) again = inr (again, inl missing)
-fails_again w asked (inl (inr failed)) again = inl (inr failed)
-fails_again w asked (inr endless) again = inr (again, inr endless)
-
-module _ (A : Type 0) {T : Type 0} (w : World) (asked : Asked) (same : w.after ≡ w.before) (P : T → Type 0) where
-  stops_behind : (stop : Stop) → StopsFor ((reads_again asked.form asked.made ≡ true) × FailsAgain w asked.names) stop → (w.knows ≡ true → LogsAgain {T = A} w.log w.logged (Err stop))
-      → Does {T = T} w [] asked.made P (StopsAgain w asked) (Err stop)
-  stops_behind (Record line cause) why logs = absurd why
-  stops_behind Memory why logs = stops_still w same logs asked.made P (StopsAgain w asked) Memory tt (λ e. absurd (cc))
-  stops_behind Device why logs = record {
-    answered = tt;
-    stopped = tt;
-    device = λ e. fails_again w asked why.1 why.0;
-    keeps = all_kept w asked.made same;
-    unmade = none_made w asked.made same;
-    logged = λ known. let some = logs known in (0, some.0, some.1 ∙ ap (λ xs. record w.log { opened = xs; failures = w.log.failures + some.0 }) (sym (append-nil w.log.opened)));
-  }
-  stops_behind Budget why logs = absurd why
-
-  pub does_not_read_again : (stop : Stop) → StopsFor ((reads_again asked.form asked.made ≡ true) × FailsAgain w asked.names) stop → (w.knows ≡ true → LogsAgain {T = A} w.log w.logged (Err stop))
-      → (r : Result T Stop) → IsErrAnd r (λ told. told ≡ stop) → Does w [] asked.made P (StopsAgain w asked) r
-  does_not_read_again stop why logs (Ok t) is = absurd is
-  does_not_read_again stop why logs (Err other) is = subst (λ s. Does {T = T} w [] asked.made P (StopsAgain w asked) (Err s)) (sym is) (stops_behind stop why logs)
+  pub does_not : (stop : Stop) → stop ≡ Memory → (r : Result T Stop) → IsErrAnd r (λ told. told ≡ stop) → Does w [] made P S r
+  does_not stop why (Ok t) is = absurd is
+  does_not stop why (Err other) is = subst (λ s. Does {T = T} w [] made P S (Err s)) (sym (is ∙ why)) no_memory
 
 -- what is made stands there, whatever was done before
 made_from : (u v after : Under) (l m q : Log) (k : Bool) (made : Option (List ℕ)) (text : List ℕ) → Made (record { before = v; after = after; log = m; logged = q; knows = k }) made text
@@ -130,63 +91,15 @@ made_from : (u v after : Under) (l m q : Log) (k : Bool) (made : Option (List �
 made_from u v after l m q k None text made = tt
 made_from u v after l m q k (Some name) text made = made
 
--- a file was made, or none, behind files that were read again
-pub made_behind : {T : Type 0} (u v after : Under) (l m q : Log) (k : Bool) (asked : Asked) → v ≡ u → (k ≡ true → m ≡ l) → (text : List ℕ) (r : Result T Stop)
-    → Does (record { before = v; after = after; log = m; logged = q; knows = k }) [] asked.made (λ done. Made (record { before = v; after = after; log = m; logged = q; knows = k }) asked.made text) StopsNever r
-    → Does (record { before = u; after = after; log = l; logged = q; knows = k }) [] asked.made (λ done. Made (record { before = u; after = after; log = l; logged = q; knows = k }) asked.made text)
-    (StopsAgain (record { before = u; after = after; log = l; logged = q; knows = k }) asked) r
-made_behind u v after l m q k asked same logs text r makes =
-    does_then {A = Unit {0}} u v after l m q k [] asked.made (λ _. Unit {0}) _ tt (does_nothing (record { before = u; after = v; log = l; logged = m; knows = k }) same logs None _ _ tt tt) _ _ StopsNever r makes
-    (λ t so. made_from u v after l m q k asked.made text so) (λ s never. absurd never)
-
 -- ---- what is answered of what was found
 
-pub reads_where_placed : (form : Form) (made : Option (List ℕ)) → has_places form ≡ true → reads_again form made ≡ true
-reads_where_placed form None asks = asks
-reads_where_placed form (Some name) asks = refl
+pub asks_where_placed : (form : Form) (made : Option (List ℕ)) → has_places form ≡ true → asks_lines form made ≡ true
+asks_where_placed form None asks = asks
+asks_where_placed form (Some name) asks = refl
 
-pub reads_where_made : (form : Form) (made : Option (List ℕ)) → is_some made ≡ true → reads_again form made ≡ true
-reads_where_made form None asks = absurd (cc asks)
-reads_where_made form (Some name) asks = refl
-
--- each refused line comes behind the one before, and the first is of this number or a greater one
-abbrev RiseUp : ℕ → List (ℕ × Cause) → Type 0
-RiseUp n [] = Unit {0}
-RiseUp n (refusal ∷ rest) = (n ≤ refusal.0) × RiseUp (refusal.0 + 1) rest
-
-rise_later : (n m : ℕ) (refusals : List (ℕ × Cause)) → n ≤ m → RiseUp m refusals → RiseUp n refusals
-rise_later n m [] less rise = tt
-rise_later n m (refusal ∷ rest) less rise = (omega (arith, less, rise.0), rise.1)
-
-rise_one : (n : ℕ) (judged : Judgement) (more : List (ℕ × Judgement)) → RiseUp (n + 1) (filter_map refusal_of more) → RiseUp n (filter_map refusal_of ((n, judged) ∷ more))
-rise_one n PassedOver more rise = rise_later n (n + 1) (filter_map refusal_of more) (omega arith) rise
-rise_one n (Read r) more rise = rise_later n (n + 1) (filter_map refusal_of more) (omega arith) rise
-rise_one n (RefusedLine cause) more rise = (omega arith, rise)
-
-rise_up : (layout : Layout) (n : ℕ) (text : List (List ℕ)) → RiseUp n (filter_map refusal_of (map (λ line. (line.0, judgement layout line.0 line.1)) (enumerate_from n text)))
-rise_up layout n [] = tt
-rise_up layout n (line ∷ rest) =
-    rise_one n (judgement layout n line) (map (λ line. (line.0, judgement layout line.0 line.1)) (enumerate_from (n + 1) rest)) (rise_up layout (n + 1) rest)
-
-rise_behind : (n : ℕ) (list : List Refusal) → RiseUp (n + 1) (map pair_of list) → RiseFrom n list
-rise_behind n [] rise = tt
-rise_behind n (refusal ∷ rest) rise = (omega (arith, rise.0), rise_behind refusal.line rest rise.1)
-
-rise_listed : (layout : Layout) (text : List ℕ) (list : List Refusal) → map pair_of list ≡ refusals_of layout text → RiseFrom 0 list
-rise_listed layout text list is = rise_behind 0 list (subst (RiseUp 1) (sym is) (rise_up layout 1 (raw_lines text)))
-
-rise_taken : (count n : ℕ) (list : List Refusal) → RiseFrom n list → RiseFrom n (take count list)
-rise_taken zero n list rise = tt
-rise_taken (suc count) n [] rise = tt
-rise_taken (suc count) n (refusal ∷ rest) rise = (rise.0, rise_taken count refusal.line rest rise.1)
-
-rise_printed : (most : Option ℕ) (n : ℕ) (list : List Refusal) → RiseFrom n list → RiseFrom n (printed most list)
-rise_printed None n list rise = rise
-rise_printed (Some count) n list rise = rise_taken count n list rise
-
-rise_featured : (told : Told) (n : ℕ) (list : List Refusal) → RiseFrom n list → RiseFrom n (featured told list)
-rise_featured One n list rise = rise_taken 1 n list rise
-rise_featured (All most skips) n list rise = rise
+pub asks_where_made : (form : Form) (made : Option (List ℕ)) → is_some made ≡ true → asks_lines form made ≡ true
+asks_where_made form None asks = absurd (cc asks)
+asks_where_made form (Some name) asks = refl
 
 -- with no places they are printed as they are listed
 pub plain_lines_are : (refusals : List Refusal) → placed_text RefusedLines refusals [] ≡ lines told_refusal refusals
@@ -219,37 +132,35 @@ plain_refused layout under names FormLines most list none = record {
 plain_refused layout under names FormRecords most list none = absurd (cc none)
 plain_refused layout under names FormObjects most list none = absurd (cc none)
 
--- those that are printed, and those that stand in the file, are the first of those that are sought
-printed_first : (told : Told) (made : Option (List ℕ)) (list : List Refusal) → (count : ℕ) × (printed (most_of told) list ≡ take count (sought_lines told made list))
-printed_first told None list = let those = printed (most_of told) list in (length those, sym (take_all (length those) those (omega arith)))
-printed_first One (Some name) list = let those = take 1 list in (length those, sym (take_all (length those) those (omega arith)))
-printed_first (All None skips) (Some name) list = (length list, sym (take_all (length list) list (omega arith)))
-printed_first (All (Some most) skips) (Some name) list = (most, refl)
+-- those that are printed, and those that stand in the file, are the first of all
+printed_first : (told : Told) (list : List Refusal) → (count : ℕ) × (printed (most_of told) list ≡ take count list)
+printed_first One list = (1, refl)
+printed_first (All None skips) list = (length list, sym (take_all (length list) list (omega arith)))
+printed_first (All (Some most) skips) list = (most, refl)
 
-featured_first : (told : Told) (made : Option (List ℕ)) (list : List Refusal) → is_some made ≡ true → (count : ℕ) × (featured told list ≡ take count (sought_lines told made list))
-featured_first told None list asks = absurd (cc asks)
-featured_first told (Some name) list asks = let those = featured told list in (length those, sym (take_all (length those) those (omega arith)))
+featured_first : (told : Told) (list : List Refusal) → (count : ℕ) × (featured told list ≡ take count list)
+featured_first One list = (1, refl)
+featured_first (All most skips) list = (length list, sym (take_all (length list) list (omega arith)))
 
 -- so it is told where they stand
-module _ (layout : Layout) (under : Under) (names : List (List ℕ)) (told : Told) (made : Option (List ℕ)) (list : List Refusal) (found : List FoundLine) (are : AreFound under names (sought_lines told made list) found) where
-  first_placed : (form : RefusedForm) (refusals : List Refusal) (text : List ℕ) → (count : ℕ) × (refusals ≡ take count (sought_lines told made list)) → text ≡ found_text form layout names refusals found
-      → IsPlaced form layout under names refusals text
-  first_placed form refusals text first is =
-      subst (λ (rs : List Refusal). IsPlaced form layout under names rs text) (sym first.1)
-      (found_placed form layout names under (sought_lines told made list) found first.0 text are (is ∙ ap (λ (rs : List Refusal). found_text form layout names rs found) first.1))
+module _ (layout : Layout) (under : Under) (names : List (List ℕ)) (told : Told) (counts : List ℕ) (list : List Refusal) (fronts : List (List ℕ)) (are : AreFronts under names counts list fronts) where
+  first_placed : (form : RefusedForm) (refusals : List Refusal) → (count : ℕ) × (refusals ≡ take count list) → IsPlaced form layout under names refusals (fronted_text form layout names counts refusals fronts)
+  first_placed form refusals first =
+      subst (λ (rs : List Refusal). IsPlaced form layout under names rs (fronted_text form layout names counts rs fronts)) (sym first.1)
+      (fronted_placed form layout names under fronts counts first.0 list are)
 
-  pub features_placed : is_some made ≡ true → (text : List ℕ) → text ≡ found_text RefusedFeatures layout names (featured told list) found → IsPlaced RefusedFeatures layout under names (featured told list) text
-  features_placed asks text is = first_placed RefusedFeatures (featured told list) text (featured_first told made list asks) is
+  pub features_placed : (text : List ℕ) → text ≡ fronted_text RefusedFeatures layout names counts (featured told list) fronts → IsPlaced RefusedFeatures layout under names (featured told list) text
+  features_placed text is = subst (IsPlaced RefusedFeatures layout under names (featured told list)) (sym is) (first_placed RefusedFeatures (featured told list) (featured_first told list))
 
-  pub printed_placed : (form : RefusedForm) → IsPlaced form layout under names (printed (most_of told) list) (found_text form layout names (printed (most_of told) list) found)
-  printed_placed form = first_placed form (printed (most_of told) list) _ (printed_first told made list) refl
+  pub printed_placed : (form : RefusedForm) → IsPlaced form layout under names (printed (most_of told) list) (fronted_text form layout names counts (printed (most_of told) list) fronts)
+  printed_placed form = first_placed form (printed (most_of told) list) (printed_first told list)
 
-pub placed_refused : (layout : Layout) (asked : Asked) (list : Vec Refusal Global) (found : List FoundLine) (text : Vec ℕ Global) → has_places asked.form ≡ true
-    → text.items ≡ found_text (refused_form asked.form) layout asked.names (printed (most_of asked.told) list.items) found
+pub placed_refused : (layout : Layout) (asked : Asked) (list : Vec Refusal Global) (counts : List ℕ) (fronts : List (List ℕ)) (text : Vec ℕ Global) → has_places asked.form ≡ true
+    → text.items ≡ fronted_text (refused_form asked.form) layout asked.names counts (printed (most_of asked.told) list.items) fronts
     ++ refusals_last asked.form (most_of asked.told) (length list.items) (length (printed (most_of asked.told) list.items))
-    → AnswersFound layout asked list found (Lines 3 text)
-placed_refused layout asked list found text asks is = λ under are.
-    let placed = printed_placed layout under asked.names asked.told asked.made list.items found (are asks) (refused_form asked.form) in
+    → AnswersFronted layout asked list counts fronts (Lines 3 text)
+placed_refused layout asked list counts fronts text asks is = λ under are.
+    let placed = printed_placed layout under asked.names asked.told counts list.items fronts (are asks) (refused_form asked.form) in
     record {
       told = placed.0;
       stand = λ same. placed.2;
@@ -287,43 +198,31 @@ module _ (options : Options) (known : Option (List ℕ)) (asked : Asked) where
     lines = so.lines;
   }))
 
-  pub fault_stops : (w : World) (stop : Stop) → StopsAgain w asked stop → StopsList w options known asked stop
-  fault_stops w (Record line cause) why = absurd why
-  fault_stops w Memory why = why
-  fault_stops w Device why = why
-  fault_stops w Budget why = why
-
   -- lines are refused
   module _ (w : World) (list : Vec Refusal Global) (are : IfSome known (λ text. IsListingOf options text (Refused list))) where
-    first_stops : (refusals : List Refusal) (stop : Stop) → stops_refused asked.told asked.form ≡ true → list.items ≡ refusals → option_map stop_of_refusal (slice_get refusals 0) ≡ Some stop
-        → MayStop (StopsList w options known asked) stop
-    first_stops [] stop one is first = absurd (let wrong = first in cc)
-    first_stops (refusal ∷ rest) stop one is first =
-        let some : Some (stop_of_refusal refusal) ≡ Some stop = first in
-        let same : stop_of_refusal refusal ≡ stop = cc in
-        let told = IfSome_then known are (λ text lists. sym (first_is (layout_with options) text) ∙ sym (ap (λ rs. slice_get rs 0) (ap (map pair_of) (sym is) ∙ lists.1))) in
-        subst (MayStop (StopsList w options known asked)) same (one, told)
-
-    no_device : (refusals : List Refusal) (stop : Stop) → option_map stop_of_refusal (slice_get refusals 0) ≡ Some stop → stop ≡ Device → StopsList w options known asked Device
-    no_device [] stop first is = absurd (let wrong = first in cc)
-    no_device (refusal ∷ rest) stop first is =
-        let some : Some (stop_of_refusal refusal) ≡ Some stop = first in
-        absurd (cc (some, is))
-
     -- one alone as a line is a stop
     pub first_refused : (same : w.after ≡ w.before) (logs : w.knows ≡ true → w.logged ≡ w.log) → stops_refused asked.told asked.form ≡ true
         → (stop : Stop) → option_map stop_of_refusal (slice_get list.items 0) ≡ Some stop
-        → Does {T = Answer} w [] asked.made (IsSaid (ListAnswers w options known asked)) (StopsList w options known asked) (Err stop)
-    first_refused same logs one stop first =
-        stops_still w same logs asked.made _ (StopsList w options known asked) stop (first_stops list.items stop one refl first) (no_device list.items stop first)
+        → Does {T = Answer} w [] asked.made (IsSaid (ListAnswers w options known asked)) (StopsList options known asked) (Err stop)
+    first_refused same logs one stop first = stops list.items refl first
+      where
+        stops : (refusals : List Refusal) → list.items ≡ refusals → option_map stop_of_refusal (slice_get refusals 0) ≡ Some stop
+            → Does {T = Answer} w [] asked.made (IsSaid (ListAnswers w options known asked)) (StopsList options known asked) (Err stop)
+        stops [] is first = absurd (let wrong = first in cc)
+        stops (refusal ∷ rest) is first =
+            let some : Some (stop_of_refusal refusal) ≡ Some stop = first in
+            let same_stop : stop_of_refusal refusal ≡ stop = cc in
+            let told = IfSome_then known are (λ text lists. sym (first_is (layout_with options) text) ∙ sym (ap (λ rs. slice_get rs 0) (ap (map pair_of) (sym is) ∙ lists.1))) in
+            subst (λ s. Does {T = Answer} w [] asked.made (IsSaid (ListAnswers w options known asked)) (StopsList options known asked) (Err s)) same_stop
+            (refused_alone w same logs asked.made _ (StopsList options known asked) refusal.line refusal.cause (one, told))
 
     -- they are told with where they stand
     told_where : (features told : List (List ℕ)) → (is_some asked.made ≡ true → TellsPlaces RefusedFeatures (layout_with options) w.before asked.names (featured asked.told list.items) features)
         → (has_places asked.form ≡ true → TellsPlaces (refused_form asked.form) (layout_with options) w.before asked.names (printed (most_of asked.told) list.items) told)
         → (has_places asked.form ≡ false → told ≡ []) → AreRefused w options known asked list.items features told
     told_where features told stand places plain = record {
-      stand = IfSome_then known are (λ text lists asks texts have. stand asks texts have (rise_featured asked.told 0 list.items (rise_listed (layout_with options) text list.items lists.1)));
-      places = IfSome_then known are (λ text lists asks texts have. places asks texts have (rise_printed (most_of asked.told) 0 list.items (rise_listed (layout_with options) text list.items lists.1)));
+      stand = IfSome_then known are (λ text lists. stand);
+      places = IfSome_then known are (λ text lists. places);
       plain = plain;
     }
 
@@ -393,7 +292,7 @@ answers_from u v after l m q k options known asked status text same (inr (inl fa
   are = faults.are;
   unsound = faults.unsound;
   spoken = faults.spoken;
-  speak = λ again. subst (λ x. AreSpoken (layout_with options) [] x asked.names faults.map (featured asked.told faults.faults.items) faults.spoken) same (faults.speak again);
+  speak = λ asks. subst (λ x. AreSpoken (layout_with options) x asked.names faults.map (featured asked.told faults.faults.items) faults.spoken) same (faults.speak asks);
   kept = made_from u v after l m q k asked.made _ faults.kept;
   is = faults.is;
   lines = faults.lines;
@@ -418,7 +317,7 @@ answers_from u v after l m q k options known asked status text same (inr (inr (i
   left = left.left;
   are = left.are;
   spoken = left.spoken;
-  speak = λ again. subst (λ x. AreSpoken (layout_with options) (numbers_of left.list.items) x asked.names left.map (featured asked.told left.left.faults.items) left.spoken) same (left.speak again);
+  speak = λ asks. subst (λ x. AreSpoken (layout_with options) x asked.names left.map (featured asked.told left.left.faults.items) left.spoken) same (left.speak asks);
   features = left.features;
   told = left.told;
   refused = refused_from u v after l m q k options known asked left.list.items left.features left.told same left.refused;
@@ -426,13 +325,6 @@ answers_from u v after l m q k options known asked status text same (inr (inr (i
   is = left.is;
   lines = left.lines;
 })))
-
-pub stops_from : (u v after : Under) (l m q : Log) (k : Bool) (options : Options) (known : Option (List ℕ)) (asked : Asked) → v ≡ u → (stop : Stop)
-    → StopsList (record { before = v; after = after; log = m; logged = q; knows = k }) options known asked stop → StopsList (record { before = u; after = after; log = l; logged = q; knows = k }) options known asked stop
-stops_from u v after l m q k options known asked same (Record line cause) why = why
-stops_from u v after l m q k options known asked same Memory why = why
-stops_from u v after l m q k options known asked same Device why = (why.0, subst (λ x. SomeUnread x asked.names) same why.1)
-stops_from u v after l m q k options known asked same Budget why = why
 
 -- ---- behind what changes nothing
 
@@ -464,6 +356,34 @@ does_later u after l m q false names made P S r same does = record {
     failed (inl (inl missing)) = inl (inl missing)
     failed (inl (inr fails)) = inl (inr (inl refl))
     failed (inr why) = inr why
+
+-- ---- what was noted while files were read
+
+pub are_noted : (layout : Layout) (u v : Under) (names : List (List ℕ)) (counts : List ℕ) (found : Found) → v ≡ u → HaveLines v names counts → IfSome (text_under u names) (λ text. NotesLines layout text found)
+    → AreNoted layout v names counts found
+are_noted layout u v names counts found same counted notes = λ texts have.
+    let known = joined_bytes-known (bytes_under u) names texts (subst (λ under. HaveTexts under names texts) same have) in
+    (counted texts have, subst (λ (known : Option (List ℕ)). IfSome known (λ text. NotesLines layout text found)) known notes)
+
+module _ (layout : Layout) (under : Under) (names : List (List ℕ)) (counts : List ℕ) (found : Found) (noted : AreNoted layout under names counts found) where
+  pub lines_of_faults : (faults : Vec MapFault Global) (touched : ℕ) → found.whole.listing ≡ Faults faults touched → AreLinesOf layout under names counts found.noted.records.items
+  lines_of_faults faults touched is = λ texts have.
+      let its = noted texts have in
+      (its.0, subst (λ listing. WhereTold listing found.left (found.noted.records.items ≡ (lines_read layout (left_of layout (joined texts))).entries)) is its.1.records)
+
+  pub lines_of_refused : (list : Vec Refusal Global) → found.whole.listing ≡ Refused list
+      → AreFronts under names counts list.items (bytes_of found.noted.fronts.items) × IfSome found.left (λ it. AreLinesOf layout under names counts found.noted.records.items)
+  lines_of_refused list is = (
+    λ texts have. let its = noted texts have in (its.0, subst (λ listing. IfRefused listing (λ list. bytes_of found.noted.fronts.items ≡ map (front_in (joined texts)) list.items)) is its.1.fronts),
+    where_left found.left refl,
+  )
+    where
+      where_left : (left : Option LeftFaults) → found.left ≡ left → IfSome left (λ it. AreLinesOf layout under names counts found.noted.records.items)
+      where_left None none = tt
+      where_left (Some it) some = λ texts have.
+          let its = noted texts have in
+          let entries = found.noted.records.items ≡ (lines_read layout (left_of layout (joined texts))).entries in
+          (its.0, subst (λ left. WhereTold (Refused list) left entries) some (subst (λ listing. WhereTold listing found.left entries) is its.1.records))
 
 -- ---- what is printed of faults, and what stands in the file
 

@@ -35,9 +35,9 @@ abbrev pub AuditOrList : (one_line : Bool) → World → Options → (known : Op
 AuditOrList true w options known asked = AuditAnswers options known
 AuditOrList false w options known asked = ListAnswers w options known asked
 
-abbrev pub StopsAuditOrList : (one_line : Bool) → World → Options → (known : Option (List ℕ)) → list.Asked → Stop → Type 0
-StopsAuditOrList true w options known asked = StopsRecords (layout_with options) known
-StopsAuditOrList false w options known asked = StopsList w options known asked
+abbrev pub StopsAuditOrList : (one_line : Bool) → Options → (known : Option (List ℕ)) → list.Asked → Stop → Type 0
+StopsAuditOrList true options known asked = StopsRecords (layout_with options) known
+StopsAuditOrList false options known asked = StopsList options known asked
 
 -- what is answered, with which status, where the records are in the files of these names
 abbrev pub AnswersTo : Asked → Options → (names : List (List ℕ)) → World → ℕ → List ℕ → Type 0
@@ -61,7 +61,7 @@ AnswersTo (Border cenid made) options names w =
 abbrev pub StopsTo : Asked → Options → (names : List (List ℕ)) → World → Stop → Type 0
 StopsTo (Audit told form made) options names w =
     let asked : list.Asked = record { names = names; told = told; form = form; made = option_map string_bytes made } in
-    StopsAuditOrList (is_one_line asked) w options (text_under w.before names) asked
+    StopsAuditOrList (is_one_line asked) options (text_under w.before names) asked
 StopsTo (Check cert budget) options names w = StopsCheck options budget (text_under w.before names) (bytes_under w.before (string_bytes cert))
 StopsTo (Convert cert made) options names w = StopsNever
 StopsTo other options names w = StopsRecords (layout_with options) (text_under w.before names)

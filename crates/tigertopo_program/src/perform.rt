@@ -81,7 +81,7 @@ fn audit_or_list<F: FileSystem>(
         let known = text_under (F.under files.old) (map string_bytes names.now) in
         let asked = wanted_of (map string_bytes names.now) wanted.entry in
         Does w asked.names asked.made (IsSaid (AuditOrList (is_one_line asked) w options known asked))
-        (StopsAuditOrList (is_one_line asked) w options known asked) result }
+        (StopsAuditOrList (is_one_line asked) options known asked) result }
 {
     if is_one_line(wanted) {
         return audit(files, alloc, hasher, options, names);

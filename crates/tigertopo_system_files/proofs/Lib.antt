@@ -3,3 +3,4 @@ pub mod FrontLemmas
 pub mod ReadLemmas
 pub mod WordLemmas
 pub mod LookLemmas
+pub mod CountLemmas

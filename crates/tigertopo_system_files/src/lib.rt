@@ -5,7 +5,6 @@
 #![tactic(auto)]
 
 mod front;
-mod kept;
 mod looking;
 mod new_file;
 mod noted;

@@ -2,6 +2,10 @@
 //!
 //! As in [`system`](crate::system), the order of the system's calls is trusted here.
 
+ghost use Rattle.std.specs.Prelude.{◌≡◌, true, IfOk, IfSome, string_bytes};
+ghost use Rattle.std.specs.Fs.{IsFile, file_type};
+ghost use Rattle.tigertopo_files.specs.Files.{beside as beside_by};
+
 use crate::front::is_unfinished;
 use crate::looking::{Lookup, Seen, Spot, Standing, name_beside, stands_under};
 use crate::new_file::Place;
@@ -121,7 +125,10 @@ impl<'a, R: Files<File = File>> SystemPlace<'a, R> {
         alloc: Global,
         name: &str,
         kind: FileKind,
-    ) -> io::Result<SystemPlace<'a, R>> {
+    ) -> io::Result<SystemPlace<'a, R>>
+        ensures kind { IfOk result (λ place. place.kind ≡ kind) }
+        ensures beside { IfOk result (λ place. IfSome place.beside (λ beside. string_bytes beside ≡ beside_by (string_bytes place.target))) }
+    {
         let target = target_of(rt, alloc, name)?;
         let beside = beside_of(rt, alloc, target.as_str())?;
         Ok(SystemPlace {
@@ -203,7 +210,9 @@ fn target_of<R: Files>(rt: &R, alloc: Global, name: &str) -> io::Result<String> 
 
 // The name of a new file that is to take this one, where a regular file stands under it, or nothing. A link is left here only
 // where it leads nowhere.
-fn beside_of<R: Files>(rt: &R, alloc: Global, target: &str) -> io::Result<Option<String>> {
+fn beside_of<R: Files>(rt: &R, alloc: Global, target: &str) -> io::Result<Option<String>>
+    ensures { IfOk result (λ name. IfSome name (λ beside. string_bytes beside ≡ beside_by target.now)) }
+{
     if let Ok(stands) = fs::symlink_metadata(rt, target) {
         if !stands.is_file() {
             return Ok(None);
@@ -226,7 +235,9 @@ fn stands_at<R: Files>(rt: &R, name: &str, spot: Spot) -> io::Result<Metadata> {
 }
 
 // Whether this is a regular file, and under the name of one that isn't whole yet one that has no other name.
-fn is_lone(stands: &Metadata, spot: Spot) -> bool {
+fn is_lone(stands: &Metadata, spot: Spot) -> bool
+    ensures { result ≡ true → IsFile (file_type stands.now) }
+{
     stands.is_file() && (matches!(spot, Spot::Name) || stands.nlink() == 1)
 }
 

@@ -1,5 +1,7 @@
 //! How far the reading of a file is, as it is shown to who waits.
 
+ghost use Rattle.std.specs.Prelude.{◌≡◌, ◌+◌, ◌-◌, ◌^◌, IfSome, min};
+
 use std::io::Eprint;
 use std::time::{Clock, Instant};
 
@@ -25,7 +27,9 @@ pub struct Progress<'a, R> {
 
 impl<'a, R: Clock + Eprint> Progress<'a, R> {
     /// A file of so many bytes, 0 where that isn't known, of which nothing is read. None where the clock doesn't answer.
-    pub fn new(rt: &'a R, name: String, size: u64, is_last: bool) -> Option<Progress<'a, R>> {
+    pub fn new(rt: &'a R, name: String, size: u64, is_last: bool) -> Option<Progress<'a, R>>
+        ensures { IfSome result (λ progress. progress.read ≡ 0) }
+    {
         match Instant::now(rt) {
             Ok(shown) => Some(Progress {
                 rt,
@@ -40,7 +44,9 @@ impl<'a, R: Clock + Eprint> Progress<'a, R> {
     }
 
     /// So many bytes more were read, or where it is none, the file is at its end.
-    pub fn step(&mut self, taken: usize) {
+    pub fn step(&mut self, taken: usize)
+        ensures { self.new.read ≡ min (self.old.read + taken) (2 ^ 64 - 1) }
+    {
         self.read = self.read.saturating_add(taken as u64);
         if taken == 0 {
             if self.is_last {

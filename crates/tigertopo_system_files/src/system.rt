@@ -4,13 +4,12 @@
 //! safe and end, and their order of calls is trusted. What is made of the bytes and the errors that the calls answer stands in the
 //! files beside them, and is proved there of any reader and any writer.
 
-ghost use Rattle.std.specs.Prelude.{◌≡◌, IfOk, ⊤};
+ghost use Rattle.std.specs.Prelude.{◌≡◌, false, None, IfOk, OnOk, if◌then◌else◌, vec_len, ⊤};
 ghost use Rattle.tl_cert_output.specs.Stops.{StopsFor};
 
-use crate::kept::{KeptText, SystemReader, forget, is_kept, no_text};
 use crate::looking::room_of;
 use crate::new_file::NewFile;
-use crate::noted::{Note, NotedReader, no_chain};
+use crate::noted::{CountedLines, Note, NotedReader, counts_of, no_chain, no_lines};
 use crate::place::{Names, SystemPlace};
 use crate::progress::Progress;
 use crate::reading::{ShownReader, read_through};
@@ -18,7 +17,7 @@ use crate::stops::{or_stop, stop_of, words_of};
 use std::alloc::{AllocError, Global};
 use std::cell::{Cell, RefCell};
 use std::fs::File;
-use std::io::Eprint;
+use std::io::{Eprint, Read};
 use std::rt::Files;
 use std::time::Clock;
 use std::{fs, io};
@@ -41,14 +40,15 @@ pub struct SystemFiles<'a, R> {
     obstacle: RefCell<Option<io::Error>>,
     // Which file couldn't be opened last, and what the system answered: with other files open, which aren't when it is asked why.
     unopened: RefCell<Option<(String, io::Error)>>,
-    // Whether what is read of files that can be read but once is kept.
-    keeps: bool,
-    // What was kept of them, by their names.
-    kept: RefCell<Vec<(String, KeptText)>>,
     // Whether a line of records began as one of type 1 does.
     note: Option<Note>,
-    // How many of the files that are opened next are of records.
-    to_note: Cell<usize>,
+    // How many files of records are opened by the read that is under way, before the others, and how many of them are.
+    records: usize,
+    begun: Cell<usize>,
+    // Whether the lines of files of records are counted in the next read.
+    counts: bool,
+    // The lines of those that the last read opened, in their order, where they were counted.
+    lines: Vec<CountedLines>,
 }
 
 impl<'a, R: Files<File = File> + Clock + Eprint> SystemFiles<'a, R> {
@@ -60,88 +60,66 @@ impl<'a, R: Files<File = File> + Clock + Eprint> SystemFiles<'a, R> {
             last: None,
             obstacle: RefCell::new(None),
             unopened: RefCell::new(None),
-            keeps: false,
-            kept: RefCell::new(Vec::new(alloc)),
             note: no_chain(alloc),
-            to_note: Cell::new(0),
+            records: 0,
+            begun: Cell::new(0),
+            counts: false,
+            lines: Vec::new(alloc),
         }
     }
 
-    // The file of a name, opened, or what was kept of it.
+    // The file of a name, opened.
     fn opened(
         &self,
         alloc: Global,
         name: &str,
-    ) -> io::Result<Meter<ShownReader<'a, NotedReader<SystemReader>, R>>>
-        ensures { IfOk result (λ file. ⟦<Meter<ShownReader<'a, NotedReader<SystemReader>, R>> as Source>⟧.failure_count file ≡ 0) }
+    ) -> io::Result<Meter<ShownReader<'a, NotedReader<File>, R>>>
+        ensures { IfOk result (λ file. ⟦<Meter<ShownReader<'a, NotedReader<File>, R>> as Source>⟧.failure_count file ≡ 0) }
     {
-        let note = self.next_note();
-        if !self.keeps {
-            if let Some(text) = self.kept_of(name) {
-                let reader = NotedReader::new(SystemReader::Kept { text, place: 0 }, note);
-                return Ok(Meter::new(ShownReader::new(reader, None)));
-            }
-        }
         let file = File::open(self.rt, name)?;
         let progress = self.progress_of(alloc, name, &file);
-        let reader = NotedReader::new(self.reader_of(alloc, name, file), note);
+        let reader = self.noted(file)?;
         Ok(Meter::new(ShownReader::new(reader, progress)))
     }
 
-    // Where it is noted how lines of the next file begin, if it is one of records.
-    fn next_note(&self) -> Option<Note> {
-        let left = self.to_note.get();
-        if left == 0 {
-            return None;
+    // The reader of the file that is opened now, of whose lines that is noted which is to be, if it is one of records.
+    fn noted(&self, file: File) -> Result<NotedReader<File>, AllocError>
+        ensures { IfOk result (λ reader. ⟦<NotedReader<File> as Read>⟧.remaining reader ≡ ⟦<File as Read>⟧.remaining file) }
+    {
+        let place = self.begun.get();
+        if place >= self.records {
+            return Ok(NotedReader::new(file, None, None));
         }
-        self.to_note.set(left - 1);
-        match &self.note {
+        self.begun.set(place + 1);
+        let note = match &self.note {
             Some(note) => note.clone().ok(),
             None => None,
-        }
-    }
-
-    // The reader of a file, which keeps what it reads where that is to be kept.
-    fn reader_of(&self, alloc: Global, name: &str, file: File) -> SystemReader {
-        if self.keeps && !is_regular(&file) {
-            if let Some(text) = self.to_be_kept(alloc, name) {
-                return SystemReader::Keeping { file, text };
-            }
-        }
-        SystemReader::Plain(file)
-    }
-
-    // Where what is read of the file of a name is to be kept. A file that is given twice isn't kept, since two readers share its bytes; and
-    // none is where memory is refused for it.
-    fn to_be_kept(&self, alloc: Global, name: &str) -> Option<KeptText> {
-        let Ok(mut kept) = self.kept.try_borrow_mut() else {
-            return None;
         };
-        let kept = &mut *kept;
-        for (other, text) in kept.as_slice() {
-            if other.as_str() == name {
-                forget(text);
-                return None;
-            }
-        }
-        add_text(alloc, kept, name)
+        let lines = match self.lines.get(place) {
+            Some(lines) => Some(lines.clone()?),
+            None => None,
+        };
+        Ok(NotedReader::new(file, note, lines))
     }
 
-    // What was kept of the file of a name.
-    fn kept_of(&self, name: &str) -> Option<KeptText> {
-        let Ok(kept) = self.kept.try_borrow() else {
-            return None;
-        };
-        for (other, text) in kept.as_slice() {
-            if other.as_str() == name && is_kept(text) {
-                return text.clone().ok();
-            }
-        }
-        None
+    // So many files of records are opened next. Their lines are counted where that was asked for.
+    fn begin(&mut self, alloc: Global, records: usize) -> Result<(), AllocError>
+        ensures records { OnOk result (self.new.records ≡ records) }
+        ensures lines { OnOk result (vec_len self.new.lines ≡ if self.old.counts then records else 0) }
+        ensures once { self.new.counts ≡ false }
+    {
+        let counted = if self.counts { records } else { 0 };
+        self.counts = false;
+        self.lines = no_lines(alloc, counted)?;
+        self.begun.set(0);
+        self.records = records;
+        Ok(())
     }
 
     // How far the reading of this file is, where that is to be shown.
-    fn progress_of(&self, alloc: Global, name: &str, file: &File) -> Option<Progress<'a, R>> {
+    fn progress_of(&self, alloc: Global, name: &str, file: &File) -> Option<Progress<'a, R>>
+        ensures { self.now.last ≡ None → result ≡ None }
+    {
         let Some(last) = &self.last else {
             return None;
         };
@@ -217,27 +195,8 @@ fn words_to_open(alloc: Global, error: &io::Error) -> Result<String, AllocError>
     Ok(words)
 }
 
-// Whether a file can be read again from its beginning.
-fn is_regular(file: &File) -> bool {
-    match file.metadata() {
-        Ok(stands) => stands.is_file(),
-        Err(_) => false,
-    }
-}
-
-// A text that is empty yet, under a name. None where memory was refused.
-fn add_text(alloc: Global, kept: &mut Vec<(String, KeptText)>, name: &str) -> Option<KeptText> {
-    let text = no_text(alloc)?;
-    let held = text.clone().ok()?;
-    let name = String::from_str(alloc, name).ok()?;
-    match kept.push((name, held)) {
-        Ok(()) => Some(text),
-        Err(_) => None,
-    }
-}
-
 impl<'a, R: Files<File = File> + Clock + Eprint> Opener for SystemFiles<'a, R> {
-    type Reader = Meter<ShownReader<'a, NotedReader<SystemReader>, R>>;
+    type Reader = Meter<ShownReader<'a, NotedReader<File>, R>>;
 
     ghost use Rattle.std.specs.Prelude.{None};
 
@@ -247,7 +206,7 @@ impl<'a, R: Files<File = File> + Clock + Eprint> Opener for SystemFiles<'a, R> {
         &self,
         alloc: Global,
         name: &str,
-    ) -> Result<Meter<ShownReader<'a, NotedReader<SystemReader>, R>>, Stop> {
+    ) -> Result<Meter<ShownReader<'a, NotedReader<File>, R>>, Stop> {
         match self.opened(alloc, name) {
             Ok(file) => Ok(file),
             Err(error) => Err(self.unopened_by(alloc, name, error)),
@@ -255,9 +214,6 @@ impl<'a, R: Files<File = File> + Clock + Eprint> Opener for SystemFiles<'a, R> {
     }
 
     fn lasts(&self, name: &str) -> Result<bool, Stop> {
-        if self.kept_of(name).is_some() {
-            return Ok(true);
-        }
         Ok(or_stop(fs::metadata(self.rt, name))?.is_file())
     }
 }
@@ -284,10 +240,9 @@ impl<'a, R: Files<File = File> + Clock + Eprint> FileSystem for SystemFiles<'a, 
         single: Option<&String>,
         reading: &Q,
     ) -> Result<Q::Answer, Stop> {
-        self.to_note.set(names.len());
+        self.begin(alloc, names.len())?;
         let answer = read_each(self, alloc, names, single, reading);
-        self.to_note.set(0);
-        self.keeps = false;
+        self.records = 0;
         answer
     }
 
@@ -341,8 +296,12 @@ impl<'a, R: Files<File = File> + Clock + Eprint> FileSystem for SystemFiles<'a, 
         }
     }
 
-    fn keep_passing(&mut self) {
-        self.keeps = true;
+    fn count_lines(&mut self) {
+        self.counts = true;
+    }
+
+    fn line_counts(&self, alloc: Global, names: &[String]) -> Result<Vec<u64>, AllocError> {
+        counts_of(alloc, self.lines.as_slice(), names.len())
     }
 
     fn room(

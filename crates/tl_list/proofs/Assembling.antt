@@ -29,7 +29,6 @@ use Rattle.tl_check_verdict.specs.declared.fault.MapFault.{MapFault}
 use Rattle.tl_check_verdict.specs.Stops.{unmapped}
 use Rattle.tl_check_verdict.specs.Records.{HaveMap}
 use Rattle.tl_cert_output.specs.declared.stop.Stop.TheVariants.{Memory as MemoryStop}
-use Rattle.tl_check_verdict.specs.declared.fault.MapFault.TheVariants as fault
 use Rattle.tl_list_text.specs.declared.listing.Listing.{Listing}
 use Rattle.tl_list_text.specs.declared.listing.Listing.TheVariants.{Sound, Refused, Faults}
 use Rattle.tl_cert_output.specs.declared.stop.Stop.{Stop}
@@ -39,6 +38,7 @@ use Rattle.tl_list.specs.Listings.{IsListingOf, told_with}
 use Rattle.tl_list.proofs.Lacked.{told_some, lack_some, begin_with_records}
 use Rattle.tl_list.specs.Keeping.Reading.{Keeps, AreWhole, KeepsAll, IsStopped}
 use Rattle.tl_list.specs.declared.of_records.Findings.{Findings}
+use Rattle.tl_list.specs.declared.noted.NotedLines.{NotedLines}
 use Rattle.tl_list.specs.declared.left.LeftFaults.{LeftFaults}
 use Rattle.tl_list.specs.Findings.{AreFindingsOf, AreFaultsOf, IsMapIfAny, BeginWithRecords, SaysWhy, IsLeft, IsFoundIn}
 use Rattle.tl_list.specs.Keeping.OfRecords.{IsListingOfRecords, AreFindingsOfRecords, IsListOf, AreTold, AreRead, AreLeftOf}
@@ -206,9 +206,9 @@ module _ (options : Options) (skips : Bool) (known : Option (List ℕ)) where
   refused_told refusals refused is lists = known_as (refusals_of (layout_with options)) (λ rs. ListsAll rs refused) known refusals is lists
 
   -- lines are refused, and nothing is listed of what is left
-  pub found_refused : (refusals : Option (List (ℕ × Cause))) (refused : Vec Refusal Global) → refusals ≡ option_map (refusals_of (layout_with options)) known
-      → IsStopped skips refusals refused.items → IsFoundIn options skips known (record { whole = record { listing = Refused refused; map = None }; left = None })
-  found_refused refusals refused is stops = record {
+  pub found_refused : (noted : NotedLines) (refusals : Option (List (ℕ × Cause))) (refused : Vec Refusal Global) → refusals ≡ option_map (refusals_of (layout_with options)) known
+      → IsStopped skips refusals refused.items → IsFoundIn options skips known (record { whole = record { listing = Refused refused; map = None }; left = None; noted = noted })
+  found_refused noted refusals refused is stops = record {
     whole = IfSome_then known (refused_told refusals refused.items is stops.all) (λ text lists. listed_refusals options text refused stops.some lists);
     why = some_length refused.items stops.some;
     left = stops.beyond;
@@ -223,9 +223,9 @@ module _ (options : Options) (skips : Bool) (known : Option (List ℕ)) where
       go (Faults faults touched) told = refl
 
   -- no line is refused
-  pub found_whole : (refused : List Refusal) (listed : Findings) → AreRead options skips known refused listed → refused ≡ []
-      → IsFoundIn options skips known (record { whole = listed; left = None })
-  found_whole refused listed read none = record { whole = go known read.all read.told; why = says_why options.faces read.of_some.0 listed read.of_some.1; left = no_left listed read.of_some.0 read.of_some.1 }
+  pub found_whole : (noted : NotedLines) (refused : List Refusal) (listed : Findings) → AreRead options skips known refused listed → refused ≡ []
+      → IsFoundIn options skips known (record { whole = listed; left = None; noted = noted })
+  found_whole noted refused listed read none = record { whole = go known read.all read.told; why = says_why options.faces read.of_some.0 listed read.of_some.1; left = no_left listed read.of_some.0 read.of_some.1 }
     where
       go : (bytes : Option (List ℕ)) → IfSome bytes (λ text. ListsAll (refusals_of (layout_with options) text) refused)
           → IfSome bytes (λ text. AreFindingsOfRecords options.faces (records_of (layout_with options) (left_of (layout_with options) text)) listed)
@@ -237,10 +237,10 @@ module _ (options : Options) (skips : Bool) (known : Option (List ℕ)) where
           listed_text options text listed (subst (λ (t : List ℕ). AreFindingsOfRecords options.faces (records_of (layout_with options) t) listed) same are)
 
   -- lines are refused, and this is left
-  pub found_left : (refused : Vec Refusal Global) (listed : Findings) (left : Option LeftFaults) → AreRead options skips known refused.items listed → refused.items ≢ []
+  pub found_left : (noted : NotedLines) (refused : Vec Refusal Global) (listed : Findings) (left : Option LeftFaults) → AreRead options skips known refused.items listed → refused.items ≢ []
       → ((faces : Bool) (all : Records) → AreFindingsOfRecords faces all listed → AreLeftOf faces all left)
-      → IsFoundIn options skips known (record { whole = record { listing = Refused refused; map = None }; left = left })
-  found_left refused listed left read some are_left = record {
+      → IsFoundIn options skips known (record { whole = record { listing = Refused refused; map = None }; left = left; noted = noted })
+  found_left noted refused listed left read some are_left = record {
     whole = IfSome_then known read.all (λ text lists. listed_refusals options text refused some lists);
     why = some_length refused.items some;
     left = go left known (IfSome_then known read.told (λ text are. are_left options.faces (records_of (layout_with options) (left_of (layout_with options) text)) are))

@@ -6,6 +6,8 @@ mod Told
 mod Gathering
 mod Taking
 mod Passing
+mod NotedLemmas
+mod MayTaking
 mod Assembling
 pub mod Listed
 mod OneOrder

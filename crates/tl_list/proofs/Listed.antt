@@ -1,5 +1,5 @@
 -- What a listing says of the records of its text.
-use Rattle.std.proofs.Common.{◌≡◌, ◌≢◌, ◌↔◌, ℕ, zero, suc, inl, inr, Bool, true, false, List, [], ◌∷◌, ◌++◌, map, filter, None, refl, arith}
+use Rattle.std.proofs.Common.{◌≡◌, ◌≢◌, ◌↔◌, ℕ, zero, suc, inl, inr, Bool, true, false, List, [], ◌∷◌, map, filter, None, refl, arith}
 use Rattle.std.proofs.Common.{subst, ◌∙◌}
 use Rattle.std.specs.List.{All, Contains}
 use Rattle.std.proofs.lemmas.List.Elements.{All-map, All-append, All-filter}
@@ -25,7 +25,7 @@ use Rattle.tl_check_verdict.proofs.Deciding.{not_sound_records}
 use Rattle.tl_list_text.specs.declared.listing.Listing.{Listing}
 use Rattle.tl_list_text.specs.declared.listing.Listing.TheVariants.{Sound, Refused, Faults}
 use Rattle.tl_list_map.specs.MapFaults.{AreFaultsFor}
-use Rattle.tl_list.specs.Listings.{AreRecordFaults, AreFaults, IsListingOf, stands_alone, lack_told, told_with}
+use Rattle.tl_list.specs.Listings.{AreRecordFaults, AreFaults, IsListingOf, stands_alone, lack_told}
 use Rattle.tl_list.specs.Telling.{IsTold, Tells, SaysSound, EachFault, IsTrueAmong, IsTrueAmongFaults}
 use Rattle.tl_list_map.proofs.Emptiness.{map_empty}
 use Rattle.tl_list.proofs.Lists.{some_first, none_first}

@@ -14,24 +14,18 @@ use Rattle.tl_record.specs.declared.reader.RecordReader.{RecordReader}
 use Rattle.tl_record.specs.Limits.{most_lines}
 use Rattle.tl_record.specs.Reader.{lines_of, KeepsRefusals, Repeats, TellsFailure, WhereReading}
 use Rattle.tl_record.specs.Searching.{pair_of, GivesRefusal, goes_on}
-use Rattle.tl_record.specs.Leaving.{IsFirst, MayPass, is_passable}
+use Rattle.tl_record.specs.Leaving.{IsFirst, is_passable}
 use Rattle.tl_cert_output.specs.declared.stop.Stop.{Stop}
 use Rattle.tl_cert_output.specs.declared.stop.Stop.TheVariants.{Record, Memory, Budget}
 use Rattle.tl_cert_output.specs.declared.stop.Stop.TheVariants.{Device as DeviceStop}
 use Rattle.tl_cert_output.specs.Stops.{TellsDevice}
 use Rattle.tl_list_records.specs.Refusals.Listing.{BeginsWith, ListsAll, ListsSoFar}
 use Rattle.tl_list_records.specs.Refusals.Listing.{TellsDevice as TellsDeviceAt}
-use Rattle.tl_list.specs.Keeping.Reading.{IsStopped, ListsFrom, MayPassOver}
+use Rattle.tl_list.specs.Keeping.Reading.{IsStopped, ListsFrom}
 use Rattle.tl_list_map.proofs.Emptiness.{none_held}
 
 first_held : (first : Refusal) → Contains (first ∷ []) first
 first_held first = (0, omega arith, refl)
-
--- what was passed, where lines are skipped
-pub passes_over : {R : Type 0} (skips : Bool) (remaining : R → Option (List ℕ)) (old new : RecordReader R) (passed : Bool) → skips ≡ true → MayPass remaining old new (Ok passed)
-    → MayPassOver skips remaining old new passed
-passes_over skips remaining old new true is passes = (is, passes.1)
-passes_over skips remaining old new false is passes = (passes.1, λ skipping. passes.0)
 
 -- ---- the list of refused lines
 

@@ -1,3 +1,4 @@
 -- What is kept on the way. No public contract cites a file of this folder.
 pub mod OfRecords
 pub mod Reading
+pub mod Noting

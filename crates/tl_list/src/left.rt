@@ -1,11 +1,13 @@
 //! What is left of a county without its refused lines.
 
-ghost use Rattle.std.specs.Prelude.{ℕ, List, Bool, Option};
+ghost use Rattle.std.specs.Prelude.{◌≡◌, ℕ, List, Bool, Option};
 ghost use Rattle.tl_record.specs.declared.options.Options.{Options};
 ghost use Rattle.tl_record.specs.Records.{Records as AllRecords};
 ghost use Rattle.tl_list.specs.Findings.{IsFoundIn, AreOfMap};
+ghost use Rattle.tl_list.specs.Noting.{IfRefused};
 ghost use Rattle.tl_list.specs.Keeping.OfRecords.{AreFindingsOfRecords, AreLeftOf, AreRead};
 
+use crate::noted::NotedLines;
 use crate::of_records::Findings;
 use std::alloc::Global;
 use tl_check_verdict::MapFault;
@@ -29,18 +31,23 @@ pub struct Found {
     pub whole: Findings,
     /// Where lines are refused and skipped, the faults of what is left; nothing where the text has too many lines.
     pub left: Option<LeftFaults>,
+    /// Where something is noted of lines: the records with their lines, and how refused lines begin.
+    pub noted: NotedLines,
 }
 
-/// What is found in a text, of its refused lines and of what is listed of what is left without them.
-pub fn found_in(alloc: Global, refused: Vec<Refusal>, listed: Findings) -> Found
+/// What is found in a text, of its refused lines and of what is listed of what is left without them; and this is noted of its lines.
+pub fn found_in(alloc: Global, refused: Vec<Refusal>, listed: Findings, noted: NotedLines) -> Found
     ensures found { (options : Options) (skips : Bool) (known : Option (List ℕ)) → AreRead options skips known refused.items listed
         → IsFoundIn options skips known result }
     ensures of_map { (faces : Bool) → AreOfMap faces listed → AreOfMap faces result.whole }
+    ensures noted { result.noted ≡ noted }
+    ensures refused { ((faces : Bool) × ((all : AllRecords) × AreFindingsOfRecords faces all listed)) → IfRefused result.whole.listing (λ list. list ≡ refused) }
 {
     if refused.is_empty() {
         return Found {
             whole: listed,
             left: None,
+            noted,
         };
     }
     Found {
@@ -49,6 +56,7 @@ pub fn found_in(alloc: Global, refused: Vec<Refusal>, listed: Findings) -> Found
             map: None,
         },
         left: faults_left(alloc, listed),
+        noted,
     }
 }
 

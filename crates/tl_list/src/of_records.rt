@@ -7,7 +7,9 @@ ghost use Rattle.tl_list_records.specs.Kept.{KeepsRecords};
 ghost use Rattle.tl_list_map.specs.MapListings.{IsListingFor};
 ghost use Rattle.tl_list.specs.Listings.{IsListingOf};
 ghost use Rattle.tl_cert_output.specs.Stops.{StopsFor, TellsDevice};
+ghost use Rattle.tl_record.specs.Layout.{layout_with};
 ghost use Rattle.tl_list.specs.Findings.{IsFoundIn, AreOfMap};
+ghost use Rattle.tl_list.specs.Noting.{NotesLines};
 ghost use Rattle.tl_list.specs.Keeping.Reading.{Keeps, AreWhole};
 ghost use Rattle.tl_list.specs.Keeping.OfRecords.{AreFindingsOfRecords, AreTold};
 
@@ -56,26 +58,33 @@ pub fn list_faults<R: Source>(
     // `Device` is answered where a read failed in this call, and nowhere else.
     ensures failures { TellsDevice (R.failure_count records.old) (R.failure_count records.new) result }
 {
-    let Found { whole, left } = list_with_map(alloc, hasher, records, options, false)?;
+    let Found { whole, left, noted } = list_with_map(
+        alloc, hasher, records, options, false, false,
+    )?;
     drop(left);
+    drop(noted);
     let Findings { listing, map } = whole;
     drop(map);
     Ok(listing)
 }
 
 /// Lists all that is wrong with a county as [`list_faults`] does, and hands out the map of its records, where they have one. Where refused
-/// lines are skipped, it lists also all that is wrong with what is left without them, in the same pass, with the map of that.
+/// lines are skipped, it lists also all that is wrong with what is left without them, in the same pass, with the map of that. Where `notes`,
+/// it notes on which lines the records stand, which takes about 150 bytes for each, and how refused lines begin.
 pub fn list_with_map<R: Source>(
     alloc: Global,
     hasher: RandomState,
     records: &mut R,
     options: Options,
     skips: bool,
+    notes: bool,
 ) -> Result<Found, Stop>
     // The listing is that of `list_faults`, and the map is that of the text's records; there is none exactly where a line is
     // refused or the records have a fault. Whatever is known of the bytes, the listing says why. What is left, where there is something, is
     // listed as a text of its own.
     ensures found { IfOk result (IsFoundIn options skips (R.remaining records.old)) }
+    // Where lines are noted, and the bytes known: the records that something is told of, and the first bytes of refused lines.
+    ensures noted { IfOk result (λ found. notes ≡ true → IfSome (R.remaining records.old) (λ text. NotesLines (layout_with options) text found)) }
     // Whatever is known of the bytes: what is listed beside the map is listed of that map.
     ensures of_map { IfOk result (λ found. AreOfMap options.faces found.whole) }
     // It stops where memory was refused, or a read failed.
@@ -84,11 +93,15 @@ pub fn list_with_map<R: Source>(
     ensures failures { TellsDevice (R.failure_count records.old) (R.failure_count records.new) result }
 {
     let mut reader = RecordReader::with(records, options);
-    let LinesRead { refused, kept } = read_all(alloc, &mut reader, options.join, skips)?;
+    let LinesRead {
+        refused,
+        noted,
+        kept,
+    } = read_all(alloc, &mut reader, options.join, skips, notes)?;
     match kept {
         Some(both) => {
             let listed = list_kept(alloc, hasher, both, reader.skipped(), options)?;
-            Ok(found_in(alloc, refused, listed))
+            Ok(found_in(alloc, refused, listed, noted))
         }
         None => Ok(Found {
             whole: Findings {
@@ -96,6 +109,7 @@ pub fn list_with_map<R: Source>(
                 map: None,
             },
             left: None,
+            noted,
         }),
     }
 }

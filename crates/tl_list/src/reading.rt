@@ -1,15 +1,21 @@
 //! Reads records once, for what tells their faults and for what draws their map.
 
-ghost use Rattle.std.specs.Prelude.{◌≡◌, ⊤, IfOk, IfErr, true};
+ghost use Rattle.std.specs.Prelude.{◌≡◌, ⊤, IfOk, IfErr, OnOk, true};
 ghost use Rattle.tl_record.specs.declared.reader.Standing.TheVariants.{Reading};
-ghost use Rattle.tl_record.specs.Reader.{source_of, standing_of, refusals_to_come};
+ghost use Rattle.tl_record.specs.Reader.{source_of, standing_of, lines_of, pending_of, refusals_to_come};
+ghost use Rattle.tl_record.specs.NextLine.{front_of};
+ghost use Rattle.tl_record.specs.Fronts.{lines_ahead};
+ghost use Rattle.tl_record.specs.Leaving.{left_to_come};
 ghost use Rattle.tl_record.specs.Searching.{goes_on};
+ghost use Rattle.tl_record.specs.Leaving.{MayPass};
 ghost use Rattle.tl_cert_output.specs.Stops.{StopsFor, TellsDevice};
 ghost use Rattle.std.specs.Prelude.{List};
 ghost use Rattle.tl_record.specs.declared.record.Record.{Record};
 ghost use Rattle.tl_map_join.specs.Told.{HasTold, joined_records};
-ghost use Rattle.tl_list.specs.Keeping.Reading.{Keeps, ListsFrom, MayPassOver, MayTake, MayRead};
+ghost use Rattle.tl_list.specs.Keeping.Reading.{Keeps, ListsFrom, MayTake, MayRead, TakesOne, taken_if};
+ghost use Rattle.tl_list.specs.Keeping.Noting.{NotesFronts, NotesRecords, NotesOne};
 
+use crate::noted::{NotedLines, front_noted};
 use std::alloc::{AllocError, Global};
 use tl_cert_output::Stop;
 use tl_list_records::KeptRecords;
@@ -106,24 +112,44 @@ fn keep_joined(alloc: Global, told: ToldRecords) -> Result<BothKept, AllocError>
     Ok(both)
 }
 
-/// Lines that are refused, and what was taken of records; there is nothing where a refused line wasn't passed over.
-#[derive(Drop)]
-struct LinesTaken {
-    refused: Vec<Refusal>,
-    taken: Option<Taken>,
+/// Takes one more record, where records are still taken, and notes it with its line's number where that is asked. An error says that memory was
+/// refused.
+fn take_record(
+    taken: &mut Option<Taken>,
+    noted: &mut NotedLines,
+    notes: bool,
+    line: u64,
+    next: &Record,
+) -> Result<(), AllocError>
+    ensures taken { OnOk result (TakesOne taken.old taken.new next.now) }
+    ensures noted { OnOk result (NotesOne notes taken.old noted.old.records.items noted.new.records.items (line, next.now)) }
+    ensures fronts { noted.new.fronts ≡ noted.old.fronts }
+{
+    let Some(kept) = taken else {
+        return Ok(());
+    };
+    kept.add(next)?;
+    if notes {
+        noted.records.push((line, *next))?;
+    }
+    Ok(())
 }
 
-/// Passes over the refused line at which a reader stopped, if lines are skipped and it isn't one beyond the greatest number.
-fn pass_refused<R: Source>(reader: &mut RecordReader<R>, skips: bool) -> Result<bool, Stop>
-    ensures passes { IfOk result (MayPassOver skips R.remaining reader.old reader.new) }
+/// What was taken of records, behind a refused line: it is kept only where such lines are skipped.
+fn taken_if(skips: bool, taken: Option<Taken>) -> Option<Taken>
+    ensures { result ≡ taken_if skips taken }
+{
+    if skips { taken } else { None }
+}
+
+/// Passes over the refused line at which a reader stopped, if it isn't one beyond the greatest number.
+fn pass_refused<R: Source>(reader: &mut RecordReader<R>) -> Result<bool, Stop>
+    ensures passes { IfOk result (λ passed. MayPass R.remaining reader.old reader.new (Ok passed)) }
     ensures stops { IfErr result (StopsFor ⊤) }
     ensures failures { TellsDevice (R.failure_count (source_of reader.old))
         (R.failure_count (source_of reader.new)) result }
     ensures same_reference { R.reference (source_of reader.new) ≡ R.reference (source_of reader.old) }
 {
-    if !skips {
-        return Ok(false);
-    }
     match reader.pass_refused() {
         Ok(passed) => Ok(passed),
         Err(RefusalStop::Device) => Err(Stop::Device),
@@ -156,82 +182,113 @@ fn list_from<R: Source>(
     }
 }
 
-/// Takes all records that a reader has to give, and lists the lines that are refused and passed over; or where one isn't, all lines that are
-/// refused alone.
+/// Lines that are refused, what was noted of lines, and what was taken of records; that is nothing where a refused line isn't skipped.
+#[derive(Drop)]
+struct LinesTaken {
+    refused: Vec<Refusal>,
+    noted: NotedLines,
+    taken: Option<Taken>,
+}
+
+/// Takes all records that a reader has to give, and lists the lines that are refused; where one isn't skipped, these alone. Of lines is noted
+/// what is asked.
 fn take_all<R: Source>(
     alloc: Global,
     reader: &mut RecordReader<R>,
     joins: bool,
     skips: bool,
+    notes: bool,
 ) -> Result<LinesTaken, Stop>
-    requires { standing_of reader.old ≡ Reading }
+    requires reads { standing_of reader.old ≡ Reading }
+    requires first { lines_of reader.old ≡ 0 }
     ensures read { IfOk result (λ lines. MayTake joins skips R.remaining reader.old reader.new lines.refused.items lines.taken) }
+    ensures fronts { IfOk result (λ lines. NotesFronts notes (lines_ahead R.remaining reader.old) lines.refused.items lines.noted.fronts.items) }
+    ensures records { IfOk result (λ lines. NotesRecords notes (left_to_come R.remaining reader.old) lines.taken lines.noted.records.items) }
     ensures stops { IfErr result (StopsFor ⊤) }
     ensures failures { TellsDevice (R.failure_count (source_of reader.old))
         (R.failure_count (source_of reader.new)) result }
     ensures same_reference { R.reference (source_of reader.new) ≡ R.reference (source_of reader.old) }
 {
-    let mut taken = Taken::new(alloc, joins);
+    let mut taken = Some(Taken::new(alloc, joins));
+    let mut noted = NotedLines::new(alloc);
     let mut refused = Vec::new(alloc);
     let mut next = NO_RECORD;
     'lines: loop {
         match reader.read_next(&mut next) {
-            Ok(Some(_)) => taken.add(&next)?,
+            Ok(Some(line)) => take_record(&mut taken, &mut noted, notes, line, &next)?,
             Ok(None) => {
                 return Ok(LinesTaken {
                     refused,
-                    taken: Some(taken),
+                    noted,
+                    taken,
                 });
             }
             Err(ReadStop::Refused { line, cause }) => {
                 let refusal = Refusal { line, cause };
-                if !pass_refused(reader, skips)? {
+                let front = front_noted(alloc, notes, reader.refused_line())?;
+                taken = taken_if(skips, taken);
+                if !pass_refused(reader)? {
                     drop(taken);
+                    let refused = list_from(refused, refusal, reader)?;
+                    noted.end_fronts(alloc, notes, refused.as_slice())?;
                     return Ok(LinesTaken {
-                        refused: list_from(refused, refusal, reader)?,
+                        refused,
+                        noted,
                         taken: None,
                     });
                 }
                 refused.push(refusal)?;
+                noted.add_front(notes, front)?;
             }
             Err(ReadStop::Device) => return Err(Stop::Device),
         }
     }
 }
 
-/// Lines that are refused, and what is kept of records; there is nothing where a refused line wasn't passed over.
+/// Lines that are refused, what is noted of lines, and what is kept of records; that is nothing where a refused line isn't skipped.
 #[derive(Drop)]
 pub struct LinesRead {
     pub refused: Vec<Refusal>,
+    pub noted: NotedLines,
     pub kept: Option<BothKept>,
 }
 
 /// Keeps all records that a reader has to give, joined where that is asked, and lists all lines that are refused. Where these aren't skipped,
-/// or one is beyond the greatest number, none of the records is kept.
+/// or one is beyond the greatest number, none of the records is kept. Of lines is noted what is asked.
 pub fn read_all<R: Source>(
     alloc: Global,
     reader: &mut RecordReader<R>,
     joins: bool,
     skips: bool,
+    notes: bool,
 ) -> Result<LinesRead, Stop>
-    requires { standing_of reader.old ≡ Reading }
+    requires reads { standing_of reader.old ≡ Reading }
+    requires first { lines_of reader.old ≡ 0 }
     ensures read { IfOk result (λ lines. MayRead joins skips R.remaining reader.old reader.new lines.refused.items lines.kept) }
+    ensures fronts { IfOk result (λ lines. NotesFronts notes (lines_ahead R.remaining reader.old) lines.refused.items lines.noted.fronts.items) }
+    ensures records { IfOk result (λ lines. NotesRecords notes (left_to_come R.remaining reader.old) lines.kept lines.noted.records.items) }
     ensures stops { IfErr result (StopsFor ⊤) }
     ensures failures { TellsDevice (R.failure_count (source_of reader.old))
         (R.failure_count (source_of reader.new)) result }
     ensures same_reference { R.reference (source_of reader.new) ≡ R.reference (source_of reader.old) }
 {
-    let LinesTaken { refused, taken } = take_all(alloc, reader, joins, skips)?;
+    let LinesTaken {
+        refused,
+        noted,
+        taken,
+    } = take_all(alloc, reader, joins, skips, notes)?;
     match taken {
         Some(taken) => {
             let both = taken.keep(alloc)?;
             Ok(LinesRead {
                 refused,
+                noted,
                 kept: Some(both),
             })
         }
         None => Ok(LinesRead {
             refused,
+            noted,
             kept: None,
         }),
     }

@@ -10,7 +10,7 @@ use Rattle.tl_record.specs.declared.stop.ReadStop.TheVariants as stop
 use Rattle.tl_record.specs.declared.judge.Judgement.{Judgement}
 use Rattle.tl_record.specs.declared.judge.Judgement.TheVariants.{PassedOver, Read, Refused}
 use Rattle.tl_record.specs.declared.reader.NextLine.TheVariants as next
-use Rattle.tl_record.specs.declared.reader.Standing.TheVariants.{Reading, Stopped}
+use Rattle.tl_record.specs.declared.reader.Standing.TheVariants.{Reading, Ended, Stopped}
 use Rattle.tl_record.specs.declared.reader.RecordReader.{RecordReader}
 use Rattle.tl_record.specs.Limits.{most_lines}
 use Rattle.tl_record.specs.Lines.{raw_lines, after_first_line}
@@ -18,12 +18,14 @@ use Rattle.tl_record.specs.Records.{Records, judgements, records_judged, refusal
 use Rattle.tl_record.specs.Refusals.{refused}
 use Rattle.tl_record.specs.Left.{left_of, judged_left, records_left}
 use Rattle.tl_record.specs.NextLine.{JudgesFirst, FindsNext}
-use Rattle.tl_record.specs.Reader.{Answer, lines_of, skipped_of, unjudged, with_skipped, with_entry, nothing_after, StepsTo, CountsLine, PassesOver, KeepsRecords, KeepsRefusals}
+use Rattle.tl_record.specs.Reader.{Answer, lines_of, skipped_of, standing_of, unjudged, with_skipped, with_entry, nothing_after, StepsTo, CountsLine, PassesOver, KeepsRecords, KeepsRefusals}
 use Rattle.tl_record.specs.Leaving.{left_in, behind_line, left_reading, left_to_come, GivesLeft, IsFirst, LeavesOn, Leaves}
 use Rattle.tl_record.proofs.RecordLemmas.{same_records, records_passed, records_read, records_none, judgements-first}
 use Rattle.tl_record.proofs.RefusalLemmas.{refused_in}
 use Rattle.tl_record.proofs.MoveLemmas.{KeepsRecords-trans}
 use Rattle.tl_record.proofs.LeftLemmas.{empty_passed, read_of_left}
+use Rattle.tl_record.specs.Fronts.{TakesLines, lines_ahead}
+use Rattle.tl_record.proofs.FrontLemmas.{ahead_passed, ahead_read, ahead_refused, ahead_last, is_front, passes_to}
 use Rattle.tl_record.proofs.ReadOn.{IsAccepted}
 
 abbrev left_text : Layout → ℕ → ℕ → List ℕ → Records
@@ -146,6 +148,8 @@ left_on remaining failure_count first before found after PassedOver passed step 
     record {
       left = KeepsRecords-trans _ _ _ passed.left
           (rw (same, layout, lines, skipped) (line_passed before.layout before.lines before.skipped (unjudged remaining before) (unjudged remaining found) step.finds));
+      ahead = rw same (passes_to first.lines before.lines after.lines 1 (lines_ahead remaining first) _ _ passed.ahead
+          (ahead_passed before.layout (before.lines + 1) (unjudged remaining before) (unjudged remaining found) step.finds) passed.onward lines);
       onward = omega (arith, passed.onward, lines);
     }
 left_on remaining failure_count first before found after (Read r) passed step counted = let bad = counted.is in cc
@@ -169,6 +173,8 @@ leaves_line remaining failure_count first before found after (Read r) answer pas
       gives = gives_after _ _ _ _ _ left.left
           (rw now (line_read before.layout before.lines before.skipped (unjudged remaining before) (unjudged remaining found) r after.skipped step.finds));
       stops = tt;
+      ahead = rw (standing, counted.source, counted.pending) (passes_to first.lines before.lines after.lines 1 (lines_ahead remaining first) _ _ left.ahead
+          (ahead_read before.layout (before.lines + 1) (unjudged remaining before) (unjudged remaining found) r step.finds) left.onward lines);
       onward = omega (arith, left.onward, lines);
     }
 leaves_line remaining failure_count first before found after (Refused cause) answer passed left step counted =
@@ -188,6 +194,11 @@ leaves_line remaining failure_count first before found after (Refused cause) ans
         first_after _ _ _ _ passed.refusals
             (rw (layout, lines, counted.source, counted.pending) (line_first before.layout before.lines (unjudged remaining before) (unjudged remaining found) cause step.finds)),
       );
+      ahead = rw (counted.source, counted.pending) (
+        passes_to first.lines before.lines after.lines 0 (lines_ahead remaining first) _ _ left.ahead
+            (ahead_refused before.layout (before.lines + 1) (unjudged remaining before) (unjudged remaining found) cause step.finds) left.onward (omega (arith, lines)),
+        is_front found.buffer (unjudged remaining found) step.front,
+      );
       onward = omega (arith, left.onward, lines);
     }
 
@@ -203,6 +214,7 @@ leaves_last remaining failure_count first before found after PassedOver told pas
           (subst (λ (n : ℕ). GivesLeft (left_reading remaining before) (left_to_come remaining after) n (Ok None)) (sym skipped)
           (last_passed before.layout before.lines before.skipped (unjudged remaining before) (unjudged remaining found) (left_to_come remaining after) step.finds));
       stops = tt;
+      ahead = rw counted.standing tt;
       onward = omega (arith, left.onward, lines);
     }
 leaves_last remaining failure_count first before found after (Read r) told passed left step counted =
@@ -214,6 +226,7 @@ leaves_last remaining failure_count first before found after (Read r) told passe
       gives = gives_after _ _ _ _ _ left.left
           (rw now (last_read before.layout before.lines before.skipped (unjudged remaining before) (unjudged remaining found) r after.skipped step.finds));
       stops = tt;
+      ahead = rw counted.standing tt;
       onward = omega (arith, left.onward, lines);
     }
 leaves_last remaining failure_count first before found after (Refused cause) told passed left step counted =
@@ -232,14 +245,19 @@ leaves_last remaining failure_count first before found after (Refused cause) tol
         first_after _ _ _ _ passed.refusals
             (rw (layout, lines, counted.source, counted.pending) (last_first before.layout before.lines (unjudged remaining before) (unjudged remaining found) cause step.finds)),
       );
+      ahead = rw (counted.source, counted.pending) (
+        passes_to first.lines before.lines after.lines 0 (lines_ahead remaining first) _ _ left.ahead
+            (ahead_last before.layout (before.lines + 1) (unjudged remaining before) (unjudged remaining found) (Refused cause) step.finds) left.onward (omega (arith, lines)),
+        is_front found.buffer (unjudged remaining found) step.front,
+      );
       onward = omega (arith, left.onward, lines);
     }
 
 -- where no line is left, the end is answered
 pub leaves_end : {R : Type 0} (remaining : R → Option (List ℕ)) (failure_count : R → ℕ) (first before found after : RecordReader R)
     → LeavesOn remaining first before → StepsTo remaining failure_count before found next.End
-    → lines_of after ≡ lines_of found → skipped_of after ≡ skipped_of found → Leaves remaining first after (Ok None)
-leaves_end remaining failure_count first before found after left step lines skipped =
+    → standing_of after ≡ Ended → lines_of after ≡ lines_of found → skipped_of after ≡ skipped_of found → Leaves remaining first after (Ok None)
+leaves_end remaining failure_count first before found after left step standing lines skipped =
     let lines_are : after.lines ≡ before.lines = lines ∙ step.progress.lines in
     let skipped_are : after.skipped ≡ before.skipped = skipped ∙ step.progress.skipped in
     record {
@@ -247,6 +265,7 @@ leaves_end remaining failure_count first before found after left step lines skip
           (subst (λ (n : ℕ). GivesLeft (left_reading remaining before) (left_to_come remaining after) n (Ok None)) (sym skipped_are)
           (end_reached before.layout before.lines before.skipped (unjudged remaining before) (unjudged remaining found) (left_to_come remaining after) step.finds));
       stops = tt;
+      ahead = rw standing tt;
       onward = omega (arith, left.onward, lines_are);
     }
 
@@ -263,5 +282,6 @@ leaves_failed remaining failure_count first before found after left step lines =
     record {
       gives = device_gives (left_reading remaining first) (left_to_come remaining after) after.skipped;
       stops = tt;
+      ahead = tt;
       onward = omega (arith, left.onward, lines_are);
     }

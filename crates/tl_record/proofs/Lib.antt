@@ -13,6 +13,7 @@ pub mod MoveLemmas
 pub mod ReadOn
 pub mod SearchOn
 pub mod LeftLemmas
+pub mod FrontLemmas
 pub mod LeavingLemmas
 pub mod Filled
 pub mod Lanes

@@ -1,5 +1,5 @@
 -- What a record reader still has to give of what is left without refused lines, and how it passes over one.
-use Rattle.std.specs.Prelude.{◌≡◌, ℕ, ◌+◌, ◌≤◌, ◌^◌, ◌==◌, ◌&&◌, nat_lt, Bool, true, false, List, ◌∷◌, length, Option, None, Some, Result, Ok, Err, ⊤, IfSome}
+use Rattle.std.specs.Prelude.{◌≡◌, ℕ, ◌+◌, ◌-◌, ◌≤◌, ◌^◌, ◌==◌, ◌&&◌, nat_lt, Bool, true, false, List, ◌∷◌, length, Option, None, Some, Result, Ok, Err, ⊤, IfSome}
 use Rattle.std.specs.Option.{option_map}
 use Rattle.tl_record.specs.declared.layout.Layout.{Layout}
 use Rattle.tl_record.specs.declared.stop.Cause.{Cause}
@@ -15,6 +15,7 @@ use Rattle.tl_record.specs.Lines.{raw_lines, after_first_line}
 use Rattle.tl_record.specs.Records.{Records}
 use Rattle.tl_record.specs.Refusals.{refused}
 use Rattle.tl_record.specs.Left.{records_left}
+use Rattle.tl_record.specs.Fronts.{lines_ahead, PassesLines, TakesLines}
 use Rattle.tl_record.specs.Reader.{Answer, layout_of, lines_of, skipped_of, judged_of, standing_of, unjudged, with_skipped, with_entry, nothing_after, refusals_to_come, KeepsRecords, KeepsRefusals}
 
 -- the records of what is left of a text that may be known, where so many lines come before it, and so many of them were passed over
@@ -70,12 +71,14 @@ StopsBefore remaining old new (Err read.Device) = ⊤
 -- lines were passed over, and no other
 pub record LeavesOn {R : Type 0} (remaining : R → Option (List ℕ)) (old new : RecordReader R) : Type 0 where
   pub left : KeepsRecords (left_reading remaining old) (left_reading remaining new)
+  pub ahead : PassesLines (lines_of new - lines_of old) (lines_ahead remaining old) (lines_ahead remaining new)
   pub onward : lines_of old ≤ lines_of new
 
 -- what a reader answers that reads, of what is left
 pub record Leaves {R : Type 0} (remaining : R → Option (List ℕ)) (old new : RecordReader R) (answer : Answer) : Type 0 where
   pub gives : GivesLeft (left_reading remaining old) (left_to_come remaining new) (skipped_of new) answer
   pub stops : StopsBefore remaining (refused (layout_of old) (lines_of old) (unjudged remaining old)) new answer
+  pub ahead : TakesLines remaining old new answer
   pub onward : lines_of old ≤ lines_of new
 
 -- Is a reader at a refused line that it can pass over: it stopped there, the line isn't taken off the text, and if it were empty it wouldn't
@@ -91,6 +94,7 @@ pub record PassesRefused {R : Type 0} (remaining : R → Option (List ℕ)) (old
   pub standing : standing_of new ≡ Reading
   pub lines : lines_of new ≡ lines_of old + 1
   pub skipped : skipped_of new ≡ skipped_of old + 1
+  pub ahead : PassesLines 1 (lines_ahead remaining old) (lines_ahead remaining new)
   pub left : KeepsRecords (left_to_come remaining old) (left_to_come remaining new)
   pub refusals : KeepsRefusals (refusals_behind remaining old) (refusals_to_come remaining new)
 

@@ -17,5 +17,6 @@ pub mod Refusals
 pub mod Left
 pub mod NextLine
 pub mod Reader
+pub mod Fronts
 pub mod Leaving
 pub mod Searching

@@ -1,5 +1,5 @@
 -- How the next line is found in the bytes that were fetched and those that the source has left.
-use Rattle.std.specs.Prelude.{◌≡◌, ◌≢◌, ℕ, ◌+◌, ◌<◌, List, [], Option, None, Some, length, slice_index, take, ⊤}
+use Rattle.std.specs.Prelude.{◌≡◌, ◌≢◌, ℕ, ◌+◌, ◌<◌, List, [], Option, None, Some, IfSome, length, slice_index, take, ⊤}
 use Rattle.std.specs.Io.KnownBytes.{IsAtEnd}
 use Rattle.tl_record.specs.declared.layout.Layout.{Layout}
 use Rattle.tl_record.specs.declared.judge.Judgement.{Judgement}
@@ -9,6 +9,7 @@ use Rattle.tl_record.specs.declared.line_buffer.Fetched.TheVariants.{Whole, Rest
 use Rattle.tl_record.specs.declared.reader.NextLine.{NextLine}
 use Rattle.tl_record.specs.declared.reader.NextLine.TheVariants as next
 use Rattle.tl_record.specs.Failures.{one_more}
+use Rattle.tl_record.specs.Limits.{most_line_bytes}
 use Rattle.tl_record.specs.Lines.{line_feed, line_feeds, first_line, after_first_line}
 use Rattle.tl_record.specs.Judgement.{judgement}
 use Rattle.tl_record.specs.Meaning.{judgement_with, KeepsUnread}
@@ -88,6 +89,21 @@ PendingWhole pending (next.Line j) = ⊤
 PendingWhole pending (next.Last j) = ⊤
 PendingWhole pending next.End = ⊤
 PendingWhole pending next.Failed = line_feeds pending ≡ 0
+
+-- the first bytes of a line that is fetched, 1,024 at most
+abbrev pub front_of : List ℕ → List ℕ
+front_of bytes = first_line (take most_line_bytes bytes)
+
+-- the first bytes of the first line of a text are fetched
+abbrev pub HasFront : List ℕ → Option (List ℕ) → Type 0
+HasFront pending text = IfSome text (λ bytes. front_of pending ≡ take most_line_bytes (first_line bytes))
+
+-- of a refused line that was found the first bytes are fetched
+abbrev pub KeepsFront : List ℕ → Option (List ℕ) → NextLine Judgement → Type 0
+KeepsFront pending text (next.Line j) = IfRefused j (HasFront pending text)
+KeepsFront pending text (next.Last j) = IfRefused j (HasFront pending text)
+KeepsFront pending text next.End = ⊤
+KeepsFront pending text next.Failed = ⊤
 
 -- what was found, of what it means and what stands in the record's place
 abbrev pub found_with : NextLine Meaning → Record → NextLine Judgement

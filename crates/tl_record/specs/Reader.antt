@@ -18,7 +18,7 @@ use Rattle.tl_record.specs.Lines.{raw_lines, line_feeds}
 use Rattle.tl_record.specs.Records.{Records, records_of_lines}
 use Rattle.tl_record.specs.Refusals.{refused}
 use Rattle.tl_record.specs.declared.reader.NextLine.{NextLine}
-use Rattle.tl_record.specs.NextLine.{FindsNext, JudgesSome, PendingWhole, CountsNext}
+use Rattle.tl_record.specs.NextLine.{FindsNext, JudgesSome, PendingWhole, KeepsFront, CountsNext}
 
 abbrev pub source_of : {R : Type 0} → RecordReader R → R
 source_of reader = reader.source
@@ -199,6 +199,7 @@ pub record StepsTo {R : Type 0} (remaining : R → Option (List ℕ)) (failure_c
   pub finds : FindsNext (layout_of old) (lines_of old + 1) (unjudged remaining old) (unjudged remaining new) found
   pub judges : JudgesSome (layout_of old) (lines_of old + 1) found
   pub pending : PendingWhole (pending_of new) found
+  pub front : KeepsFront (pending_of new) (unjudged remaining new) found
   pub failures : CountsNext (failure_count (source_of old)) (failure_count (source_of new)) found
   pub progress : KeepsProgress old new
 

@@ -16,7 +16,7 @@ ghost use Rattle.tl_record.specs.Meaning.{judgement_with, KeepsUnread};
 ghost use Rattle.tl_record.specs.declared.record.Record.{Record};
 
 use crate::answer::with_record;
-use crate::judge::{MAX_LINES, Meaning, judge_into};
+use crate::judge::{MAX_LINE_BYTES, MAX_LINES, Meaning, judge_into};
 use crate::layout::{Layout, layout_with};
 use crate::line_buffer::{Fetched, LineBuffer, fetch_line};
 use crate::options::Options;
@@ -25,6 +25,7 @@ use crate::refusal::{Refusal, RefusalStop};
 use crate::source::Source;
 use crate::stop::{Cause, ReadStop};
 use crate::take::{Taken, skip_line, take_line};
+use memchr::memchr;
 
 // How many bytes of the text are kept: what is fetched at once.
 pub(crate) const BLOCK: usize = 65_536;
@@ -91,6 +92,9 @@ impl<R: Source> RecordReader<R> {
     ghost use Rattle.tl_record.specs.Reader.{TellsFailure, FailsWhole, WhereReading, refusals_to_come, KeepsRefusals};
     ghost use Rattle.tl_record.specs.Left.{left_of};
     ghost use Rattle.tl_record.specs.Reader.{judged_of};
+    ghost use Rattle.tl_record.specs.Lines.{raw_lines};
+    ghost use Rattle.tl_record.specs.NextLine.{front_of};
+    ghost use Rattle.tl_record.specs.Fronts.{lines_ahead, TakesLines};
     ghost use Rattle.tl_record.specs.Leaving.{left_to_come, Leaves, GivesLeft, StopsBefore, MayPass, is_passable};
 
     /// A reader of the source's records, by the column table of the TIGER/Line files of 2006.
@@ -105,6 +109,8 @@ impl<R: Source> RecordReader<R> {
         // Where the bytes are known, and refused lines are passed over: the records of what is left are to come.
         ensures left { left_to_come R.remaining result
             ≡ option_map (λ text. lines_read tiger_2006 (left_of tiger_2006 text)) (R.remaining source) }
+        // Where the bytes are known, all lines are ahead.
+        ensures ahead { lines_ahead R.remaining result ≡ option_map raw_lines (R.remaining source) }
         ensures extent { extent R.remaining result ≡ extent_of 0 (R.remaining source) }
         ensures lines { lines_of result ≡ 0 }
         ensures skipped { skipped_of result ≡ 0 }
@@ -126,6 +132,8 @@ impl<R: Source> RecordReader<R> {
         // Where the bytes are known, and refused lines are passed over: the records of what is left are to come.
         ensures left { left_to_come R.remaining result
             ≡ option_map (λ text. lines_read (layout_with options) (left_of (layout_with options) text)) (R.remaining source) }
+        // Where the bytes are known, all lines are ahead.
+        ensures ahead { lines_ahead R.remaining result ≡ option_map raw_lines (R.remaining source) }
         ensures extent { extent R.remaining result ≡ extent_of 0 (R.remaining source) }
         ensures lines { lines_of result ≡ 0 }
         ensures skipped { skipped_of result ≡ 0 }
@@ -283,6 +291,8 @@ impl<R: Source> RecordReader<R> {
         // A refusal is the first that was to come, and the others come behind it.
         ensures stops { WhereReading (standing_of self.old) (StopsBefore R.remaining (refusals_to_come R.remaining self.old)
             self.new (answer_with result place.new)) }
+        // The lines that were counted are taken off those that were ahead; a refused one is the next then, and its first bytes are fetched.
+        ensures ahead { WhereReading (standing_of self.old) (TakesLines R.remaining self.old self.new (answer_with result place.new)) }
         // No line that was accepted is taken back.
         ensures onward { lines_of self.old ≤ lines_of self.new }
         // Where no record is answered the place stays as it was.
@@ -343,6 +353,18 @@ impl<R: Source> RecordReader<R> {
         }
     }
 
+    /// The first bytes of the refused line at which [`RecordReader::read_next`] stopped, 1,024 at most.
+    pub fn refused_line(&self) -> &[u8]
+        ensures { result.now ≡ front_of (pending_of self.now) }
+    {
+        let bytes = self.buffer.bytes();
+        let shown = &bytes[..MAX_LINE_BYTES.min(bytes.len())];
+        match memchr(b'\n', shown) {
+            Some(len) => &shown[..len],
+            None => shown,
+        }
+    }
+
     /// The next record with its line's number, counted from 1, or `None` at the end of the text.
     ///
     /// Lines that are empty or of a type that isn't read are passed over and counted. The first line that is refused
@@ -361,6 +383,8 @@ impl<R: Source> RecordReader<R> {
         // `Device` is answered where a read failed in this call, and nowhere else.
         ensures failures { TellsFailure (standing_of self.old) (R.failure_count (source_of self.old))
             (R.failure_count (source_of self.new)) result }
+        // The lines that were counted are taken off those that were ahead; a refused one is the next then, and its first bytes are fetched.
+        ensures ahead { WhereReading (standing_of self.old) (TakesLines R.remaining self.old self.new result) }
         // Its source is the one that it was.
         ensures same_reference { R.reference (source_of self.new) ≡ R.reference (source_of self.old) }
         // With `Device`, the lines that were accepted are those whose line feed was read.

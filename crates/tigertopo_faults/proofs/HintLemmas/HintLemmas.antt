@@ -44,10 +44,6 @@ tries contents failures old new text (Err error) bytes passes counts = inr (writ
 
 -- ---- names, and the texts that stand under them
 
-pub fused : {A B C : Type 0} (f : B → C) (h : A → B) (xs : List A) → map f (map h xs) ≡ map (λ x. f (h x)) xs
-fused f h [] = refl
-fused f h (x ∷ xs) = ap (λ l. f (h x) ∷ l) (fused f h xs)
-
 module _ {A : Type 0} (h : A → List ℕ) (under : Under) where
   -- as many texts as names
   pub same_count : (names : List A) (texts : List (List ℕ)) → HaveTexts under (map h names) texts → length names ≡ length texts
@@ -74,17 +70,6 @@ module _ {A : Type 0} (h : A → List ℕ) (under : Under) where
       let text = text_at names texts i name within is have in
       let unknown : under (h name) ≡ None = ap under (sym said) ∙ none in
       let wrong = rw unknown at text in absurd (let no = wrong in cc)
-
--- of files whose bytes are known none can be read but once
-pub none_passing : (under : Under) (names texts : List (List ℕ)) (name : List ℕ) (i : ℕ) → i < length names → get_or names i name ≡ name → under name ≡ None → HaveTexts under names texts → ⊥
-none_passing under [] texts name i within is none have = absurd (omega arith)
-none_passing under (first ∷ names) [] name i within is none have = let wrong = have in absurd (cc)
-none_passing under (first ∷ names) (text ∷ texts) name zero within is none have =
-    let head : bytes_under under first ≡ Some text = let all = have in cc in
-    let unknown : under first ≡ None = ap under is ∙ none in
-    let wrong = rw unknown at head in absurd (let no = wrong in cc)
-none_passing under (first ∷ names) (text ∷ texts) name (suc i) within is none have =
-    let rest : HaveTexts under names texts = let all = have in cc in none_passing under names texts name i (omega arith) is none rest
 
 pub named : {A : Type 0} (h : A → List ℕ) (names : List A) (i : ℕ) (name : A) → i < length names → name ≡ get_or names i name → get_or (map h names) i [] ≡ h name
 named h [] i name within is = absurd (omega arith)

@@ -1,17 +1,17 @@
 -- What is told of refused lines one after the other, each with where it stands.
-use Rattle.std.specs.Prelude.{◌≡◌, ⊤, ℕ, ◌<◌, List, [], ◌∷◌, ◌++◌, map, take, slice_get, slice_index_or}
-use Rattle.std.specs.Option.{option_map_or, option_and_then}
+use Rattle.std.specs.Prelude.{◌≡◌, ℕ, List, [], ◌∷◌, ◌++◌, map, slice_index_or}
+use Rattle.std.specs.Option.{option_map_or}
 use Rattle.tl_record.specs.declared.layout.Layout.{Layout}
 use Rattle.tl_record.specs.declared.refusal.Refusal.{Refusal}
 use Rattle.tl_record.specs.Messages.{refusal_text}
 use Rattle.tl_record.specs.declared.stop.Cause.{Cause}
-use Rattle.tl_record.specs.Limits.{most_line_bytes}
-use Rattle.tl_record.specs.Lines.{raw_lines}
 use Rattle.tl_cert_output.specs.Writing.{line_of}
 use Rattle.tigertopo_files.specs.Files.{Under}
-use Rattle.tigertopo_faults.specs.Places.LinePlaces.{line_at, line_count, place_of}
+use Rattle.tigertopo_files.specs.Joining.{joined}
+use Rattle.tigertopo_faults.specs.Places.LinePlaces.{line_count, place_of}
 use Rattle.tigertopo_faults.specs.declared.hint.form.RefusedForm.{RefusedForm}
 use Rattle.tigertopo_faults.specs.declared.hint.form.RefusedForm.TheVariants.{Lines, Objects, Features}
+use Rattle.tl_record.specs.Fronts.{front_in}
 use Rattle.tigertopo_faults.specs.Hint.Hints.{place_text}
 use Rattle.tigertopo_faults.specs.Hint.Objects.{place_object, refused_object, refused_end, refused_feature, feature_end}
 use Rattle.tigertopo_faults.specs.Hint.Telling.{HaveTexts}
@@ -40,30 +40,20 @@ placed_text form [] told = []
 placed_text form (refusal ∷ rest) [] = refused_text form refusal ++ no_place form ++ placed_text form rest []
 placed_text form (refusal ∷ rest) (place ∷ told) = refused_text form refusal ++ place ++ placed_text form rest told
 
--- a place among the texts of these names, where a line is refused
-abbrev pub line_in : RefusedForm → Layout → List (List ℕ) → List (List ℕ) → Cause → ℕ × ℕ → List ℕ
-line_in form layout names texts cause place =
-    option_map_or (λ line. told_place form layout (slice_index_or names place.0 []) place.1 (take most_line_bytes line) cause)
-    (option_and_then (λ text. line_at place.1 (raw_lines text)) (slice_get texts place.0)) (no_place form)
-
 -- where a refused line stands among the texts of these names
 abbrev pub place_among : RefusedForm → Layout → List (List ℕ) → List (List ℕ) → Refusal → List ℕ
 place_among form layout names texts refusal =
-    option_map_or (line_in form layout names texts refusal.cause) (place_of (map line_count texts) refusal.line) (no_place form)
+    option_map_or (λ place. told_place form layout (slice_index_or names place.0 []) place.1 (front_in (joined texts) refusal) refusal.cause)
+    (place_of (map line_count texts) refusal.line) (no_place form)
 
 -- where each of these stands
 abbrev pub places_of : RefusedForm → Layout → List (List ℕ) → List (List ℕ) → List Refusal → List (List ℕ)
 places_of form layout names texts refusals = map (place_among form layout names texts) refusals
 
--- each of these lines comes behind the one before, and the first behind so many
-abbrev pub RiseFrom : ℕ → List Refusal → Type 0
-RiseFrom before [] = ⊤
-RiseFrom before (refusal ∷ rest) = (before < refusal.line) × RiseFrom refusal.line rest
-
--- where the text of each file is known, it is told of each where it stands, if they are told in the order of their lines
+-- where the text of each file is known, it is told of each where it stands
 abbrev pub TellsPlaces : RefusedForm → Layout → Under → List (List ℕ) → List Refusal → List (List ℕ) → Type 0
 TellsPlaces form layout under names refusals told =
-    (texts : List (List ℕ)) → HaveTexts under names texts → RiseFrom 0 refusals → told ≡ places_of form layout names texts refusals
+    (texts : List (List ℕ)) → HaveTexts under names texts → told ≡ places_of form layout names texts refusals
 
 -- a text of refused lines, each with where it stands
 abbrev pub IsPlaced : RefusedForm → Layout → Under → List (List ℕ) → List Refusal → List ℕ → Type 0

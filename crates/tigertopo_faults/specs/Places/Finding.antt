@@ -46,7 +46,3 @@ abbrev pub PassesTo : ℕ → Option (List ℕ) → Option (List ℕ) → Type 0
 PassesTo count None now = ⊤
 PassesTo count (Some text) None = ⊥
 PassesTo count (Some text) (Some rest) = (raw_lines rest ≡ drop count (raw_lines text)) × (count ≤ line_count text) × (count + length rest ≤ length text)
-
--- the first line of a text was taken off
-abbrev pub Skips : {T : Type 0} → Option (List ℕ) → List ℕ → T → Type 0
-Skips new text done = new ≡ Some (after_first_line text)

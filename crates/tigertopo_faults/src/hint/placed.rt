@@ -3,18 +3,18 @@
 ghost use Rattle.std.specs.Prelude.{◌≡◌, [], map, string_bytes, slice_get, slice_index_or};
 ghost use Rattle.std.specs.Option.{option_map_or};
 ghost use Rattle.tl_record.specs.Layout.{layout_with};
-ghost use Rattle.tigertopo_faults.specs.Hint.Found.{found_line, found_place, found_text};
+ghost use Rattle.tigertopo_faults.specs.Hint.Fronts.{fronted_place, fronted_text};
 ghost use Rattle.tigertopo_faults.specs.Hint.Placed.{refused_text, no_place, told_place};
 
 use crate::hint::form::RefusedForm;
-use crate::hint::found::FoundLine;
 use crate::hint::object::{print_place_object, print_refused_feature, print_refused_object};
 use crate::hint::shown::print_place;
+use crate::places::place_of;
 use std::alloc::{AllocError, Global};
 use tl_cert_output::{Page, Text, print_refusal};
 use tl_record::{Cause, Options, Refusal};
 
-/// The lines of refusals, or their objects or features, each with where the refused line was found.
+/// The lines of refusals, or their objects or features, each with where the refused line stands.
 #[derive(Clone, Copy)]
 pub struct RefusedLines<'a> {
     pub form: RefusedForm,
@@ -22,15 +22,18 @@ pub struct RefusedLines<'a> {
     pub options: Options,
     /// The files' names.
     pub names: &'a [String],
+    /// How many lines each of them has.
+    pub counts: &'a [u64],
     pub refusals: &'a [Refusal],
-    /// Those that were found, from the front.
-    pub found: &'a [FoundLine],
+    /// The first bytes of the refused lines, from the front.
+    pub fronts: &'a [Vec<u8>],
 }
 
 impl Text for RefusedLines<'_> {
     ghost use Rattle.std.specs.Prelude.{⊤};
 
-    ghost text = { λ told. found_text told.form (layout_with told.options) (map string_bytes told.names.now) told.refusals.now told.found.now };
+    ghost text = { λ told. fronted_text told.form (layout_with told.options) (map string_bytes told.names.now) told.counts.now told.refusals.now
+        (map (λ front. front.items) told.fronts.now) };
 
     ghost is_ready = { λ told. ⊤ };
 
@@ -39,51 +42,66 @@ impl Text for RefusedLines<'_> {
             self.form,
             self.options,
             self.names,
+            self.counts,
             self.refusals,
-            self.found,
+            self.fronts,
             page,
         );
         Ok(())
     }
 }
 
-/// Prints the lines of refusals, or their objects or features, each with the file of these names where the refused line was found, its number
-/// there, the columns of the field that it is refused for, and what it holds there. Of those behind the ones that were found no places are
-/// told.
+/// Prints the lines of refusals, or their objects or features, each with the file of these names where the refused line stands, its number
+/// there, the columns of the field that it is refused for, and what it holds there, by its first bytes. Where these aren't given, and where the
+/// files haven't so many lines, no place is told.
 pub fn print_refusals<P: Page>(
     form: RefusedForm,
     options: Options,
     names: &[String],
+    counts: &[u64],
     refusals: &[Refusal],
-    found: &[FoundLine],
+    fronts: &[Vec<u8>],
     page: &mut P,
 )
-    ensures { P.adds page.old page.new (found_text form (layout_with options) (map string_bytes names.now) refusals.now found.now) }
+    ensures { P.adds page.old page.new (fronted_text form (layout_with options) (map string_bytes names.now) counts.now refusals.now
+        (map (λ front. front.items) fronts.now)) }
 {
     for index in 0..refusals.len() {
-        print_beginning(form, refusals[index], page);
-        print_place_of(form, options, names, found, index, page);
+        let refusal = refusals[index];
+        print_beginning(form, refusal, page);
+        match fronts.get(index) {
+            Some(front) => {
+                print_place_of(
+                    form,
+                    options,
+                    names,
+                    counts,
+                    refusal,
+                    front.as_slice(),
+                    page,
+                )
+            }
+            None => print_no_place(form, page),
+        }
     }
 }
 
-// Prints the place of the refused line that was found with this number, if it was.
+// Prints the place of a refused line that begins with these bytes, if the files have so many lines.
 fn print_place_of<P: Page>(
     form: RefusedForm,
     options: Options,
     names: &[String],
-    found: &[FoundLine],
-    index: usize,
+    counts: &[u64],
+    refusal: Refusal,
+    front: &[u8],
     page: &mut P,
 )
-    ensures { P.adds page.old page.new (option_map_or
-        (λ found. found_place form (layout_with options) (map string_bytes names.now) (found_line found))
-        (slice_get found.now index) (no_place form)) }
+    ensures { P.adds page.old page.new (fronted_place form (layout_with options) (map string_bytes names.now) counts.now refusal front.now) }
 {
-    match found.get(index) {
-        Some(found) => {
-            let name = name_of(names, found.file);
-            let line = found.bytes.as_slice();
-            print_told_place(form, options, name, found.line, line, found.cause, page)
+    match place_of(counts, refusal.line) {
+        Some(place) => {
+            let name = name_of(names, place.text);
+            print_told_place(form, options, name, place.line, front, refusal.cause, page)
         }
         None => print_no_place(form, page),
     }

@@ -1,4 +1,4 @@
-//! The lines of records, kept under the subjects that name them while a text is read.
+//! The lines of records, kept under the subjects that name them.
 
 ghost use Rattle.std.specs.Prelude.{◌≡◌, length};
 
@@ -19,12 +19,10 @@ pub struct KeptLines {
 }
 
 impl KeptLines {
-    ghost use Rattle.std.specs.Prelude.{◌≡◌, ◌<◌, [], true, false, Contains, IfOk, OnOk, Some, slice_get, option_map};
+    ghost use Rattle.std.specs.Prelude.{◌≡◌, ◌<◌, [], true, Contains, IfOk, OnOk, Some, slice_get, option_map};
     ghost use Rattle.indexmap.specs.IndexSet.{index_of};
     ghost use Rattle.tigertopo_faults.specs.declared.records.subject.Subject.{Subject as SubjectOf};
     ghost use Rattle.tigertopo_faults.specs.Records.Naming.{same_subject};
-    ghost use Rattle.tigertopo_faults.specs.Records.Naming.{is_subject};
-    ghost use Rattle.tigertopo_faults.specs.Records.SpokenOf.{is_about};
     ghost use Rattle.tigertopo_faults.specs.Records.Kept.{kept_of, is_wanted, Grows, Notes, NotesAll};
 
     /// No line, of any of these subjects.
@@ -120,23 +118,5 @@ impl KeptLines {
             self.note(entry.0, entry.1)?;
         }
         Ok(())
-    }
-
-    /// Whether a wanted subject names a record.
-    pub(crate) fn wants(&self, named: &Record) -> bool
-        ensures { result ≡ false → (s : SubjectOf) → is_wanted self.now s ≡ true → is_about s named.now ≡ false }
-    {
-        let (narrow, wide) = subjects_naming(named);
-        self.has(narrow) || self.has(wide)
-    }
-
-    // Whether a subject is wanted, if there is one.
-    fn has(&self, subject: Option<Subject>) -> bool
-        ensures { result ≡ false → (s : SubjectOf) → is_wanted self.now s ≡ true → is_subject subject s ≡ false }
-    {
-        match subject {
-            Some(subject) => self.number_of(&subject).is_some(),
-            None => false,
-        }
     }
 }

@@ -1,5 +1,5 @@
 -- Kept on the way: what is prepared before it is told. No public contract cites this file.
-use Rattle.std.specs.Prelude.{◌≡◌, ℕ, Bool, true, false, is_some, length, List, [], ◌++◌, Option, Some, None, Vec}
+use Rattle.std.specs.Prelude.{◌≡◌, ℕ, Bool, true, false, is_some, length, List, [], ◌++◌, map, Option, Some, None, IfSome, Vec}
 use Rattle.std.specs.Global.{Global}
 use Rattle.tl_map_county.specs.TheMap.{MapChain}
 use Rattle.tigertopo_words.specs.declared.budget.Told.{Told}
@@ -9,7 +9,7 @@ use Rattle.tl_record.specs.declared.refusal.Refusal.{Refusal}
 use Rattle.tl_cert_output.specs.declared.stop.Stop.{Stop}
 use Rattle.tl_cert_output.specs.declared.stop.Stop.TheVariants.{Record}
 use Rattle.tl_list_text.specs.declared.listing.Listing.TheVariants as listing
-use Rattle.tigertopo_faults.specs.declared.lines.again.Spoken.{Spoken}
+use Rattle.tigertopo_faults.specs.declared.lines.speaking.Spoken.{Spoken}
 use Rattle.tigertopo_program.specs.declared.answer.Answer.{Answer}
 use Rattle.tigertopo_program.specs.declared.answer.Answer.TheVariants as answer
 use Rattle.tigertopo_program.specs.Texts.{answer_status, answer_text}
@@ -18,16 +18,49 @@ use Rattle.tigertopo_words.specs.declared.form.Form.{Form}
 use Rattle.tigertopo_words.specs.declared.form.Form.TheVariants.{Lines}
 use Rattle.tl_record.specs.declared.layout.Layout.{Layout}
 use Rattle.tigertopo_files.specs.Files.{Under}
-use Rattle.tigertopo_faults.specs.declared.hint.found.FoundLine.{FoundLine}
-use Rattle.tigertopo_faults.specs.Hint.Found.{AreFound}
+use Rattle.tigertopo_files.specs.Joining.{joined}
+use Rattle.tl_record.specs.Fronts.{front_in}
+use Rattle.tigertopo_faults.specs.Hint.Telling.{HaveTexts}
+use Rattle.tigertopo_faults.specs.Places.LinePlaces.{line_count}
 use Rattle.tigertopo_faults.specs.Hint.Placed.{IsPlaced, TellsPlaces}
 use Rattle.tigertopo_faults.specs.declared.hint.form.RefusedForm.TheVariants.{Features}
-use Rattle.tl_record.specs.Left.{numbers_of}
+use Rattle.tl_record.specs.declared.options.Options.{Options}
+use Rattle.tl_record.specs.declared.record.Record.{Record as TheRecord}
+use Rattle.tl_record.specs.Layout.{layout_with}
+use Rattle.tl_record.specs.Left.{left_of}
+use Rattle.tl_record.specs.Records.{lines_read}
+use Rattle.tl_list.specs.Findings.{IsFoundIn}
+use Rattle.tl_list.specs.Noting.{NotesLines}
+use Rattle.tl_list.specs.declared.left.Found.{Found}
 use Rattle.tl_list.specs.declared.left.LeftFaults.{LeftFaults}
 use Rattle.tigertopo_program.specs.declared.lists.skipping.LeftTexts.{LeftTexts}
-use Rattle.tigertopo_faults.specs.Lines.Again.{AreSpoken}
+use Rattle.tigertopo_faults.specs.Lines.Speaking.{AreSpoken}
 use Rattle.tigertopo_faults.specs.Records.SpokenOf.{chains_of}
-use Rattle.tigertopo_program.specs.Lists.Listed.{Asked, featured, has_places, most_of, reads_again, refused_form, refusals_text, skipped_text, told_text}
+use Rattle.tigertopo_program.specs.Lists.Listed.{Asked, asks_lines, featured, has_places, most_of, refused_form, refusals_text, skipped_text, told_text}
+
+-- what is found in a text, and what is noted of its lines where that is asked for
+pub record IsFoundWith (options : Options) (skips notes : Bool) (known : Option (List ℕ)) (found : Found) : Type 0 where
+  pub are : IsFoundIn options skips known found
+  pub noted : notes ≡ true → IfSome known (λ text. NotesLines (layout_with options) text found)
+
+-- the same of files of these names, where the text of each is known: so many lines has each
+abbrev pub AreNoted : Layout → Under → List (List ℕ) → (counts : List ℕ) → Found → Type 0
+AreNoted layout under names counts found =
+    (texts : List (List ℕ)) → HaveTexts under names texts → (counts ≡ map line_count texts) × NotesLines layout (joined texts) found
+
+-- these are their records without refused lines, each with the number of its line
+abbrev pub AreLinesOf : Layout → Under → List (List ℕ) → (counts : List ℕ) → List (ℕ × TheRecord) → Type 0
+AreLinesOf layout under names counts entries = (texts : List (List ℕ)) → HaveTexts under names texts
+    → (counts ≡ map line_count texts) × (entries ≡ (lines_read layout (left_of layout (joined texts))).entries)
+
+-- so do refused lines of theirs begin
+abbrev pub AreFronts : Under → List (List ℕ) → (counts : List ℕ) → List Refusal → (fronts : List (List ℕ)) → Type 0
+AreFronts under names counts refusals fronts = (texts : List (List ℕ)) → HaveTexts under names texts
+    → (counts ≡ map line_count texts) × (fronts ≡ map (front_in (joined texts)) refusals)
+
+-- the bytes of each
+abbrev pub bytes_of : List (Vec ℕ Global) → List (List ℕ)
+bytes_of fronts = map (λ front. front.items) fronts
 
 -- the text of faults, or nothing where they are printed as they are listed
 abbrev pub IsPrepared : List (List ℕ) → List MapChain → Spoken → Form → Told → List MapFault → ℕ → Option (Vec ℕ Global) → Type 0
@@ -51,15 +84,10 @@ pub record IsRefusedList (layout : Layout) (under : Under) (names : List (List �
   pub is : answer_status answer ≡ 3
   pub lines : answer_text answer ≡ refusals_text form most list.items told
 
--- the refused lines of which it is told where they stand: those that stand in the file that is made, and else those that are printed
-abbrev pub sought_lines : Told → Option (List ℕ) → List Refusal → List Refusal
-sought_lines told None list = printed (most_of told) list
-sought_lines told (Some name) list = featured told list
-
--- what is answered of refused lines, where these were found in files
-abbrev pub AnswersFound : Layout → Asked → Vec Refusal Global → List FoundLine → Answer → Type 0
-AnswersFound layout asked list found answer = (under : Under)
-    → (has_places asked.form ≡ true → AreFound under asked.names (sought_lines asked.told asked.made list.items) found)
+-- what is answered of refused lines, which stand in files of so many lines each and begin with these bytes
+abbrev pub AnswersFronted : Layout → Asked → Vec Refusal Global → (counts : List ℕ) → (fronts : List (List ℕ)) → Answer → Type 0
+AnswersFronted layout asked list counts fronts answer = (under : Under)
+    → (has_places asked.form ≡ true → AreFronts under asked.names counts list.items fronts)
     → IsRefusedList layout under asked.names asked.form (most_of asked.told) list answer
 
 -- the features of refused lines, each with where it stands, if they are asked for
@@ -71,10 +99,10 @@ pub record ArePrepared (layout : Layout) (under : Under) (asked : Asked) (list :
   pub answer : IsRefusedList layout under asked.names asked.form (most_of asked.told) list prepared.0
   pub features : AreFeatures asked.made layout under asked.names (featured asked.told list.items) prepared.1.items
 
--- the same, where they were found in files
-abbrev pub ArePreparedOf : Layout → Asked → Vec Refusal Global → List FoundLine → Answer × Vec ℕ Global → Type 0
-ArePreparedOf layout asked list found prepared = (under : Under)
-    → (reads_again asked.form asked.made ≡ true → AreFound under asked.names (sought_lines asked.told asked.made list.items) found)
+-- the same of lines in files of so many lines each, which begin with these bytes
+abbrev pub ArePreparedOf : Layout → Asked → Vec Refusal Global → (counts : List ℕ) → (fronts : List (List ℕ)) → Answer × Vec ℕ Global → Type 0
+ArePreparedOf layout asked list counts fronts prepared = (under : Under)
+    → (asks_lines asked.form asked.made ≡ true → AreFronts under asked.names counts list.items fronts)
     → ArePrepared layout under asked list prepared
 
 -- what is answered of refused lines and of what is left, the records that its faults speak of, and the features of the refused lines that
@@ -85,5 +113,5 @@ pub record IsLeftPrepared (layout : Layout) (under : Under) (asked : Asked) (lis
   pub plain : has_places asked.form ≡ false → told ≡ []
   pub lines : texts.text.items ≡ refusals_text asked.form (most_of asked.told) list told
       ++ told_text asked.names (chains_of left.map) texts.spoken asked.form asked.told left.faults.items left.touched ++ skipped_text asked.form (length list)
-  pub speak : reads_again asked.form asked.made ≡ true → AreSpoken layout (numbers_of list) under asked.names left.map (featured asked.told left.faults.items) texts.spoken
+  pub speak : asks_lines asked.form asked.made ≡ true → AreSpoken layout under asked.names left.map (featured asked.told left.faults.items) texts.spoken
   pub features : AreFeatures asked.made layout under asked.names (featured asked.told list) texts.features.items

@@ -7,12 +7,11 @@ use Rattle.tl_record.specs.declared.options.Options.{Options}
 use Rattle.tl_record.specs.declared.layout.Layout.{Layout}
 use Rattle.tl_record.specs.declared.refusal.Refusal.{Refusal}
 use Rattle.tl_record.specs.Layout.{layout_with}
-use Rattle.tl_record.specs.Left.{left_of, numbers_of}
+use Rattle.tl_record.specs.Left.{left_of}
 use Rattle.tl_record.specs.Records.{records_of}
 use Rattle.tl_map_county.specs.TheMap.{TheMap, MapChain}
 use Rattle.tigertopo_files.specs.Files.{Under}
 use Rattle.tigertopo_files.specs.World.{World, Made}
-use Rattle.tigertopo_faults.specs.Hint.Again.{SomeUnread}
 use Rattle.tigertopo_faults.specs.Hint.Telling.{HaveTexts}
 use Rattle.tigertopo_faults.specs.Hint.Placed.{places_of}
 use Rattle.tigertopo_faults.specs.Hint.Placed.{placed_text as refusals_placed}
@@ -24,7 +23,6 @@ use Rattle.tigertopo_words.specs.declared.budget.Told.TheVariants.{One, All}
 use Rattle.tigertopo_words.specs.declared.form.Form.{Form}
 use Rattle.tigertopo_words.specs.declared.form.Form.TheVariants as form
 use Rattle.tl_cert_output.specs.declared.stop.Stop.{Stop}
-use Rattle.tl_cert_output.specs.declared.stop.Stop.TheVariants.{Record, Device}
 use Rattle.tl_check_verdict.specs.declared.fault.MapFault.{MapFault}
 use Rattle.tl_check_verdict.specs.declared.verdict.Report.{Report}
 use Rattle.tl_check_verdict.specs.Messages.{map_fault_text}
@@ -36,8 +34,8 @@ use Rattle.tl_list_text.specs.Texts.{lines, listing_text, printed, count_line}
 use Rattle.tl_list.specs.Findings.{AreFaultsOf, AreFindingsOf, HasBeyond}
 use Rattle.tigertopo_faults.specs.Records.SpokenOf.{chains_of}
 use Rattle.tigertopo_faults.specs.Records.Keeping.{held}
-use Rattle.tigertopo_faults.specs.declared.lines.again.Spoken.{Spoken}
-use Rattle.tigertopo_faults.specs.Lines.Again.{AreSpoken}
+use Rattle.tigertopo_faults.specs.declared.lines.speaking.Spoken.{Spoken}
+use Rattle.tigertopo_faults.specs.Lines.Speaking.{AreSpoken}
 use Rattle.tigertopo_faults.specs.Lines.Texts.{placed_text, chosen, end_text}
 use Rattle.tigertopo_faults.specs.Geojson.Texts.{faults_text}
 use Rattle.tigertopo_faults.specs.Objects.Texts.{objects_text}
@@ -122,10 +120,10 @@ abbrev pub featured : {A : Type 0} → Told → List A → List A
 featured One list = take 1 list
 featured (All most skips) list = list
 
--- are the files read again for the records that faults speak of, or for refused lines
-abbrev pub reads_again : Form → Option (List ℕ) → Bool
-reads_again form None = has_places form
-reads_again form (Some name) = true
+-- are the lines of records asked for, and where refused lines stand: in this form, or for a file
+abbrev pub asks_lines : Form → Option (List ℕ) → Bool
+asks_lines form None = has_places form
+asks_lines form (Some name) = true
 
 -- how many refused lines were skipped, as a line
 abbrev pub skipped_line : ℕ → List ℕ
@@ -160,20 +158,15 @@ pub record Faults : Type 0 where
 -- faults are answered, with the records that they speak of where these are asked for, and those that are told stand in the file
 pub record IsFaultList (w : World) (layout : Layout) (asked : Asked) (map : Option TheMap) (list : Faults) (answer : Answer) : Type 0 where
   pub spoken : Spoken
-  pub speak : reads_again asked.form asked.made ≡ true → AreSpoken layout [] w.before asked.names map (featured asked.told list.faults.items) spoken
+  pub speak : asks_lines asked.form asked.made ≡ true → AreSpoken layout w.before asked.names map (featured asked.told list.faults.items) spoken
   pub kept : Made w asked.made (faults_text asked.names spoken.counts.items map (held spoken.lines) spoken.places.items (featured asked.told list.faults.items) list.touched [])
   pub is : answer_status answer ≡ 1
   pub lines : answer_text answer ≡ told_text asked.names (chains_of map) spoken asked.form asked.told list.faults.items list.touched
 
--- why that isn't: where files are read again, one of them may not be read
-abbrev pub StopsAgain : World → Asked → Stop → Type 0
-StopsAgain w asked Device = (reads_again asked.form asked.made ≡ true) × SomeUnread w.before asked.names
-StopsAgain w asked other = ⊥
-
--- why nothing is answered: the same, or the first line that is refused, where one fault is asked for as a line
-abbrev pub StopsList : World → Options → (known : Option (List ℕ)) → Asked → Stop → Type 0
-StopsList w options known asked (Record line cause) = (stops_refused asked.told asked.form ≡ true) × StopsRecords (layout_with options) known (Record line cause)
-StopsList w options known asked other = StopsAgain w asked other
+-- why nothing is answered, but for want of memory and for a device that failed: the first line that is refused, where one fault is asked for
+-- as a line
+abbrev pub StopsList : Options → (known : Option (List ℕ)) → Asked → Stop → Type 0
+StopsList options known asked stop = (stops_refused asked.told asked.form ≡ true) × StopsRecords (layout_with options) known stop
 
 -- with the status 0 the report of a map that is sound, of which no fault stands in the file
 pub record TellsSound (w : World) (options : Options) (known : Option (List ℕ)) (asked : Asked) (status : ℕ) (text : List ℕ) : Type 0 where
@@ -192,7 +185,7 @@ pub record TellsFaults (w : World) (options : Options) (known : Option (List ℕ
   pub are : IfSome known (λ held. AreFindingsOf options held (record { listing = listing.Faults faults touched; map = map }))
   pub unsound : IfSome known (λ held. ¬ HaveMap (records_of (layout_with options) held) (IsSoundFor options.faces))
   pub spoken : Spoken
-  pub speak : reads_again asked.form asked.made ≡ true → AreSpoken (layout_with options) [] w.before asked.names map (featured asked.told faults.items) spoken
+  pub speak : asks_lines asked.form asked.made ≡ true → AreSpoken (layout_with options) w.before asked.names map (featured asked.told faults.items) spoken
   pub kept : Made w asked.made (faults_text asked.names spoken.counts.items map (held spoken.lines) spoken.places.items (featured asked.told faults.items) touched [])
   pub is : status ≡ 1
   pub lines : text ≡ told_text asked.names (chains_of map) spoken asked.form asked.told faults.items touched
@@ -227,8 +220,7 @@ pub record TellsLeft (w : World) (options : Options) (known : Option (List ℕ))
   pub left : Faults
   pub are : IfSome known (λ held. AreFaultsOf options (left_of (layout_with options) held) map left.faults left.touched)
   pub spoken : Spoken
-  pub speak : reads_again asked.form asked.made ≡ true
-      → AreSpoken (layout_with options) (numbers_of list.items) w.before asked.names map (featured asked.told left.faults.items) spoken
+  pub speak : asks_lines asked.form asked.made ≡ true → AreSpoken (layout_with options) w.before asked.names map (featured asked.told left.faults.items) spoken
   pub features : List (List ℕ)
   pub told : List (List ℕ)
   pub refused : AreRefused w options known asked list.items features told

@@ -53,7 +53,7 @@ impl Question for SubjectOf {
         records: &mut R,
     ) -> Result<Result<Subject, MapFault>, Stop> {
         if self.shows_faults {
-            let found = list_with_map(alloc, hasher, records, self.options, false)?;
+            let found = list_with_map(alloc, hasher, records, self.options, false, false)?;
             return subject_of(alloc, found.whole);
         }
         match read_map_with(alloc, hasher, records, self.options) {
@@ -85,7 +85,7 @@ fn subject_of(alloc: Global, found: Findings) -> Result<Result<Subject, MapFault
             is_sound: Some(has_sound_map(&listing)),
             faults: faults_of(alloc, listing),
         })),
-        None => Ok(Err(first_of(&listing)?)),
+        None => Ok(Err(first_of(alloc, listing)?)),
     }
 }
 
@@ -110,14 +110,16 @@ fn touched_of(listing: &Listing) -> u64
 }
 
 // The first of what is listed of records that have no map.
-fn first_of(listing: &Listing) -> Result<MapFault, Stop>
-    requires { SaysWhy None listing.now }
-    ensures { first_listed listing.now ≡ Some result }
+fn first_of(alloc: Global, listing: Listing) -> Result<MapFault, Stop>
+    requires { SaysWhy None listing }
+    ensures { first_listed listing ≡ Some result }
 {
     match listing {
-        Listing::Sound(_) => unreachable!(),
         Listing::Refused(list) => Err(first_stop(list.as_slice())),
-        Listing::Faults { faults, .. } => Ok(first_fault(faults.as_slice())),
+        Listing::Sound(_) | Listing::Faults { .. } => {
+            let faults = faults_of(alloc, listing);
+            Ok(first_fault(faults.as_slice()))
+        }
     }
 }
 

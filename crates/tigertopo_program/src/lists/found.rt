@@ -1,6 +1,6 @@
 //! What is found in records.
 
-ghost use Rattle.tl_list.specs.Findings.{IsFoundIn};
+ghost use Rattle.tigertopo_program.specs.Lists.Keeping.{IsFoundWith};
 ghost use Rattle.tigertopo_program.specs.Records.{StopsNever};
 
 use crate::reading::Question;
@@ -11,17 +11,18 @@ use tl_list::{Found, list_with_map};
 use tl_record::{Options, Source};
 
 /// All that is wrong with records, with their map, where they have one, and where refused lines are skipped, with what is left without them,
-/// as a question.
+/// as a question. Where lines are noted, the records have their lines, and refused lines their first bytes.
 #[derive(Clone, Copy)]
 pub(crate) struct FindingsIn {
     pub options: Options,
     pub skips: bool,
+    pub notes: bool,
 }
 
 impl Question for FindingsIn {
     type Answer = Found;
 
-    ghost answers = { λ asked known. IsFoundIn asked.options asked.skips known };
+    ghost answers = { λ asked known. IsFoundWith asked.options asked.skips asked.notes known };
 
     ghost stops = { λ asked known. StopsNever };
 
@@ -31,6 +32,6 @@ impl Question for FindingsIn {
         hasher: RandomState,
         records: &mut R,
     ) -> Result<Found, Stop> {
-        list_with_map(alloc, hasher, records, self.options, self.skips)
+        list_with_map(alloc, hasher, records, self.options, self.skips, self.notes)
     }
 }

@@ -1,28 +1,28 @@
 //! Lists over files: what is found is answered, and the file is made.
 
 ghost use Rattle.std.specs.Prelude.{◌≡◌, [], ℕ, List, Option, None, true, IfOk, IfErr, map as map_list, option_map, string_bytes};
-ghost use Rattle.tl_record.specs.declared.options.Options.{Options};
+ghost use Rattle.tl_record.specs.declared.layout.Layout.{Layout};
 ghost use Rattle.tl_record.specs.Layout.{layout_with};
 ghost use Rattle.tl_cert_output.specs.declared.stop.Stop.TheVariants.{Memory};
 ghost use Rattle.tl_list.specs.Findings.{IsFoundIn, SaysWhy};
 ghost use Rattle.tigertopo_files.specs.World.{Does, MayMake, world};
 ghost use Rattle.tigertopo_files.specs.declared.beginning.FileKind.TheVariants.{Collection};
-ghost use Rattle.tigertopo_files.specs.Reading.{text_under};
+ghost use Rattle.tigertopo_files.specs.Reading.{HaveLines, text_under};
 ghost use Rattle.tigertopo_program.specs.Records.{StopsNever};
-ghost use Rattle.tigertopo_program.specs.Lists.Listed.{ListAnswers, IsSoundList, IsFaultList, StopsList, StopsAgain, has_places, most_of};
+ghost use Rattle.tigertopo_program.specs.Lists.Listed.{ListAnswers, IsSoundList, IsFaultList, StopsList, has_places, most_of};
 ghost use Rattle.tigertopo_program.specs.Answers.{IsSaid};
-ghost use Rattle.tigertopo_program.specs.Lists.Listed.{is_skipping, reads_again, report_text, wanted_of};
-ghost use Rattle.tigertopo_program.specs.Lists.Keeping.{faults_answer};
+ghost use Rattle.tigertopo_program.specs.Lists.Listed.{asks_lines, is_skipping, report_text, wanted_of};
+ghost use Rattle.tigertopo_program.specs.Lists.Keeping.{AreLinesOf, AreNoted, IsFoundWith, faults_answer};
 
 use crate::answer::Answer;
 use crate::lists::collection::{make_collection, make_without_faults};
 use crate::lists::found::FindingsIn;
 use crate::lists::prepared::{ToldFaults, prepare};
 use crate::lists::refused::{is_skipping, tell_refused};
-use crate::lists::speaking::{featured, speak_of};
+use crate::lists::speaking::{featured, speak_where};
 use crate::reading::over_records;
 use crate::stop::{DONE, MAP_FAULT};
-use std::alloc::Global;
+use std::alloc::{AllocError, Global};
 use std::hash::RandomState;
 use tigertopo_faults::objects::SoundObject;
 use tigertopo_files::{FileSystem, with_printed};
@@ -32,7 +32,7 @@ use tl_check_verdict::{MapFault, Report};
 use tl_list::{Findings, Found};
 use tl_list_text::Listing;
 use tl_map_county::Map;
-use tl_record::Options;
+use tl_record::{Options, Record};
 
 /// What is asked of a list: which faults are told, the first or all or so many from the front, in which form, and the name of the file of
 /// GeoJSON that is made of them, if one is.
@@ -58,16 +58,17 @@ pub fn list<F: FileSystem>(
         let known = text_under (F.under files.old) (map_list string_bytes names.now) in
         let asked = wanted_of (map_list string_bytes names.now) wanted.entry in
         Does w asked.names asked.made (IsSaid (ListAnswers w options known asked))
-        (StopsList w options known asked) result }
+        (StopsList options known asked) result }
 {
     let skips = is_skipping(wanted.told);
-    let again = reads_again(wanted.form, wanted.made);
-    let found = find_all(files, alloc, hasher, options, names, skips, again)?;
-    tell_found(files, alloc, hasher, options, names, wanted, found)
+    let asks = asks_lines(wanted.form, wanted.made);
+    let found = find_all(files, alloc, hasher, options, names, skips, asks)?;
+    let counts = counts_where(files, alloc, names, asks)?;
+    tell_found(files, alloc, hasher, options, names, wanted, found, counts)
 }
 
 // All that is wrong with the records of the files of these names, and where refused lines are skipped, with what is left without them. Where
-// they are to be read again, what is read of those that can be read but once is kept.
+// lines are noted, the lines of each file are counted.
 fn find_all<F: FileSystem>(
     files: &mut F,
     alloc: Global,
@@ -75,27 +76,53 @@ fn find_all<F: FileSystem>(
     options: Options,
     names: &[String],
     skips: bool,
-    again: bool,
+    notes: bool,
 ) -> Result<Found, Stop>
     ensures { let known = text_under (F.under files.old) (map_list string_bytes names.now) in
         Does (world F.under F.log F.knows files.old files.new) (map_list string_bytes names.now) None
-        (IsFoundIn options skips known) StopsNever result }
+        (IsFoundWith options skips notes known) StopsNever result }
 {
-    keep_where(files, again);
-    over_records(files, alloc, hasher, names, &FindingsIn { options, skips })
+    count_where(files, notes);
+    over_records(
+        files,
+        alloc,
+        hasher,
+        names,
+        &FindingsIn {
+            options,
+            skips,
+            notes,
+        },
+    )
 }
 
-// What is read of files that can be read but once is kept, where the files are to be read again.
-fn keep_where<F: FileSystem>(files: &mut F, again: bool)
+// The lines of the files that are read next are counted, where that is asked for.
+fn count_where<F: FileSystem>(files: &mut F, asks: bool)
     ensures stays { F.under files.new ≡ F.under files.old }
     ensures logged { F.knows ≡ true → F.log files.new ≡ F.log files.old }
 {
-    if again {
-        files.keep_passing();
+    if asks {
+        files.count_lines();
     }
 }
 
-// Answers what was found in files of these names, and makes the file that is wanted.
+// How many lines each of the files of these names has, where that is asked for.
+fn counts_where<F: FileSystem>(
+    files: &F,
+    alloc: Global,
+    names: &[String],
+    asks: bool,
+) -> Result<Vec<u64>, AllocError>
+    ensures { IfOk result (λ counts. asks ≡ true → HaveLines (F.under files.now) (map_list string_bytes names.now) counts.items) }
+{
+    if asks {
+        files.line_counts(alloc, names)
+    } else {
+        Ok(Vec::new(alloc))
+    }
+}
+
+// Answers what was found in files of these names, which have so many lines each, and makes the file that is wanted.
 fn tell_found<F: FileSystem>(
     files: &mut F,
     alloc: Global,
@@ -104,25 +131,30 @@ fn tell_found<F: FileSystem>(
     names: &[String],
     wanted: Wanted<'_>,
     found: Found,
+    counts: Vec<u64>,
 ) -> Result<Answer, Stop>
     requires why { SaysWhy found.whole.map found.whole.listing }
     requires made { MayMake (F.under files.old) (option_map string_bytes wanted.made.now) (map_list string_bytes names.now) Collection }
     ensures { (known : Option (List ℕ)) → IsFoundIn options (is_skipping wanted.entry.told) known found →
         let w = world F.under F.log F.knows files.old files.new in
         let asked = wanted_of (map_list string_bytes names.now) wanted.entry in
-        Does w [] asked.made (IsSaid (ListAnswers w options known asked))
-        (StopsList w options known asked) result }
+        (asks_lines asked.form asked.made ≡ true → AreNoted (layout_with options) w.before asked.names counts.items found)
+        → Does w [] asked.made (IsSaid (ListAnswers w options known asked))
+        (StopsList options known asked) result }
 {
-    let Found { whole, left } = found;
+    let Found { whole, left, noted } = found;
     let Findings { listing, map } = whole;
     match listing {
         Listing::Sound(report) => tell_sound(files, alloc, hasher, names, wanted, report),
-        Listing::Refused(list) => {
-            tell_refused(files, alloc, hasher, options, names, wanted, list, left)
-        }
-        Listing::Faults { faults, touched } => tell_faults(
-            files, alloc, hasher, options, names, wanted, map, faults, touched,
+        Listing::Refused(list) => tell_refused(
+            files, alloc, hasher, options, names, wanted, list, left, counts, &noted,
         ),
+        Listing::Faults { faults, touched } => {
+            let records = noted.records.as_slice();
+            tell_faults(
+                files, alloc, hasher, names, wanted, map, faults, touched, counts, records,
+            )
+        }
     }
 }
 
@@ -177,33 +209,24 @@ fn tell_faults<F: FileSystem>(
     files: &mut F,
     alloc: Global,
     hasher: RandomState,
-    options: Options,
     names: &[String],
     wanted: Wanted<'_>,
     map: Option<Map>,
     faults: Vec<MapFault>,
     touched: u64,
+    counts: Vec<u64>,
+    records: &[(u64, Record)],
 ) -> Result<Answer, Stop>
     requires { MayMake (F.under files.old) (option_map string_bytes wanted.made.now) (map_list string_bytes names.now) Collection }
     ensures { let w = world F.under F.log F.knows files.old files.new in
         let asked = wanted_of (map_list string_bytes names.now) wanted.entry in
-        Does w [] asked.made (IsFaultList w (layout_with options) asked map (record { faults = faults; touched = touched }))
-        (StopsAgain w asked) result }
+        (layout : Layout) → (asks_lines asked.form asked.made ≡ true → AreLinesOf layout w.before asked.names counts.items records.now)
+        → Does w [] asked.made (IsFaultList w layout asked map (record { faults = faults; touched = touched })) StopsNever result }
 {
     let drawn = map.as_ref();
     let listed = faults.as_slice();
     let shown = featured(wanted.told, listed);
-    let spoken = speak_of(
-        files,
-        alloc,
-        hasher,
-        names,
-        options,
-        wanted,
-        &[],
-        drawn,
-        shown,
-    )?;
+    let spoken = speak_where(alloc, hasher, wanted, counts, records, drawn, shown)?;
     let told = ToldFaults {
         names,
         drawn,
@@ -228,9 +251,10 @@ fn tell_faults<F: FileSystem>(
     Ok(faults_answer(text, faults, touched, wanted.told))
 }
 
-/// Whether the files are read again for the records that faults speak of, or for refused lines.
-pub(crate) fn reads_again(form: Form, made: &Option<String>) -> bool
-    ensures { result ≡ reads_again form (option_map string_bytes made.now) }
+/// Whether lines are asked for: in this form faults have the records that they speak of, and refused lines where they stand, or a file is
+/// made of them.
+pub(crate) fn asks_lines(form: Form, made: &Option<String>) -> bool
+    ensures { result ≡ asks_lines form (option_map string_bytes made.now) }
 {
     match made {
         Some(_) => true,

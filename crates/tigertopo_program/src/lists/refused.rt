@@ -3,37 +3,34 @@
 ghost use Rattle.std.specs.Prelude.{◌≡◌, ◌<◌, ◌++◌, [], ℕ, List, Option, None, Some, true, false, IfOk, IfErr, IfSome};
 ghost use Rattle.std.specs.Prelude.{length, map as map_list, option_map, is_some, slice_get, string_bytes};
 ghost use Rattle.tl_record.specs.Layout.{layout_with};
-ghost use Rattle.tl_cert_output.specs.Stops.{StopsFor};
 ghost use Rattle.tl_cert_output.specs.declared.stop.Stop.TheVariants.{Memory};
 ghost use Rattle.tl_list.specs.Listings.{IsListingOf};
 ghost use Rattle.tl_list_text.specs.Texts.{printed};
 ghost use Rattle.tl_list_text.specs.declared.listing.Listing.TheVariants.{Refused as RefusedListing};
-ghost use Rattle.tigertopo_files.specs.Log.{LogsAgain};
-ghost use Rattle.tigertopo_faults.specs.Hint.Again.{FailsAgain};
 ghost use Rattle.tigertopo_files.specs.World.{Does, MayMake, world};
-ghost use Rattle.tigertopo_faults.specs.Hint.Found.{found_text};
+ghost use Rattle.tigertopo_faults.specs.Hint.Fronts.{fronted_text};
 ghost use Rattle.tigertopo_faults.specs.declared.hint.form.RefusedForm.TheVariants.{Features};
 ghost use Rattle.tigertopo_files.specs.declared.beginning.FileKind.TheVariants.{Collection};
 ghost use Rattle.tl_list.specs.Findings.{IsLeft};
-ghost use Rattle.tigertopo_program.specs.Lists.Listed.{ListAnswers, StopsList, has_places};
+ghost use Rattle.tigertopo_program.specs.Lists.Listed.{ListAnswers, StopsList, asks_lines, has_places};
 ghost use Rattle.tigertopo_program.specs.Answers.{IsSaid};
-ghost use Rattle.tigertopo_program.specs.Lists.Listed.{is_skipping, reads_again, refusals_last, refused_form, stops_refused, wanted_of};
-ghost use Rattle.tigertopo_program.specs.Lists.Keeping.{AnswersFound, ArePrepared, ArePreparedOf, stop_of_refusal};
+ghost use Rattle.tigertopo_program.specs.Lists.Listed.{is_skipping, refusals_last, refused_form, stops_refused, wanted_of};
+ghost use Rattle.tigertopo_program.specs.Lists.Keeping.{AnswersFronted, AreFronts, AreLinesOf, ArePreparedOf, bytes_of, stop_of_refusal};
 
 use crate::answer::Answer;
 use crate::lists::collection::make_without_faults;
 use crate::lists::listing::{Wanted, has_places, most_of};
 use crate::lists::skipping::tell_left;
-use crate::lists::speaking::{featured, speak_of};
+use crate::lists::speaking::featured;
 use crate::stop::REFUSED;
 use std::alloc::{AllocError, Global};
 use std::hash::RandomState;
-use tigertopo_faults::hint::{FoundLine, RefusedForm, RefusedLines, print_refusals};
+use tigertopo_faults::hint::{RefusedForm, RefusedLines, print_refusals};
 use tigertopo_faults::objects::print_refusals_end;
 use tigertopo_files::{FileSystem, with_printed};
 use tigertopo_words::{Form, Told};
 use tl_cert_output::{Page, Stop, Text};
-use tl_list::LeftFaults;
+use tl_list::{LeftFaults, NotedLines};
 use tl_list_text::{Listing, first_of, print_end};
 use tl_record::{Options, Refusal};
 
@@ -49,6 +46,8 @@ pub(crate) fn tell_refused<F: FileSystem>(
     wanted: Wanted<'_>,
     list: Vec<Refusal>,
     left: Option<LeftFaults>,
+    counts: Vec<u64>,
+    noted: &NotedLines,
 ) -> Result<Answer, Stop>
     requires some { 0 < length list.items }
     requires made { MayMake (F.under files.old) (option_map string_bytes wanted.made.now) (map_list string_bytes names.now) Collection }
@@ -56,15 +55,25 @@ pub(crate) fn tell_refused<F: FileSystem>(
         → IsLeft options (is_skipping wanted.entry.told) known (RefusedListing list) left →
         let w = world F.under F.log F.knows files.old files.new in
         let asked = wanted_of (map_list string_bytes names.now) wanted.entry in
-        Does w [] asked.made (IsSaid (ListAnswers w options known asked))
-        (StopsList w options known asked) result }
+        (asks_lines asked.form asked.made ≡ true → AreFronts w.before asked.names counts.items list.items (bytes_of noted.now.fronts.items)
+        × IfSome left (λ it. AreLinesOf (layout_with options) w.before asked.names counts.items noted.now.records.items))
+        → Does w [] asked.made (IsSaid (ListAnswers w options known asked))
+        (StopsList options known asked) result }
 {
     if stops_refused(wanted.told, wanted.form) {
         return Err(first_stop(list.as_slice()));
     }
     match left {
-        Some(left) => tell_left(files, alloc, hasher, options, names, wanted, list, &left),
-        None => tell_refusals(files, alloc, hasher, options, names, wanted, list),
+        Some(left) => tell_left(
+            files, alloc, hasher, options, names, wanted, list, &left, counts, noted,
+        ),
+        None => {
+            let counts = counts.as_slice();
+            let fronts = noted.fronts.as_slice();
+            tell_refusals(
+                files, alloc, hasher, options, names, wanted, list, counts, fronts,
+            )
+        }
     }
 }
 
@@ -77,16 +86,20 @@ fn tell_refusals<F: FileSystem>(
     names: &[String],
     wanted: Wanted<'_>,
     list: Vec<Refusal>,
+    counts: &[u64],
+    fronts: &[Vec<u8>],
 ) -> Result<Answer, Stop>
     requires { MayMake (F.under files.old) (option_map string_bytes wanted.made.now) (map_list string_bytes names.now) Collection }
     ensures { let w = world F.under F.log F.knows files.old files.new in
         let asked = wanted_of (map_list string_bytes names.now) wanted.entry in
-        (known : Option (List ℕ)) → stops_refused asked.told asked.form ≡ false → IfSome known (λ text. IsListingOf options text (RefusedListing list))
+        (known : Option (List ℕ)) → stops_refused asked.told asked.form ≡ false
+        → IfSome known (λ text. IsListingOf options text (RefusedListing list))
         → IsLeft options (is_skipping asked.told) known (RefusedListing list) None
+        → (asks_lines asked.form asked.made ≡ true → AreFronts w.before asked.names counts.now list.items (bytes_of fronts.now))
         → Does w [] asked.made (IsSaid (ListAnswers w options known asked))
-        (StopsList w options known asked) result }
+        (StopsList options known asked) result }
 {
-    let prepared = prepare_refused(files, alloc, hasher, options, names, wanted, list)?;
+    let prepared = refused_texts(alloc, options, names, wanted, list, counts, fronts)?;
     make_without_faults(
         files,
         alloc,
@@ -98,67 +111,39 @@ fn tell_refusals<F: FileSystem>(
     Ok(prepared.0)
 }
 
-// What is answered of lines that are refused, and the features of those that the file has, which is made of them if it is wanted.
-fn prepare_refused<F: FileSystem>(
-    files: &mut F,
-    alloc: Global,
-    hasher: RandomState,
-    options: Options,
-    names: &[String],
-    wanted: Wanted<'_>,
-    list: Vec<Refusal>,
-) -> Result<(Answer, Vec<u8>), Stop>
-    ensures prepared { IfOk result (ArePrepared (layout_with options) (F.under files.old) (wanted_of (map_list string_bytes names.now) wanted.entry) list) }
-    ensures stops { let asked = wanted_of (map_list string_bytes names.now) wanted.entry in
-        IfErr result (StopsFor ((reads_again asked.form asked.made ≡ true) × FailsAgain (world F.under F.log F.knows files.old files.new) asked.names)) }
-    ensures stays { F.under files.new ≡ F.under files.old }
-    ensures logged { F.knows ≡ true → LogsAgain (F.log files.old) (F.log files.new) result }
-{
-    let refusals = list.as_slice();
-    let spoken = speak_of(
-        files,
-        alloc,
-        hasher,
-        names,
-        options,
-        wanted,
-        refusals,
-        None,
-        &[],
-    )?;
-    let found = spoken.refused.as_slice();
-    refused_texts(alloc, options, names, wanted, list, found)
-}
-
-/// The same of lines that were found in files.
+/// What is answered of lines that are refused, in files of so many lines each, and begin with these bytes; and the features of those that
+/// the file has, which is made of them if it is wanted.
 pub(crate) fn refused_texts(
     alloc: Global,
     options: Options,
     names: &[String],
     wanted: Wanted<'_>,
     list: Vec<Refusal>,
-    found: &[FoundLine],
+    counts: &[u64],
+    fronts: &[Vec<u8>],
 ) -> Result<(Answer, Vec<u8>), Stop>
-    ensures prepared { IfOk result (ArePreparedOf (layout_with options) (wanted_of (map_list string_bytes names.now) wanted.entry) list found.now) }
+    ensures prepared { let asked = wanted_of (map_list string_bytes names.now) wanted.entry in
+        IfOk result (ArePreparedOf (layout_with options) asked list counts.now (bytes_of fronts.now)) }
     ensures stop { IfErr result (λ stop. stop ≡ Memory) }
 {
     let shown = featured(wanted.told, list.as_slice());
-    let features = features_of(alloc, options, names, wanted.made, shown, found)?;
-    let answer = tell_all_refused(alloc, options, names, wanted, list, found)?;
+    let features = features_of(alloc, options, names, wanted.made, counts, shown, fronts)?;
+    let answer = tell_all_refused(alloc, options, names, wanted, list, counts, fronts)?;
     Ok((answer, features))
 }
 
-// The features of refused lines, each with where it was found and with a comma in front, if a file is made of them.
+// The features of refused lines, each with where it stands and with a comma in front, if a file is made of them.
 fn features_of(
     alloc: Global,
     options: Options,
     names: &[String],
     made: &Option<String>,
+    counts: &[u64],
     refusals: &[Refusal],
-    found: &[FoundLine],
+    fronts: &[Vec<u8>],
 ) -> Result<Vec<u8>, Stop>
     ensures text { IfOk result (λ text. is_some (option_map string_bytes made.now) ≡ true
-        → text.items ≡ found_text Features (layout_with options) (map_list string_bytes names.now) refusals.now found.now) }
+        → text.items ≡ fronted_text Features (layout_with options) (map_list string_bytes names.now) counts.now refusals.now (bytes_of fronts.now)) }
     ensures stop { IfErr result (λ stop. stop ≡ Memory) }
 {
     if made.is_none() {
@@ -168,8 +153,9 @@ fn features_of(
         form: RefusedForm::Features,
         options,
         names,
+        counts,
         refusals,
-        found,
+        fronts,
     };
     with_printed(alloc, &[], &features)
 }
@@ -195,16 +181,18 @@ fn stops_refused(told: Told, form: Form) -> bool
     }
 }
 
-// Answers lines that are refused: all, or so many from the front, with where they were found if the form has that.
+// Answers lines that are refused: all, or so many from the front, with where they stand if the form has that.
 fn tell_all_refused(
     alloc: Global,
     options: Options,
     names: &[String],
     wanted: Wanted<'_>,
     list: Vec<Refusal>,
-    found: &[FoundLine],
+    counts: &[u64],
+    fronts: &[Vec<u8>],
 ) -> Result<Answer, Stop>
-    ensures answer { IfOk result (AnswersFound (layout_with options) (wanted_of (map_list string_bytes names.now) wanted.entry) list found.now) }
+    ensures answer { let asked = wanted_of (map_list string_bytes names.now) wanted.entry in
+        IfOk result (AnswersFronted (layout_with options) asked list counts.now (bytes_of fronts.now)) }
     ensures stop { IfErr result (λ stop. stop ≡ Memory) }
 {
     let most = most_of(wanted.told);
@@ -220,7 +208,8 @@ fn tell_all_refused(
         form: wanted.form,
         list: list.as_slice(),
         most,
-        found,
+        counts,
+        fronts,
     };
     let text = with_printed(alloc, &[], &placed)?;
     Ok(Answer::Lines {
@@ -229,7 +218,7 @@ fn tell_all_refused(
     })
 }
 
-// Lines that are refused, all or so many from the front, each with where it was found, and how many there are.
+// Lines that are refused, all or so many from the front, each with where it stands, and how many there are.
 #[derive(Clone, Copy)]
 struct PlacedList<'a> {
     options: Options,
@@ -237,14 +226,16 @@ struct PlacedList<'a> {
     form: Form,
     list: &'a [Refusal],
     most: Option<u64>,
-    found: &'a [FoundLine],
+    counts: &'a [u64],
+    fronts: &'a [Vec<u8>],
 }
 
 impl Text for PlacedList<'_> {
     ghost use Rattle.std.specs.Prelude.{⊤};
 
     ghost text = { λ told. let shown = printed told.most told.list.now in
-        found_text (refused_form told.form) (layout_with told.options) (map_list string_bytes told.names.now) shown told.found.now
+        fronted_text (refused_form told.form) (layout_with told.options) (map_list string_bytes told.names.now) told.counts.now shown
+        (bytes_of told.fronts.now)
         ++ refusals_last told.form told.most (length told.list.now) (length shown) };
 
     ghost is_ready = { λ told. ⊤ };
@@ -255,8 +246,9 @@ impl Text for PlacedList<'_> {
             refused_form(self.form),
             self.options,
             self.names,
+            self.counts,
             shown,
-            self.found,
+            self.fronts,
             page,
         );
         print_last(

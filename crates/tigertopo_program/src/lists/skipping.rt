@@ -1,18 +1,17 @@
 //! Refused lines that are skipped, as they are answered with the faults of the records that are left, and the file of both.
 
 ghost use Rattle.std.specs.Prelude.{◌≡◌, ◌++◌, [], true, ℕ, List, Option, Some, IfOk, IfErr, IfSome};
-ghost use Rattle.std.specs.Prelude.{map as map_list, option_copied, option_map, string_bytes};
+ghost use Rattle.std.specs.Prelude.{map as map_list, option_map, string_bytes};
 ghost use Rattle.tl_record.specs.Layout.{layout_with};
-ghost use Rattle.tl_cert_output.specs.Stops.{StopsFor};
+ghost use Rattle.tl_cert_output.specs.declared.stop.Stop.TheVariants.{Memory};
 ghost use Rattle.tl_list.specs.Listings.{IsListingOf};
 ghost use Rattle.tl_list_text.specs.declared.listing.Listing.TheVariants.{Refused as RefusedLines};
-ghost use Rattle.tigertopo_files.specs.Log.{LogsAgain};
+ghost use Rattle.tigertopo_files.specs.Files.{Under};
 ghost use Rattle.tigertopo_files.specs.World.{Does, MayMake, world};
 ghost use Rattle.tigertopo_files.specs.declared.beginning.FileKind.TheVariants.{Collection};
-ghost use Rattle.tigertopo_faults.specs.Hint.Again.{FailsAgain};
 ghost use Rattle.tl_list.specs.Findings.{IsLeft};
-ghost use Rattle.tigertopo_program.specs.Lists.Listed.{ListAnswers, StopsList, is_skipping, reads_again, skipped_text, wanted_of};
-ghost use Rattle.tigertopo_program.specs.Lists.Keeping.{IsLeftPrepared};
+ghost use Rattle.tigertopo_program.specs.Lists.Listed.{ListAnswers, StopsList, asks_lines, is_skipping, skipped_text, wanted_of};
+ghost use Rattle.tigertopo_program.specs.Lists.Keeping.{AreFronts, AreLinesOf, IsLeftPrepared, bytes_of};
 ghost use Rattle.tigertopo_program.specs.Answers.{IsSaid};
 ghost use Rattle.tigertopo_program.specs.Texts.{answer_text};
 
@@ -22,7 +21,7 @@ use crate::lists::collection::make_collection;
 use crate::lists::listing::Wanted;
 use crate::lists::prepared::ToldFaults;
 use crate::lists::refused::refused_texts;
-use crate::lists::speaking::{featured, speak_of};
+use crate::lists::speaking::{featured, speak_where};
 use crate::stop::REFUSED;
 use std::alloc::{AllocError, Global};
 use std::hash::RandomState;
@@ -31,7 +30,7 @@ use tigertopo_faults::objects::print_skipped_end;
 use tigertopo_files::{FileSystem, with_printed};
 use tigertopo_words::Form;
 use tl_cert_output::{Page, Stop, Text};
-use tl_list::LeftFaults;
+use tl_list::{LeftFaults, NotedLines};
 use tl_record::{Options, Refusal};
 
 /// Answers lines that are refused, behind them the faults of what is left, and how many lines were skipped, and makes the file that is
@@ -45,16 +44,22 @@ pub(crate) fn tell_left<F: FileSystem>(
     wanted: Wanted<'_>,
     list: Vec<Refusal>,
     left: &LeftFaults,
+    counts: Vec<u64>,
+    noted: &NotedLines,
 ) -> Result<Answer, Stop>
     requires { MayMake (F.under files.old) (option_map string_bytes wanted.made.now) (map_list string_bytes names.now) Collection }
     ensures { let w = world F.under F.log F.knows files.old files.new in
         let asked = wanted_of (map_list string_bytes names.now) wanted.entry in
         (known : Option (List ℕ)) → IfSome known (λ text. IsListingOf options text (RefusedLines list))
         → IsLeft options (is_skipping asked.told) known (RefusedLines list) (Some left.now)
+        → (asks_lines asked.form asked.made ≡ true → AreFronts w.before asked.names counts.items list.items (bytes_of noted.now.fronts.items)
+        × AreLinesOf (layout_with options) w.before asked.names counts.items noted.now.records.items)
         → Does w [] asked.made (IsSaid (ListAnswers w options known asked))
-        (StopsList w options known asked) result }
+        (StopsList options known asked) result }
 {
-    let texts = prepare_left(files, alloc, hasher, options, names, wanted, list, left)?;
+    let texts = prepare_left(
+        alloc, hasher, options, names, wanted, list, left, counts, noted,
+    )?;
     let drawn = left.map.as_ref();
     let faults = left.faults.as_slice();
     let shown = featured(wanted.told, faults);
@@ -86,8 +91,7 @@ pub(crate) struct LeftTexts {
 }
 
 // These texts.
-fn prepare_left<F: FileSystem>(
-    files: &mut F,
+fn prepare_left(
     alloc: Global,
     hasher: RandomState,
     options: Options,
@@ -95,21 +99,21 @@ fn prepare_left<F: FileSystem>(
     wanted: Wanted<'_>,
     list: Vec<Refusal>,
     left: &LeftFaults,
+    counts: Vec<u64>,
+    noted: &NotedLines,
 ) -> Result<LeftTexts, Stop>
-    ensures prepared { IfOk result (IsLeftPrepared (layout_with options) (F.under files.old)
-        (wanted_of (map_list string_bytes names.now) wanted.entry) list.items left.now) }
-    ensures stops { let asked = wanted_of (map_list string_bytes names.now) wanted.entry in
-        IfErr result (StopsFor ((reads_again asked.form asked.made ≡ true) × FailsAgain (world F.under F.log F.knows files.old files.new) asked.names)) }
-    ensures stays { F.under files.new ≡ F.under files.old }
-    ensures logged { F.knows ≡ true → LogsAgain (F.log files.old) (F.log files.new) result }
+    ensures prepared { let asked = wanted_of (map_list string_bytes names.now) wanted.entry in
+        IfOk result (λ texts. (under : Under) → (asks_lines asked.form asked.made ≡ true →
+        AreFronts under asked.names counts.items list.items (bytes_of noted.now.fronts.items)
+        × AreLinesOf (layout_with options) under asked.names counts.items noted.now.records.items)
+        → IsLeftPrepared (layout_with options) under asked list.items left.now texts) }
+    ensures stop { IfErr result (λ stop. stop ≡ Memory) }
 {
     let drawn = left.map.as_ref();
     let faults = left.faults.as_slice();
     let shown = featured(wanted.told, faults);
-    let refusals = list.as_slice();
-    let spoken = speak_of(
-        files, alloc, hasher, names, options, wanted, refusals, drawn, shown,
-    )?;
+    let records = noted.records.as_slice();
+    let spoken = speak_where(alloc, hasher, wanted, counts, records, drawn, shown)?;
     let told = ToldFaults {
         names,
         drawn,
@@ -120,9 +124,11 @@ fn prepare_left<F: FileSystem>(
         touched: left.touched,
     };
     let behind = with_printed(alloc, &[], &told)?;
+    let refusals = list.as_slice();
     let count = refusals.len() as u64;
-    let found = spoken.refused.as_slice();
-    let refused = refused_texts(alloc, options, names, wanted, list, found)?;
+    let counts = spoken.counts.as_slice();
+    let fronts = noted.fronts.as_slice();
+    let refused = refused_texts(alloc, options, names, wanted, list, counts, fronts)?;
     let whole = LeftText {
         refused: &refused.0,
         behind: behind.as_slice(),

@@ -1,70 +1,40 @@
-//! Where faults lie and the records that they speak of, and where refused lines stand, where these are asked for.
+//! Where faults lie and the records that they speak of, where these are asked for.
 
-ghost use Rattle.std.specs.Prelude.{◌≡◌, true, IfOk, IfErr, map, option_copied, option_map, string_bytes};
-ghost use Rattle.tl_record.specs.Layout.{layout_with};
-ghost use Rattle.tl_cert_output.specs.Stops.{StopsFor};
-ghost use Rattle.tigertopo_files.specs.Log.{LogsAgain};
-ghost use Rattle.tigertopo_files.specs.World.{world};
-ghost use Rattle.tigertopo_faults.specs.Hint.Again.{FailsAgain};
-ghost use Rattle.tl_record.specs.Left.{numbers_of};
-ghost use Rattle.tigertopo_faults.specs.Hint.Found.{AreFound};
-ghost use Rattle.tigertopo_faults.specs.Lines.Again.{AreSpoken};
-ghost use Rattle.tigertopo_program.specs.Lists.Listed.{featured, reads_again, wanted_of};
-ghost use Rattle.tigertopo_program.specs.Lists.Keeping.{sought_lines};
+ghost use Rattle.std.specs.Prelude.{◌≡◌, [], true, IfOk, IfErr, option_copied};
+ghost use Rattle.tl_cert_output.specs.declared.stop.Stop.TheVariants.{Memory};
+ghost use Rattle.tigertopo_faults.specs.Lines.Speaking.{Speaks};
+ghost use Rattle.tigertopo_program.specs.Lists.Listed.{asks_lines, featured, wanted_of};
 
-use crate::lists::listing::{Wanted, most_of, reads_again};
+use crate::lists::listing::{Wanted, asks_lines};
 use std::alloc::Global;
 use std::hash::RandomState;
-use tigertopo_faults::lines::{Spoken, read_again};
-use tigertopo_files::FileSystem;
+use tigertopo_faults::lines::{Spoken, speak_of};
 use tigertopo_words::Told;
 use tl_cert_output::Stop;
 use tl_check_verdict::MapFault;
-use tl_list_text::first_of;
 use tl_map_county::Map;
-use tl_record::{Options, Refusal};
+use tl_record::Record;
 
-/// Where faults lie, and the records that they speak of, from files that are read again without these refused lines, and where of these lines
-/// those stand that are told, if that is asked for. A device fails only there.
-pub(crate) fn speak_of<F: FileSystem>(
-    files: &mut F,
+/// Where faults lie, and the records that they speak of, of these records with their lines, in files of so many lines each, if that is
+/// asked for.
+pub(crate) fn speak_where(
     alloc: Global,
     hasher: RandomState,
-    names: &[String],
-    options: Options,
     wanted: Wanted<'_>,
-    refusals: &[Refusal],
+    counts: Vec<u64>,
+    records: &[(u64, Record)],
     drawn: Option<&Map>,
     faults: &[MapFault],
 ) -> Result<Spoken, Stop>
-    ensures spoken { let asked = wanted_of (map string_bytes names.now) wanted.entry in
-        IfOk result (λ spoken. reads_again asked.form asked.made ≡ true → AreSpoken (layout_with options) (numbers_of refusals.now)
-        (F.under files.old) asked.names (option_copied drawn.entry) faults.now spoken) }
-    ensures refused { let asked = wanted_of (map string_bytes names.now) wanted.entry in
-        IfOk result (λ spoken. reads_again asked.form asked.made ≡ true
-        → AreFound (F.under files.old) asked.names (sought_lines asked.told asked.made refusals.now) spoken.refused.items) }
-    ensures stops { let asked = wanted_of (map string_bytes names.now) wanted.entry in
-        IfErr result (StopsFor ((reads_again asked.form asked.made ≡ true)
-        × FailsAgain (world F.under F.log F.knows files.old files.new) asked.names)) }
-    ensures stays { F.under files.new ≡ F.under files.old }
-    ensures logged { F.knows ≡ true → LogsAgain (F.log files.old) (F.log files.new) result }
+    ensures spoken { let asked = wanted_of [] wanted.entry in
+        IfOk result (λ spoken. asks_lines asked.form asked.made ≡ true
+        → Speaks counts.items records.now (option_copied drawn.entry) faults.now spoken) }
+    ensures stop { IfErr result (λ stop. stop ≡ Memory) }
 {
-    if !reads_again(wanted.form, wanted.made) {
-        return Ok(Spoken::nothing(alloc, hasher)?);
-    }
-    let sought = sought_lines(wanted.told, wanted.made, refusals);
-    read_again(
-        files, alloc, hasher, names, options, refusals, sought, drawn, faults,
-    )
-}
-
-// The refused lines of which it is told where they stand: those that stand in the file that is made, and else those that are printed.
-fn sought_lines<'a>(told: Told, made: &Option<String>, refusals: &'a [Refusal]) -> &'a [Refusal]
-    ensures { result.now ≡ sought_lines told (option_map string_bytes made.now) refusals.now }
-{
-    match made {
-        Some(_) => featured(told, refusals),
-        None => first_of(refusals, most_of(told)),
+    if asks_lines(wanted.form, wanted.made) {
+        Ok(speak_of(alloc, hasher, counts, records, drawn, faults)?)
+    } else {
+        Ok(Spoken::nothing(alloc, hasher)?)
     }
 }
 

@@ -1,5 +1,5 @@
 -- What is kept of the records that a reader gives, and what is still to come.
-use Rattle.std.specs.Prelude.{◌≡◌, ◌≢◌, ℕ, Bool, true, false, List, [], ◌∷◌, ◌++◌, map, Option, Some, None, IfSome}
+use Rattle.std.specs.Prelude.{◌≡◌, ◌≢◌, ℕ, Bool, true, false, List, [], ◌∷◌, ◌++◌, map, Option, Some, None, IfSome, ⊤, if◌then◌else◌}
 use Rattle.tl_record.specs.declared.record.Record.{Record}
 use Rattle.tl_record.specs.declared.stop.Cause.{Cause}
 use Rattle.tl_record.specs.declared.refusal.Refusal.{Refusal}
@@ -7,11 +7,12 @@ use Rattle.tl_record.specs.declared.reader.RecordReader.{RecordReader}
 use Rattle.std.specs.Option.{option_map}
 use Rattle.tl_record.specs.Records.{Records, joined_where}
 use Rattle.tl_map_join.specs.Told.{HasTold, joined_records}
-use Rattle.tl_record.specs.Reader.{lines_of, judged_of, skipped_of, standing_of, refusals_to_come}
-use Rattle.tl_record.specs.Leaving.{left_to_come, is_passable, PassesRefused}
+use Rattle.tl_record.specs.Reader.{skipped_of, refusals_to_come}
+use Rattle.tl_record.specs.Leaving.{left_to_come}
 use Rattle.tl_record.specs.Searching.{pair_of}
 use Rattle.tl_list_records.specs.Refusals.Listing.{BeginsWith, ListsAll}
 use Rattle.tl_list.specs.Findings.{HasBeyond}
+use Rattle.tl_list.specs.Keeping.Noting.{NotesSoFar}
 use Rattle.tl_map_rules.specs.Reading.{records_in}
 use Rattle.tl_list_records.specs.Kept.{KeepsRecords}
 use Rattle.tl_map.specs.Collecting.{HasCollected}
@@ -94,7 +95,19 @@ pub record ListsFrom (front : List Refusal) (first : Refusal) (refusals : Option
   pub all : IfSome refusals (λ rs. (behind : List (ℕ × Cause)) → rs ≡ pair_of first ∷ behind → ListsAll (map pair_of front ++ rs) refused)
   pub begins : BeginsWith (front ++ first ∷ []) refused
 
--- the refused line at which a reader stopped is passed over, if lines are skipped
-abbrev pub MayPassOver : {R : Type 0} → (skips : Bool) → (R → Option (List ℕ)) → (old new : RecordReader R) → (passed : Bool) → Type 0
-MayPassOver skips remaining old new true = (skips ≡ true) × PassesRefused remaining old new
-MayPassOver skips remaining old new false = (new ≡ old) × (skips ≡ true → is_passable (standing_of old) (lines_of old) (judged_of old) ≡ false)
+-- one more record is taken, where records are still taken
+abbrev pub TakesOne : Option Taken → Option Taken → Record → Type 0
+TakesOne (Some old) (Some new) r = (joins : Bool) (rs : List Record) → Takes joins rs old → Takes joins (rs ++ r ∷ []) new
+TakesOne (Some old) None r = ⊥
+TakesOne None (Some new) r = ⊥
+TakesOne None None r = ⊤
+
+-- what was taken, where refused lines are skipped
+abbrev pub taken_if : Bool → Option Taken → Option Taken
+taken_if skips taken = if skips then taken else None
+
+-- what was taken and noted so far; behind a refused line that isn't skipped nothing is taken any more
+abbrev pub MaySoFar : (joins skips notes : Bool) → (at_first now : Option Records) → List Refusal → List (ℕ × Record) → Option Taken → Type 0
+MaySoFar joins skips notes at_first now refused entries (Some taken) =
+    TakesSoFar joins at_first now taken × NotesSoFar notes at_first now entries × (skips ≡ false → refused ≡ [])
+MaySoFar joins skips notes at_first now refused entries None = (skips ≡ false) × (refused ≢ [])

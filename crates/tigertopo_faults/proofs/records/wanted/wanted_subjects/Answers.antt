@@ -1,7 +1,7 @@
 use Rattle.std.proofs.lemmas.Result.{err_from_is_err_and}
 use Rattle.std.specs.Prelude.{option_copied}
 use Rattle.tigertopo_faults.specs.Records.SpokenOf.{chains_of}
-use Rattle.tigertopo_faults.proofs.ReadingLemmas.{has_more, has_all}
+use Rattle.tigertopo_faults.proofs.WantedLemmas.{has_more, has_all}
 use Rattle.tigertopo_faults.proofs.records.wanted.wanted_subjects.Goals as goal
 
 pub loop-fault-preserved : goal.loop-fault-preserved

@@ -1,12 +1,11 @@
 use Rattle.std.proofs.Common.{[], ℕ, List, map, option_map, refl, string_bytes, subst}
-use Rattle.tl_cert_output.specs.declared.stop.Stop.TheVariants.{Memory}
 use Rattle.tigertopo_files.specs.World.{Does, Made, world}
 use Rattle.tigertopo_program.specs.Records.{StopsNever}
 use Rattle.tigertopo_program.proofs.ListLemmas.{does_not, no_faults}
 use Rattle.tigertopo_program.proofs.lists.collection.make_without_faults.Goals as goal
 
 pub returns-in_err-nothing : goal.returns-in_err-nothing
-returns-in_err-nothing g c = does_not _ refl (λ known. refl) _ _ StopsNever ⊥ Memory tt (λ never. absurd never) c.from_residual.result c.from_residual.ensures.1
+returns-in_err-nothing g c = does_not _ refl (λ known. refl) _ _ StopsNever _ refl c.from_residual.result c.from_residual.ensures.1
 
 pub returns : goal.returns
 returns g c =

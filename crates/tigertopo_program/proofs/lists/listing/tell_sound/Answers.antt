@@ -1,13 +1,11 @@
-use Rattle.std.proofs.Common.{[], option_map, string_bytes, refl, sym, subst}
-use Rattle.tl_cert_output.specs.Stops.{StopsFor}
+use Rattle.std.proofs.Common.{[], option_map, string_bytes, refl}
 use Rattle.tigertopo_files.proofs.WorldLemmas.{does_fail, does_answer}
 use Rattle.tigertopo_program.specs.Records.{StopsNever}
 use Rattle.tigertopo_program.proofs.ListLemmas.{does_not}
 use Rattle.tigertopo_program.proofs.lists.listing.tell_sound.Goals as goal
 
 pub returns-in_err-answer : goal.returns-in_err-answer
-returns-in_err-answer g c =
-    does_not _ refl (λ known. refl) _ _ StopsNever ⊥ c.in_err-answer.field-0.0 (subst (StopsFor ⊥) (sym c.in_err-answer.ensures.stop) tt) (λ never. absurd never) c.from_residual.result c.from_residual.ensures.1
+returns-in_err-answer g c = does_not _ refl (λ known. refl) _ _ StopsNever _ c.in_err-answer.ensures.stop c.from_residual.result c.from_residual.ensures.1
 
 pub returns-in_err-make_without_faults : goal.returns-in_err-make_without_faults
 returns-in_err-make_without_faults g c =

@@ -1,5 +1,6 @@
 use Rattle.std.proofs.Common.{map, string_bytes, sym, ◌∙◌}
 use Rattle.tl_record.specs.Layout.{layout_with}
+use Rattle.tigertopo_program.specs.Lists.Keeping.{bytes_of}
 use Rattle.tigertopo_program.specs.Lists.Listed.{most_of, wanted_of}
 use Rattle.tigertopo_program.proofs.ListLemmas.{plain_refused, placed_refused}
 use Rattle.tigertopo_program.proofs.lists.refused.tell_all_refused.Goals as goal
@@ -12,5 +13,5 @@ returns-then-not-has_places-clause-answer c = λ under are.
 pub returns-clause-answer : goal.returns-clause-answer
 returns-clause-answer c =
     let asked = wanted_of (map string_bytes c.args.names.now) c.args.wanted in
-    placed_refused (layout_with c.args.options) asked c.args.list c.args.found.now c.in_ok-text.text (sym c.has_places.ensures ∙ c.if-not-has_places.false)
+    placed_refused (layout_with c.args.options) asked c.args.list c.args.counts.now (bytes_of c.args.fronts.now) c.in_ok-text.text (sym c.has_places.ensures ∙ c.if-not-has_places.false)
     (rw (← c.most_of-most.ensures, ← c.as_slice.ensures.value) c.in_ok-text.ensures.bytes)

@@ -2,6 +2,7 @@ use Rattle.std.proofs.Common.{◌≡◌, ◌≢◌, ◌+◌, [], refl, ap, ◌�
 use Rattle.tl_record.specs.Judgement.{judgement}
 use Rattle.tl_record.specs.Meaning.{judgement_with}
 use Rattle.tl_record.proofs.NextLemmas.{finds_last}
+use Rattle.tl_record.proofs.FrontLemmas.{front_last, if_refused}
 use Rattle.tl_record.proofs.reader.RecordReader.judge_last.Goals as goal
 
 pub returns-clause-steps : goal.returns-clause-steps
@@ -16,6 +17,7 @@ returns-clause-steps g c =
       finds = finds_last reader.layout (reader.lines + 1) (g.R.Source.remaining reader.source) bytes (judgement_with c.judge_pending.result c.judge_pending.new.place) some c.requires.ended c.requires.none is;
       judges = (bytes, is);
       pending = tt;
+      front = if_refused (judgement_with c.judge_pending.result c.judge_pending.new.place) _ (front_last (g.R.Source.remaining reader.source) bytes c.requires.ended);
       failures = refl;
       progress = record { layout = refl; lines = refl; skipped = refl; standing = refl };
     }

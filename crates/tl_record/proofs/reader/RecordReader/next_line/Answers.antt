@@ -1,6 +1,7 @@
 use Rattle.std.proofs.Common.{◌+◌, refl, sym, take, drop, arith}
 use Rattle.tl_record.specs.Meaning.{judgement_with}
 use Rattle.tl_record.proofs.NextLemmas.{finds_line, finds_full, left_refused, left_accepted, longer, longer_is}
+use Rattle.tl_record.proofs.FrontLemmas.{accepted_front, front_fed, front_full, if_refused}
 use Rattle.tl_record.proofs.reader.RecordReader.next_line.Goals as goal
 
 pub overflow_add-len : goal.overflow_add-len
@@ -19,6 +20,7 @@ returns-in-Refused-clause-steps g c =
           c.in-Whole.ensures.bytes shows.0 shows.1 shows.2 judged (left_refused meaning c.in-Refused.field-0 place (drop (c.in-Whole.len + 1) bytes) bytes c.in-Refused.is);
       judges = (take c.in-Whole.len bytes, judged);
       pending = tt;
+      front = if_refused (judgement_with meaning place) _ (front_fed (g.R.Source.remaining c.fetch_line.new.source) bytes c.in-Whole.len shows.0 shows.1 shows.2);
       failures = c.in-Whole.ensures.failures;
       progress = record { layout = refl; lines = refl; skipped = refl; standing = refl };
     }
@@ -43,6 +45,7 @@ returns-in_default g c =
             c.in-Whole.ensures.bytes shows.0 shows.1 shows.2 judged (left_accepted meaning place (drop (c.in-Whole.len + 1) bytes) bytes c.consume.new.self c.in_default.not-Refused c.consume.ensures);
         judges = (take c.in-Whole.len bytes, judged);
         pending = tt;
+        front = accepted_front meaning place _ c.in_default.not-Refused;
         failures = c.in-Whole.ensures.failures;
         progress = record { layout = refl; lines = refl; skipped = refl; standing = refl };
       };
@@ -60,6 +63,7 @@ returns-in-Full-clause-steps g c =
           c.in-Full.ensures.bytes shows.0 (omega (arith, shows.1)) (λ line long. cause line (omega (arith, long, shows.1)));
       judges = (longer 1024, sym (cause (longer 1024) (longer_is 1024)));
       pending = tt;
+      front = front_full (g.R.Source.remaining c.fetch_line.new.source) c.fetch_line.new.buffer (omega (arith, shows.1));
       failures = c.in-Full.ensures.failures;
       progress = record { layout = refl; lines = refl; skipped = refl; standing = refl };
     }

@@ -57,7 +57,7 @@ returns-in-End-clause-moves g c =
     answers_end g.R.Source.remaining g.R.Source.failure_count c.args.self.now c.lines.self c.next_line.new.self _ c.lines.invariant.passes c.in-End.ensures.steps refl refl refl refl
 
 pub returns-in-End-clause-leaves : goal.returns-in-End-clause-leaves
-returns-in-End-clause-leaves g c = leaves_end g.R.Source.remaining g.R.Source.failure_count c.args.self.now c.lines.self c.next_line.new.self _ c.lines.invariant.left c.in-End.ensures.steps refl refl
+returns-in-End-clause-leaves g c = leaves_end g.R.Source.remaining g.R.Source.failure_count c.args.self.now c.lines.self c.next_line.new.self _ c.lines.invariant.left c.in-End.ensures.steps refl refl refl
 
 pub returns-in-Failed-clause-leaves : goal.returns-in-Failed-clause-leaves
 returns-in-Failed-clause-leaves g c = leaves_failed g.R.Source.remaining g.R.Source.failure_count c.args.self.now c.lines.self c.next_line.new.self _ c.lines.invariant.left c.in-Failed.ensures.steps refl

@@ -1,6 +1,7 @@
 use Rattle.std.proofs.Common.{◌∷◌, [], length, ap, arith, length-append}
 use Rattle.std.proofs.lemmas.Result.{err_from_is_err_and}
-use Rattle.tigertopo_faults.proofs.ReadingLemmas.{empty_more, numbered, holds_none}
+use Rattle.tigertopo_faults.proofs.KeptLemmas.{empty_more, holds_none}
+use Rattle.tigertopo_faults.proofs.WantedLemmas.{numbered}
 use Rattle.tigertopo_faults.proofs.records.kept.KeptLines.new.Goals as goal
 
 pub returns-clause-wanted : goal.returns-clause-wanted

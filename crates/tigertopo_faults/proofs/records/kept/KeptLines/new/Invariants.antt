@@ -1,5 +1,5 @@
 use Rattle.std.proofs.Common.{◌≡◌, length}
-use Rattle.tigertopo_faults.proofs.ReadingLemmas.{AreEmpty}
+use Rattle.tigertopo_faults.proofs.KeptLemmas.{AreEmpty}
 use Rattle.tigertopo_faults.proofs.records.kept.KeptLines.new.Given as goal
 
 abbrev pub invariant-loop : goal.invariant-loop

@@ -1,5 +1,5 @@
 use Rattle.std.proofs.lemmas.Result.{err_from_is_err_and}
-use Rattle.tigertopo_faults.proofs.ReadingLemmas.{noted_more}
+use Rattle.tigertopo_faults.proofs.KeptLemmas.{noted_more}
 use Rattle.tigertopo_faults.proofs.HintLemmas.HintLemmas.{same_got}
 use Rattle.tigertopo_faults.proofs.records.kept.KeptLines.note_all.Goals as goal
 

@@ -1,5 +1,5 @@
 use Rattle.std.proofs.lemmas.Result.{err_from_is_err_and}
-use Rattle.tigertopo_faults.proofs.ReadingLemmas.{then_none}
+use Rattle.tigertopo_faults.proofs.LinesLemmas.SpeakingLemmas.{then_none}
 use Rattle.tigertopo_faults.proofs.records.lines.RecordLines.none.Goals as goal
 
 pub returns : goal.returns
