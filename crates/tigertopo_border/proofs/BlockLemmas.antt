@@ -1,19 +1,15 @@
 -- The records of one chain of a border.
-use Rattle.std.proofs.Common.{◌≡◌, ◌≢◌, ℕ, zero, suc, ◌+◌, ◌-◌, ◌*◌, ◌/◌, ◌<◌, ◌≤◌, ◌==◌, ◌&&◌, ◌||◌, Bool, true, false, cond, eqb, inl, inr, ◌⊎◌, List, [], ◌∷◌, ◌++◌, length, map, get_or, Option, Some, None, Contains, count_by, sum_by, refl, sym, ap, ◌∙◌, arith, add-one, ne_eqb}
-use Rattle.std.specs.List.{flat_map, filter_map}
-use Rattle.std.specs.Option.{option_map_or}
-use Rattle.std.proofs.lemmas.Bool.{eq-eqb, eqb-true, cases_Bool, cases_lt}
+use Rattle.std.proofs.Common.{◌≡◌, ◌≢◌, ℕ, zero, suc, ◌+◌, ◌-◌, ◌*◌, ◌<◌, ◌≤◌, ◌==◌, Bool, true, false, cond, inl, inr, List, [], ◌∷◌, ◌++◌, Option, None, Contains, count_by, refl, ap, ◌∙◌, arith, ne_eqb}
+use Rattle.std.proofs.lemmas.Bool.{eq-eqb, cases_lt}
 use Rattle.std.proofs.lemmas.List.Sums.{sum_by-append, sum_by-cons}
 use Rattle.std.proofs.lemmas.List.{length-append}
 use Rattle.std.proofs.lemmas.List.Elements.{Contains-append_left, Contains-append_right}
 use Rattle.tl_geom.specs.declared.point.Point.{Point}
 use Rattle.tl_record.specs.declared.record.Record.{Record}
-use Rattle.tl_record.specs.declared.record.Record.TheVariants.{Chain, Shape, Sides, PolyPoint, Landmark, AreaLink}
-use Rattle.tl_map_county.specs.declared.polygons.Polygon.{Polygon}
-use Rattle.tl_map_county.specs.declared.sides.Side.{Side}
+use Rattle.tl_record.specs.declared.record.Record.TheVariants.{Chain, Shape, Sides}
 use Rattle.tl_map_county.specs.TheMap.{MapChain}
 use Rattle.tl_map_rules.specs.ChainsOf.{is_chain, is_any_chain, is_shape, is_shape_at}
-use Rattle.tigertopo_border.specs.Border.{border_key, side_key, start_of, end_of, inner, pairs_from, shapes_below, shape_count, chain_records, polygon_records}
+use Rattle.tigertopo_border.specs.Border.{side_key, start_of, end_of, inner, pairs_from, shapes_below, shape_count, chain_records}
 
 -- the records of a chain of the border
 abbrev pub block : List ℕ → MapChain → List Record

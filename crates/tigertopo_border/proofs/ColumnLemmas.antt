@@ -1,6 +1,6 @@
 -- What is read of a line fits its columns.
-use Rattle.std.proofs.Common.{◌≡◌, ◌≢◌, ℕ, ℤ, zero, suc, ◌+◌, ◌-◌, ◌^◌, ◌<◌, ◌≤◌, ◌==◌, ◌&&◌, Bool, true, false, cond, inl, inr, List, [], ◌∷◌, ◌++◌, length, map, take, drop, get_or, replicate, Option, Some, None, Result, Ok, Err, Contains, refl, sym, ap, subst, ◌∙◌, arith, length-append}
-use Rattle.std.specs.List.{list_all, filter_map, take_while, enumerate_from, AllByRecursion}
+use Rattle.std.proofs.Common.{◌≡◌, ℕ, ℤ, ◌+◌, ◌-◌, ◌^◌, ◌<◌, ◌≤◌, ◌==◌, ◌&&◌, cond, inl, inr, List, [], ◌∷◌, ◌++◌, length, map, drop, replicate, Option, Some, None, Result, Ok, Err, refl, sym, ap, subst, arith, length-append}
+use Rattle.std.specs.List.{list_all, filter_map, enumerate_from, AllByRecursion}
 use Rattle.std.specs.Char.{is_ascii_digit}
 use Rattle.std.specs.Prelude.{unsigned_abs, nat_le, nat_lt, not, ⊤}
 use Rattle.std.proofs.lemmas.Bool.{cases_Bool}
@@ -9,7 +9,6 @@ use Rattle.std.proofs.lemmas.List.{length-take, length-replicate}
 use Rattle.std.proofs.lemmas.List.Sums.{take_while-cons}
 use Rattle.std.proofs.lemmas.Str.Parse.{digits_value_short}
 use Rattle.tl_geom.specs.declared.point.Point.{Point}
-use Rattle.tl_record.specs.declared.layout.Layout.{Layout}
 use Rattle.tl_record.specs.declared.layout.PointColumns.{PointColumns}
 use Rattle.tl_record.specs.declared.layout.LandmarksColumns.{LandmarksColumns}
 use Rattle.tl_record.specs.declared.layout.LandmarkColumns.{LandmarkColumns}
@@ -29,10 +28,10 @@ use Rattle.tl_record.specs.Layout.{layout_with, tiger_2006_chain, tiger_2006_sha
 use Rattle.tl_record.specs.Limits.{most_lines, most_line_bytes, greatest_longitude, greatest_latitude}
 use Rattle.tl_record.specs.Range.{Range, columns}
 use Rattle.tl_record.specs.Lines.{raw_lines, content}
-use Rattle.tl_record.specs.Fields.{blank, is_blank, width_of, field, without_leading_blanks, without_trailing_blanks, trimmed, digits_spell, unsigned_spells, number_spelt, coordinate_spelt, decimal as value_of}
+use Rattle.tl_record.specs.Fields.{blank, is_blank, width_of, field, without_leading_blanks, without_trailing_blanks, trimmed, unsigned_spells, number_spelt, coordinate_spelt, decimal as value_of}
 use Rattle.tl_record.specs.Outcome.{◌>>=◌}
-use Rattle.tl_record.specs.Judgement.{required, in_range, coordinate, point, point_at, optional_point, optional_point_at, is_blank_field, unless_zero, shape_pairs, cells_at, side_at, key_at, number_at, sequence_number, chain_record, shape_record, sides_record, poly_point_record, landmark_record, area_link_record, judged, landmarks_judgement, content_judgement, judgement}
-use Rattle.tl_record.specs.Records.{Records, lines_read, records_judged, judgements, accepted, is_refused, entry_of}
+use Rattle.tl_record.specs.Judgement.{required, coordinate, point, point_at, optional_point, optional_point_at, is_blank_field, unless_zero, shape_pairs, cells_at, side_at, key_at, number_at, sequence_number, chain_record, shape_record, sides_record, poly_point_record, landmark_record, area_link_record, judged, landmarks_judgement, content_judgement, judgement}
+use Rattle.tl_record.specs.Records.{lines_read, judgements, accepted, is_refused, entry_of}
 use Rattle.tigertopo_border.specs.Spellable.{IsPlaced, IsPair, ArePairs}
 use Rattle.tigertopo_border.proofs.FieldLemmas.{own}
 

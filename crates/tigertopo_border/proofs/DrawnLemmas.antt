@@ -1,11 +1,8 @@
 -- The map that the records of a border draw.
-use Rattle.std.proofs.Common.{◌≡◌, ℕ, zero, suc, ◌+◌, ◌-◌, ◌<◌, ◌≤◌, ◌⊎◌, ◌||◌, Bool, true, false, inl, inr, List, [], ◌∷◌, ◌++◌, length, take, map, get_or, slice_get, Option, Some, None, Contains, All, sum_by, refl, sym, ap, subst, ◌∙◌, arith, append_assoc, append-nil}
-use Rattle.std.specs.List.{flat_map, AllByRecursion}
-use Rattle.std.proofs.lemmas.List.{length-map, get_or-map}
+use Rattle.std.proofs.Common.{◌≡◌, ℕ, zero, suc, ◌-◌, ◌<◌, Bool, true, false, inl, inr, List, [], ◌∷◌, ◌++◌, length, take, map, get_or, slice_get, Some, None, Contains, sum_by, refl, sym, ap, subst, ◌∙◌, arith, append_assoc}
+use Rattle.std.specs.List.{AllByRecursion}
 use Rattle.std.proofs.lemmas.List.Sums.{sum_by-cons}
 use Rattle.tl_geom.specs.declared.point.Point.{Point}
-use Rattle.tl_record_key.specs.declared.key.PolyKey.{PolyKey}
-use Rattle.tl_record.specs.declared.record.Record.{Record}
 use Rattle.tl_record.specs.declared.record.Record.TheVariants.{Chain}
 use Rattle.tl_map_county.specs.declared.polygons.Polygon.{Polygon}
 use Rattle.tl_map_county.specs.declared.sides.Side.{Side}
@@ -13,18 +10,17 @@ use Rattle.tl_map_county.specs.declared.sides.Side.TheVariants.{Outside, Polygon
 use Rattle.tl_map_county.specs.Chains.{CompleteChain, tlids, segment_count}
 use Rattle.tl_map_county.specs.Sides.{IsSideAmong}
 use Rattle.tl_map_county.specs.TheMap.{TheMap, MapChain}
-use Rattle.tl_map_rules.specs.declared.entry.SidesEntry.{SidesEntry}
-use Rattle.tl_map_rules.specs.ChainsOf.{pairs_of, points_between, segments_of, IsDrawn, AreChainsOf}
+use Rattle.tl_map_rules.specs.ChainsOf.{IsDrawn, AreChainsOf}
 use Rattle.tl_map_rules.specs.declared.entry.LandmarkEntry.{LandmarkEntry}
-use Rattle.tl_map_rules.specs.MapOf.{sides_in, polygons_in, landmarks_in, keys, side_of, without_sides, landmark_of, firsts, IsSided, IsMapOf}
+use Rattle.tl_map_rules.specs.MapOf.{keys, side_of, without_sides, landmark_of, firsts, IsSided, IsMapOf}
 use Rattle.tl_map_rules.proofs.KeyLemmas.{same_key-refl}
 use Rattle.tl_check_parts.specs.Told.{AreTold}
 use Rattle.tl_check_parts.specs.Borders.{as_one, has_blank, IsBorderOf, IsPointWithin}
 use Rattle.tigertopo_border.specs.Border.{border_key, side_key, start_of, end_of}
 use Rattle.tigertopo_border.specs.Readable.{IsTellable}
-use Rattle.tigertopo_border.proofs.WholeLemmas.{Rise, IsFound, all_of, chain_contained, sides_contained, sides_entry}
-use Rattle.tigertopo_border.proofs.FaultLemmas.{found_here, each_at, entry_of, sides_are, first_polygon, polygons_are, landmarks_are}
-use Rattle.tigertopo_border.proofs.FaultlessLemmas.{found_of, is_tellable, points_drawn, segments_are}
+use Rattle.tigertopo_border.proofs.WholeLemmas.{Rise, all_of, chain_contained, sides_contained, sides_entry}
+use Rattle.tigertopo_border.proofs.FaultLemmas.{found_here, each_at, entry_of, first_polygon, polygons_are, landmarks_are}
+use Rattle.tigertopo_border.proofs.FaultlessLemmas.{found_of, points_drawn, segments_are}
 use Rattle.tigertopo_border.proofs.FilterLemmas.{told, rising_again}
 
 -- a chain of the border's map

@@ -1,31 +1,30 @@
 -- The records of a border have no fault.
-use Rattle.std.proofs.Common.{◌≡◌, ◌≢◌, ℕ, zero, suc, ◌+◌, ◌-◌, ◌*◌, ◌/◌, ◌<◌, ◌≤◌, ◌==◌, Bool, true, false, cond, inl, inr, ◌⊎◌, List, [], ◌∷◌, ◌++◌, length, map, get_or, slice_get, Option, Some, None, Contains, Any, count_by, sum_by, refl, sym, ap, subst, ◌∙◌, arith, append_assoc}
-use Rattle.std.specs.List.{flat_map, filter_map, AllByRecursion}
+use Rattle.std.proofs.Common.{◌≡◌, ℕ, zero, suc, ◌+◌, ◌-◌, ◌*◌, ◌<◌, ◌≤◌, ◌==◌, true, false, inl, inr, List, [], ◌∷◌, ◌++◌, length, map, get_or, slice_get, Option, Some, None, Contains, Any, count_by, sum_by, refl, sym, ap, subst, ◌∙◌, arith, append_assoc}
+use Rattle.std.specs.List.{flat_map, AllByRecursion}
 use Rattle.std.proofs.lemmas.Bool.{eq-eqb}
-use Rattle.std.proofs.lemmas.List.{length-map, get_or-map}
+use Rattle.std.proofs.lemmas.List.{length-map}
 use Rattle.std.proofs.lemmas.List.Sums.{sum_by-append, sum_by-cons}
 use Rattle.std.proofs.lemmas.Option.{slice_get_within}
 use Rattle.tl_geom.specs.declared.point.Point.{Point}
 use Rattle.tl_record_key.specs.declared.key.PolyKey.{PolyKey}
 use Rattle.tl_record.specs.declared.record.Record.{Record}
-use Rattle.tl_record.specs.declared.record.Record.TheVariants.{Chain, Shape, Sides, PolyPoint}
+use Rattle.tl_record.specs.declared.record.Record.TheVariants.{Chain, Shape, Sides}
 use Rattle.tl_map_county.specs.declared.polygons.Polygon.{Polygon}
 use Rattle.tl_map_county.specs.Limits.{most_chains, most_segments}
 use Rattle.tl_map_county.specs.TheMap.{MapChain}
 use Rattle.tl_map_rules.specs.declared.entry.SidesEntry.{SidesEntry}
 use Rattle.tl_map_rules.specs.declared.entry.LandmarkEntry.{LandmarkEntry}
 use Rattle.tl_map_rules.specs.declared.fault.Limited.TheVariants.{Chains, Segments, Polygons, Landmarks}
-use Rattle.tl_map_rules.specs.declared.fault.RecordFault.{RecordFault}
 use Rattle.tl_map_rules.specs.declared.fault.RecordFault.TheVariants.{DuplicateChain, ShapeWithoutChain, ShapeSequence, ShapeGap, ChainWithoutSides, SidesWithoutChain, DuplicateSides, DuplicatePolygon, SideWithoutPolygon, LinkWithoutLandmark, LinkWithoutPolygon, DegenerateChain, TooMany}
-use Rattle.tl_map_rules.specs.ChainsOf.{is_chain, is_any_chain, is_shape_at, pairs_up_to, pairs_of, has_gap, points_between, segments_by, segments_of, chain_count}
+use Rattle.tl_map_rules.specs.ChainsOf.{is_chain, is_any_chain, pairs_up_to, pairs_of, has_gap, points_between, segments_by, segments_of, chain_count}
 use Rattle.tl_map_rules.specs.ChainsOf.{shape_count as count_of_shapes}
-use Rattle.tl_map_rules.specs.MapOf.{sides_in, polygons_in, landmarks_in, links_in, keys, firsts}
-use Rattle.tl_map_rules.specs.Faults.{IsTrueOf, HaveNoFault, HasChain, HasSides, HasPolygon, Names, IsNumbered, StandsTwice}
+use Rattle.tl_map_rules.specs.MapOf.{sides_in, polygons_in, landmarks_in, keys, firsts}
+use Rattle.tl_map_rules.specs.Faults.{HaveNoFault, HasChain, HasSides, HasPolygon, Names, IsNumbered, StandsTwice}
 use Rattle.tigertopo_border.specs.Border.{border_key, side_key, start_of, end_of, inner, pairs_from, shapes_below, shape_count, chain_records, polygon_records}
 use Rattle.tigertopo_border.specs.Readable.{IsTellable}
 use Rattle.tigertopo_border.proofs.PairLemmas.{no_gap, drawn_again}
-use Rattle.tigertopo_border.proofs.BlockLemmas.{block, is_sides, count_both, own_any}
-use Rattle.tigertopo_border.proofs.WholeLemmas.{Rise, NoneHas, IsFound, find, all_of, without, absent_chain, absent_shapes, absent_sides, present_chain, present_sides, present_shapes, present_numbered, chain_contained, sides_contained, pairs_are, counted, one_alone, sides_entry, sides_counted}
+use Rattle.tigertopo_border.proofs.BlockLemmas.{block, count_both, own_any}
+use Rattle.tigertopo_border.proofs.WholeLemmas.{Rise, IsFound, find, all_of, without, absent_chain, absent_shapes, absent_sides, present_chain, present_sides, present_shapes, present_numbered, chain_contained, sides_contained, pairs_are, counted, one_alone, sides_entry, sides_counted}
 use Rattle.tigertopo_border.proofs.FaultLemmas.{found_here, each_at, entry_of, sides_are, first_polygon, polygons_are, landmarks_are, links_are, one_polygon, number_counted, number_there, named_alone, polygon_there}
 
 -- the segments of a list of records

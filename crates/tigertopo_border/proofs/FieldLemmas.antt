@@ -1,18 +1,17 @@
 -- What is spelt in a field is read there.
-use Rattle.std.proofs.Common.{◌≡◌, ℕ, ℤ, pos, negsuc, ◌-ℤ◌, zero, suc, ◌+◌, ◌-◌, ◌*◌, ◌^◌, ◌<◌, ◌≤◌, ◌&&◌, Bool, true, false, List, [], ◌∷◌, ◌++◌, length, take, drop, replicate, refl, sym, ap, ◌∙◌, arith, rules, decimal, length-append, append_assoc}
+use Rattle.std.proofs.Common.{◌≡◌, ℕ, ℤ, pos, negsuc, ◌-ℤ◌, zero, suc, ◌+◌, ◌-◌, ◌^◌, ◌<◌, ◌&&◌, Bool, true, false, List, [], ◌∷◌, ◌++◌, length, take, drop, replicate, refl, ap, ◌∙◌, arith, rules, decimal, length-append, append_assoc}
 use Rattle.std.proofs.lemmas.Int.{ints}
 use Rattle.std.specs.List.{list_all}
 use Rattle.std.specs.Char.{is_ascii_digit}
-use Rattle.std.specs.Prelude.{unsigned_abs, nat_le}
+use Rattle.std.specs.Prelude.{unsigned_abs}
 use Rattle.std.proofs.lemmas.List.{length-replicate}
 use Rattle.std.proofs.lemmas.List.Folds.{list_all-append}
 use Rattle.std.proofs.lemmas.Bool.Decides.{nat_tests}
 use Rattle.std.proofs.lemmas.Str.Parse.{IsNumeralModel, numerals_by_weight}
 use Rattle.std.proofs.lemmas.Fmt.{digits_decimal, digits_value-decimal, decimal_nonempty, length-decimal-le}
 use Rattle.tl_record.specs.Range.{Range}
-use Rattle.tl_record.specs.Fields.{blank, is_blank, width_of, field, without_leading_blanks, without_trailing_blanks, trimmed, digits_spell, unsigned_spells, signed_spells, number_spelt, coordinate_spelt, decimal as value_of}
-use Rattle.tl_record.specs.declared.number.Spelt.{Spelt}
-use Rattle.tl_record.specs.declared.number.Spelt.TheVariants.{Blank, Value, Unreadable}
+use Rattle.tl_record.specs.Fields.{blank, is_blank, width_of, field, without_leading_blanks, without_trailing_blanks, trimmed, digits_spell, unsigned_spells, number_spelt, coordinate_spelt, decimal as value_of}
+use Rattle.tl_record.specs.declared.number.Spelt.TheVariants.{Value}
 use Rattle.tigertopo_border.specs.Spelling.{filled, blanks, number_field, coordinate_field}
 
 both_parts : (a b : Bool) → (a && b) ≡ true → (a ≡ true) × (b ≡ true)

@@ -1,16 +1,14 @@
 -- The chains of a border, of all chains of a map.
-use Rattle.std.proofs.Common.{◌≡◌, ◌≢◌, ℕ, zero, suc, ◌+◌, ◌-◌, ◌<◌, ◌≤◌, Bool, true, false, inl, inr, ◌⊎◌, List, [], ◌∷◌, ◌++◌, length, map, filter, get_or, sum_by, count_by, cond, refl, sym, ap, ◌∙◌, arith}
+use Rattle.std.proofs.Common.{◌≡◌, ℕ, zero, suc, ◌+◌, ◌-◌, ◌<◌, ◌≤◌, Bool, true, false, List, [], ◌∷◌, ◌++◌, length, map, filter, get_or, sum_by, refl, ap, arith}
 use Rattle.std.specs.List.{flat_map, AllByRecursion}
 use Rattle.std.specs.List.Sorted.{IsStrictlyIncreasing}
-use Rattle.std.proofs.lemmas.List.{length-map}
 use Rattle.std.proofs.lemmas.List.Sums.{sum_by-cons}
-use Rattle.tl_record.specs.declared.record.Record.{Record}
 use Rattle.tl_map_county.specs.Chains.{tlids}
 use Rattle.tl_map_county.specs.TheMap.{MapChain}
 use Rattle.tl_map_rules.specs.MapOf.{without_sides}
 use Rattle.tl_map_rules.proofs.KnownLemmas.{far}
 use Rattle.tl_check_parts.specs.Borders.{has_blank}
-use Rattle.tigertopo_border.specs.Border.{records_of_chain, segments_of}
+use Rattle.tigertopo_border.specs.Border.{records_of_chain}
 use Rattle.tigertopo_border.proofs.BlockLemmas.{block}
 use Rattle.tigertopo_border.proofs.WholeLemmas.{AreLater, Rise}
 

@@ -1,26 +1,24 @@
 -- The text of a border is read again.
-use Rattle.std.proofs.Common.{◌≡◌, ℕ, zero, suc, ◌+◌, ◌-◌, ◌*◌, ◌/◌, ◌^◌, ◌<◌, ◌≤◌, inl, inr, List, [], ◌∷◌, ◌++◌, length, map, slice_get, Option, Some, None, sum_by, refl, sym, ap, subst, ◌∙◌, arith, length-append}
+use Rattle.std.proofs.Common.{◌≡◌, ℕ, zero, suc, ◌+◌, ◌-◌, ◌*◌, ◌^◌, ◌<◌, ◌≤◌, List, [], ◌∷◌, ◌++◌, length, slice_get, Option, Some, None, sum_by, refl, sym, ap, subst, ◌∙◌, arith, length-append}
 use Rattle.std.specs.List.{flat_map, AllByRecursion}
 use Rattle.std.proofs.lemmas.List.Sums.{sum_by-cons}
 use Rattle.tl_geom.specs.declared.point.Point.{Point}
-use Rattle.tl_record_key.specs.declared.key.PolyKey.{PolyKey}
 use Rattle.tl_record.specs.declared.record.Record.{Record}
-use Rattle.tl_record.specs.declared.record.Record.TheVariants.{Chain, Shape, Sides, PolyPoint}
+use Rattle.tl_record.specs.declared.record.Record.TheVariants.{Chain, Shape, Sides}
 use Rattle.tl_record.specs.Layout.{tiger_2006}
-use Rattle.tl_record.specs.Records.{Records, records_of}
+use Rattle.tl_record.specs.Records.{records_of}
 use Rattle.tl_map_county.specs.declared.polygons.Polygon.{Polygon}
 use Rattle.tl_map_county.specs.declared.sides.Side.{Side}
 use Rattle.tl_map_county.specs.declared.sides.Side.TheVariants.{Outside, Polygon as InPolygon}
-use Rattle.tl_map_county.specs.Limits.{most_chains, most_segments}
 use Rattle.tl_map_county.specs.TheMap.{TheMap, MapChain}
 use Rattle.tl_map_rules.specs.Faults.{HaveNoFault}
 use Rattle.tl_map_rules.specs.MapOf.{IsMapOf}
 use Rattle.tl_map_rules.specs.Reading.{IsReadFrom, records_in}
 use Rattle.tl_map_rules.proofs.OneMapLemmas.{one_map}
 use Rattle.tl_check_parts.specs.Told.{AreTold}
-use Rattle.tl_check_parts.specs.Borders.{as_one, has_blank, IsBorderOf, IsPointWithin}
+use Rattle.tl_check_parts.specs.Borders.{as_one, has_blank, IsBorderOf}
 use Rattle.tigertopo_border.specs.Spelling.{records_text}
-use Rattle.tigertopo_border.specs.Spellable.{IsPlaced, IsPair, ArePairs, IsName, IsKey, IsSideKey, IsSpellable}
+use Rattle.tigertopo_border.specs.Spellable.{IsPlaced, IsPair, ArePairs, IsName, IsKey, IsSideKey}
 use Rattle.tigertopo_border.specs.Border.{border_key, side_key, start_of, end_of, inner, pairs_from, shapes_below, shape_count, chain_records, polygon_records, border_records, border_text}
 use Rattle.tigertopo_border.specs.Readable.{IsTellable, IsReadable}
 use Rattle.tigertopo_border.specs.Again.{IsReadAgain}

@@ -1,43 +1,17 @@
 -- The map that records draw can be told in records.
-use Rattle.std.proofs.Common.{◌≡◌, ◌≢◌, ℕ, zero, suc, ◌+◌, ◌-◌, ◌*◌, ◌^◌, ◌<◌, ◌≤◌, ◌==◌, ◌&&◌, ◌⊎◌, Bool, true, false, cond, eqb, inl, inr, List, [], ◌∷◌, ◌++◌, length, map, take, drop, get_or, Option, Some, None, Contains, All, count_by, sum_by, refl, sym, ap, subst, ◌∙◌, arith, length-append}
-use Rattle.std.specs.List.{filter_map, AllByRecursion, dedup, dedup_from}
-use Rattle.std.specs.Prelude.{⊤}
-use Rattle.std.proofs.lemmas.Bool.{eq-eqb, eqb-true, cases_Bool, cases_lt}
-use Rattle.std.proofs.lemmas.List.{length-map, get_or-map, get_or_default}
-use Rattle.std.proofs.lemmas.List.Sums.{sum_by-cons}
+use Rattle.std.proofs.Common.{◌≡◌, ℕ, zero, suc, ◌+◌, ◌-◌, ◌*◌, ◌<◌, ◌≤◌, ◌==◌, ◌&&◌, Bool, true, false, cond, inl, inr, List, [], ◌∷◌, ◌++◌, length, take, get_or, Option, Some, None, Contains, count_by, refl, sym, ap, subst, ◌∙◌, arith, length-append}
+use Rattle.std.specs.List.{AllByRecursion, dedup}
+use Rattle.std.proofs.lemmas.Bool.{eqb-true, cases_Bool}
 use Rattle.tl_geom.specs.declared.point.Point.{Point}
 use Rattle.tl_geom.proofs.Conditions.{same_point as one_point}
-use Rattle.tl_record_key.specs.declared.key.PolyKey.{PolyKey}
 use Rattle.tl_record.specs.declared.record.Record.{Record}
 use Rattle.tl_record.specs.declared.record.Record.TheVariants.{Chain, Shape, Sides, PolyPoint, Landmark, AreaLink}
-use Rattle.tl_record.specs.declared.options.Options.{Options}
-use Rattle.tl_record.specs.Layout.{layout_with}
-use Rattle.tl_record.specs.Records.{records_of}
-use Rattle.tl_map_county.specs.declared.polygons.Polygon.{Polygon}
-use Rattle.tl_map_county.specs.declared.sides.Side.{Side}
-use Rattle.tl_map_county.specs.declared.sides.Side.TheVariants.{Outside, Polygon as InPolygon}
-use Rattle.tl_map_county.specs.Chains.{CompleteChain, IsProper, tlids, segment_count}
-use Rattle.tl_map_county.specs.Limits.{most_chains, most_segments}
-use Rattle.tl_map_county.specs.Sides.{IsSideAmong}
-use Rattle.tl_map_county.specs.TheMap.{TheMap, MapChain}
-use Rattle.tl_map_rules.specs.declared.entry.SidesEntry.{SidesEntry}
-use Rattle.tl_map_rules.specs.declared.fault.Limited.TheVariants.{Chains, Segments}
-use Rattle.tl_map_rules.specs.declared.fault.RecordFault.TheVariants.{DuplicateChain, ShapeWithoutChain, ShapeSequence, ShapeGap, SideWithoutPolygon, DegenerateChain, TooMany}
-use Rattle.tl_map_rules.specs.ChainsOf.{is_chain, is_any_chain, is_shape_at, pairs_at, pairs_up_to, pairs_of, used, same_point, points_between, segments_of, chain_count, IsDrawn}
-use Rattle.tl_map_rules.specs.ChainsOf.{shape_count as count_of_shapes}
-use Rattle.tl_map_rules.specs.MapOf.{sides_in, polygons_in, polygon_at, keys, same_key, place_of, side_of, without_sides, IsSided, IsMapOf}
-use Rattle.tl_map_rules.specs.Faults.{HaveNoFault, IsNumbered, HasPolygon, Names, AreJoined}
-use Rattle.tl_map_rules.specs.Reading.{IsReadFrom, records_in}
+use Rattle.tl_map_rules.specs.ChainsOf.{is_shape_at, pairs_at, pairs_up_to, used, same_point}
 use Rattle.tl_map_rules.specs.Keeping.Pairs.{dedup_after}
-use Rattle.tl_map_rules.proofs.PairLemmas.{used-append, dedup_from-is}
-use Rattle.tl_map_rules.proofs.KeyLemmas.{same_key-refl}
-use Rattle.tl_map_rules.proofs.CountLemmas.{one_counted}
-use Rattle.tl_map.proofs.ProperLemmas.{proper_dedup}
+use Rattle.tl_map_rules.proofs.PairLemmas.{dedup_from-is}
 use Rattle.tigertopo_border.specs.Border.{inner, start_of, end_of, origin}
-use Rattle.tigertopo_border.specs.Spellable.{IsPlaced, IsPair, ArePairs}
-use Rattle.tigertopo_border.specs.Readable.{IsTellable, IsReadable}
+use Rattle.tigertopo_border.specs.Spellable.{IsPair, ArePairs}
 use Rattle.tigertopo_border.proofs.ColumnLemmas.{Fits}
-use Rattle.tigertopo_border.proofs.JoinedLemmas.{records_fit}
 use Rattle.tigertopo_border.proofs.BlockLemmas.{count_cons}
 
 -- ---- what holds of each record

@@ -1,13 +1,13 @@
 -- The shape pairs of a chain have its inner points, and with its ends these are its points.
-use Rattle.std.proofs.Common.{◌≡◌, ◌≢◌, ℕ, zero, suc, ◌+◌, ◌-◌, ◌*◌, ◌/◌, ◌<◌, ◌≤◌, ◌&&◌, ◌||◌, Bool, true, false, cond, inl, inr, List, [], ◌∷◌, ◌++◌, length, take, drop, get_or, slice_get, Option, Some, None, refl, sym, ap, ◌∙◌, arith, add-one, append_assoc, append-nil, take_all}
-use Rattle.std.specs.List.{dedup, dedup_from}
-use Rattle.std.proofs.lemmas.Bool.{cases_Bool, cases_lt}
+use Rattle.std.proofs.Common.{◌≡◌, ◌≢◌, ℕ, zero, suc, ◌+◌, ◌-◌, ◌<◌, ◌≤◌, ◌&&◌, ◌||◌, Bool, true, false, inl, inr, List, [], ◌∷◌, ◌++◌, length, take, drop, get_or, slice_get, Option, refl, sym, ap, ◌∙◌, arith, add-one, append_assoc, append-nil, take_all}
+use Rattle.std.specs.List.{dedup}
+use Rattle.std.proofs.lemmas.Bool.{cases_Bool}
 use Rattle.std.proofs.lemmas.List.{take_more, length-take, length-drop}
-use Rattle.std.proofs.lemmas.Option.{slice_get-get_or, slice_get_past, slice_get_cases}
+use Rattle.std.proofs.lemmas.Option.{slice_get_cases}
 use Rattle.tl_geom.specs.declared.point.Point.{Point}
 use Rattle.tl_geom.proofs.Conditions.{same_point as one_point}
 use Rattle.tl_map_county.specs.Chains.{IsProper}
-use Rattle.tl_map_rules.specs.ChainsOf.{used, some_used, has_gap, same_point, points_between}
+use Rattle.tl_map_rules.specs.ChainsOf.{used, has_gap, same_point, points_between}
 use Rattle.tl_map_rules.specs.Keeping.Pairs.{some_unused, dedup_after}
 use Rattle.tl_map_rules.proofs.PairLemmas.{used-append, some_unused-append, has_gap-append, dedup_from-is}
 use Rattle.tigertopo_border.specs.Border.{inner, start_of, end_of, pairs_from, origin}

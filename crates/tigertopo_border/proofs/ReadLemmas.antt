@@ -1,6 +1,6 @@
 -- Points, keys and pairs of a line are read as they are spelt.
-use Rattle.std.proofs.Common.{◌≡◌, ◌*◌, ℕ, zero, suc, ◌+◌, ◌-◌, ◌^◌, ◌<◌, ◌≤◌, Bool, true, false, List, [], ◌∷◌, ◌++◌, length, Option, Some, None, Result, Ok, Err, refl, sym, ap, ◌∙◌, arith, length-append, append_assoc, append-nil}
-use Rattle.std.specs.List.{list_all, flat_map}
+use Rattle.std.proofs.Common.{◌≡◌, ◌*◌, ℕ, ◌+◌, ◌-◌, ◌^◌, ◌<◌, ◌≤◌, true, List, [], ◌∷◌, ◌++◌, length, Option, Some, None, Ok, refl, sym, ap, ◌∙◌, arith, length-append, append_assoc}
+use Rattle.std.specs.List.{flat_map}
 use Rattle.std.specs.Prelude.{unsigned_abs, nat_le, nat_lt, ⊤}
 use Rattle.std.proofs.lemmas.Bool.Decides.{nat_tests}
 use Rattle.std.proofs.lemmas.Fmt.{decimal_digit}
@@ -8,16 +8,14 @@ use Rattle.tl_geom.specs.declared.point.Point.{Point}
 use Rattle.tl_record_key.specs.declared.key.PolyKey.{PolyKey}
 use Rattle.tl_record.specs.declared.layout.PointColumns.{PointColumns}
 use Rattle.tl_record.specs.declared.layout.KeyColumns.{KeyColumns}
-use Rattle.tl_record.specs.declared.number.Spelt.TheVariants.{Blank, Value, Unreadable}
-use Rattle.tl_record.specs.declared.stop.Cause.{Cause}
+use Rattle.tl_record.specs.declared.number.Spelt.TheVariants.{Blank, Value}
 use Rattle.tl_record.specs.declared.stop.Field.{Field}
 use Rattle.tl_record.specs.declared.stop.Field.TheVariants as field_name
-use Rattle.tl_record.specs.Range.{Range}
 use Rattle.tl_record.specs.Limits.{greatest_longitude, greatest_latitude}
-use Rattle.tl_record.specs.Fields.{field, width_of, is_cenid_byte, number_spelt, coordinate_spelt}
-use Rattle.tl_record.specs.Judgement.{required, number_at, point_at, optional_point_at, unless_zero, shape_pairs, cenid_at, key_at, side_at, is_blank_field}
+use Rattle.tl_record.specs.Fields.{field, width_of, number_spelt, coordinate_spelt}
+use Rattle.tl_record.specs.Judgement.{point_at, optional_point_at, unless_zero, shape_pairs, key_at, side_at}
 use Rattle.tigertopo_border.specs.Spelling.{blanks, number_field, coordinate_field, point_fields, pair_fields, key_fields, side_fields}
-use Rattle.tigertopo_border.specs.Spellable.{IsPlaced, IsPair, ArePairs, IsName, IsKey, IsSideKey}
+use Rattle.tigertopo_border.specs.Spellable.{IsPlaced, IsPair, ArePairs, IsKey, IsSideKey}
 use Rattle.tigertopo_border.specs.Border.{origin}
 use Rattle.tigertopo_border.proofs.FieldLemmas.{number_read, coordinate_read, length_filled, length_blanks, length_coordinate, field_at}
 

@@ -1,6 +1,6 @@
 -- The records of all chains of a border, told by TLID.
-use Rattle.std.proofs.Common.{◌≡◌, ◌≢◌, ℕ, zero, suc, ◌+◌, ◌-◌, ◌*◌, ◌<◌, ◌≤◌, ◌==◌, Bool, true, false, cond, eqb, inl, inr, ◌⊎◌, List, [], ◌∷◌, ◌++◌, length, get_or, Option, Some, None, Contains, count_by, refl, sym, ap, subst, ◌∙◌, arith, append_assoc}
-use Rattle.std.specs.List.{flat_map, filter_map}
+use Rattle.std.proofs.Common.{◌≡◌, ◌≢◌, ℕ, zero, suc, ◌+◌, ◌-◌, ◌*◌, ◌<◌, ◌≤◌, ◌==◌, Bool, true, false, cond, inl, inr, ◌⊎◌, List, [], ◌∷◌, ◌++◌, length, get_or, Option, None, Contains, count_by, refl, sym, ap, subst, ◌∙◌, arith}
+use Rattle.std.specs.List.{flat_map}
 use Rattle.std.specs.Prelude.{⊤}
 use Rattle.std.proofs.lemmas.Bool.{eq-eqb, eqb-true, cases_Bool, cases_lt}
 use Rattle.std.proofs.lemmas.List.{get_or_default}
@@ -14,11 +14,11 @@ use Rattle.tl_record.specs.declared.record.Record.TheVariants.{Chain, Shape, Sid
 use Rattle.tl_map_county.specs.declared.polygons.Polygon.{Polygon}
 use Rattle.tl_map_county.specs.TheMap.{MapChain}
 use Rattle.tl_map_rules.specs.declared.entry.SidesEntry.{SidesEntry}
-use Rattle.tl_map_rules.specs.ChainsOf.{is_chain, is_shape, is_shape_at, pairs_up_to, pairs_of, shape_count as count_of_shapes}
-use Rattle.tl_map_rules.specs.MapOf.{sides_in, polygons_in, landmarks_in, links_in}
+use Rattle.tl_map_rules.specs.ChainsOf.{is_chain, is_shape, is_shape_at, pairs_up_to, pairs_of}
+use Rattle.tl_map_rules.specs.MapOf.{sides_in}
 use Rattle.tl_map_rules.proofs.CountLemmas.{one_counted}
 use Rattle.tl_map_rules.proofs.PairLemmas.{pairs_at_is}
-use Rattle.tigertopo_border.specs.Border.{border_key, side_key, start_of, end_of, inner, pairs_from, shapes_below, shape_count, chain_records, polygon_records}
+use Rattle.tigertopo_border.specs.Border.{border_key, side_key, start_of, end_of, inner, pairs_from, shape_count, polygon_records}
 use Rattle.tigertopo_border.proofs.PairLemmas.{pairs_both}
 use Rattle.tigertopo_border.proofs.BlockLemmas.{block, is_sides, count_cons, count_both, own_chain, own_sides, own_shapes, own_numbered, has_chain, has_sides, has_shape, other_chain, other_sides, other_shapes, other_numbered}
 

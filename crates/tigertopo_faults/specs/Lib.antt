@@ -5,3 +5,4 @@ pub mod Records
 pub mod Lines
 pub mod Geojson
 pub mod Objects
+pub mod Told

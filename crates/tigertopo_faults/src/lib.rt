@@ -2,7 +2,8 @@
 //!
 //! [`places`] gives the file and the line of a line of all files as one text, and [`hint`] says what helps where one is refused.
 //! [`records`] finds the records that faults speak of. [`lines`] says of faults where they lie and which records they are about, and gives
-//! both as lines; [`geojson`] gives them as GeoJSON, with the chains that they name, and [`objects`] as objects of JSON.
+//! both as lines; [`geojson`] gives them as GeoJSON, with the chains that they name, and [`objects`] as objects of JSON. [`told`] is the text of
+//! faults in each form.
 #![tactic(auto)]
 
 pub mod geojson;
@@ -13,3 +14,4 @@ pub mod objects;
 pub mod places;
 pub mod records;
 mod shown;
+pub mod told;

@@ -1,8 +1,7 @@
 //! Where a line lies: in which of the files that are read as one text, in which of its lines, in which of its columns, and at which place
 //! of the map.
 //!
-//! [`place_of`] gives the file and the line of a line of all files as one text, [`show_line`] and [`pass_line`] read
-//! what that takes, and [`columns_of`] says which columns a field has.
+//! [`place_of`] gives the file and the line of a line of all files as one text, and [`columns_of`] says which columns a field has.
 
 mod columns;
 mod degrees;
@@ -13,6 +12,5 @@ mod place;
 pub use columns::columns_of;
 pub use degrees::{is_in_reach, print_degrees, print_location};
 pub use field_columns::FieldColumns;
-pub(crate) use lines::find_ahead;
-pub use lines::{BLOCK, Found, pass_line, show_line};
+pub(crate) use lines::{BLOCK, Found, find_ahead, pass_line, show_line};
 pub use place::{TextLine, place_of};

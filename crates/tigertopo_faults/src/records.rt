@@ -18,5 +18,6 @@ pub(crate) use kept::KeptLines;
 pub use line::{Part, RecordLine, SegmentEnds};
 pub use lines::RecordLines;
 pub use segment::segment_within;
+pub(crate) use subject::subjects_about;
 pub use subject::{Subject, Subjects, subjects_of, tlid_of};
 pub use wanted::wanted_subjects;

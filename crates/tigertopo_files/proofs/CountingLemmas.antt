@@ -1,16 +1,13 @@
 -- How many lines a text has.
-use Rattle.std.proofs.Common.{◌≡◌, ℕ, ◌+◌, ◌-◌, ◌^◌, min, Bool, true, false, ◌==◌, List, [], ◌∷◌, ◌++◌, length, cond, if◌then◌else◌, zero-add, refl, sym, ap, ◌∙◌, arith, inl, inr}
+use Rattle.std.proofs.Common.{◌≡◌, ℕ, ◌+◌, ◌-◌, ◌^◌, ◌≤◌, min, Bool, true, false, ◌==◌, List, [], ◌∷◌, ◌++◌, length, cond, zero-add, refl, sym, ap, ◌∙◌, arith, inl, inr}
 use Rattle.std.proofs.lemmas.Bool.{cases_Bool}
+use Rattle.std.proofs.lemmas.List.Sums.{count_by-le-length}
 use Rattle.tl_record.specs.Lines.{line_feed, line_feeds, raw_lines, with_first_byte, first_line, after_first_line}
 use Rattle.tl_record.proofs.LineLemmas.{feeds-append, other_counts, raw_lines-first}
-use Rattle.tigertopo_files.specs.Counting.{counted}
+use Rattle.tigertopo_files.specs.Counting.{open_lines, lines_with, IsNew}
 use Rattle.tigertopo_files.specs.Joining.{leaves_open}
 use Rattle.tigertopo_files.specs.declared.counting.LineCount.{LineCount}
 use Rattle.tigertopo_files.proofs.JoiningLemmas.{leaves_open-append}
-
--- one line more where it is open
-abbrev pub open_lines : Bool → ℕ
-open_lines is_open = if is_open then 1 else 0
 
 feed_counts : (byte : ℕ) (text : List ℕ) → byte == line_feed ≡ true → line_feeds (byte ∷ text) ≡ 1 + line_feeds text
 feed_counts byte text is =
@@ -49,21 +46,27 @@ lines_counted (byte ∷ text) =
           lines ∙ other_lines byte text rest ∙ same_sum (other_counts byte text is) opens
     ]
 
--- bytes behind a text that was counted
-pub counted_with : (text bytes : List ℕ) (count : LineCount) (feeds : ℕ) (is_open : Bool) → count ≡ counted text
-    → feeds ≡ min (count.line_feeds + line_feeds bytes) (2 ^ 64 - 1) → is_open ≡ leaves_open count.is_open bytes
-    → record { line_feeds = feeds; is_open = is_open } ≡ counted (text ++ bytes)
-counted_with text bytes count feeds is_open is more opens =
-    let all = feeds-append text bytes in
-    let before : count.line_feeds ≡ min (line_feeds text) (2 ^ 64 - 1) = ap (λ (c : LineCount). c.line_feeds) is in
-    let same : feeds ≡ min (line_feeds (text ++ bytes)) (2 ^ 64 - 1) = omega (arith, all, before, more) in
-    let last : is_open ≡ leaves_open false (text ++ bytes) =
-    opens ∙ ap (λ (c : LineCount). leaves_open c.is_open bytes) is ∙ sym (leaves_open-append false text bytes) in
-    rw (same, last) refl
+-- the count of no byte
+pub new_count : IsNew (record { line_feeds = 0; is_open = false })
+new_count = λ text. let lines = lines_counted text in omega (arith, lines)
 
--- the lines of a text that was counted
-pub lines_of_counted : (text : List ℕ) (count : LineCount) → count ≡ counted text
-    → min (count.line_feeds + open_lines count.is_open) (2 ^ 64 - 1) ≡ min (length (raw_lines text)) (2 ^ 64 - 1)
-lines_of_counted text count is =
+-- bytes behind those that were counted
+pub with_bytes : (bytes text : List ℕ) (count : LineCount) (feeds : ℕ) (is_open : Bool) → feeds ≡ min (count.line_feeds + line_feeds bytes) (2 ^ 64 - 1) → is_open ≡ leaves_open count.is_open bytes
+    → lines_with (record { line_feeds = feeds; is_open = is_open }) text ≡ lines_with count (bytes ++ text)
+with_bytes bytes text count feeds is_open more opens =
+    let all = feeds-append bytes text in
+    let last : open_lines (leaves_open is_open text) ≡ open_lines (leaves_open count.is_open (bytes ++ text)) =
+    ap (λ b. open_lines (leaves_open b text)) opens ∙ ap open_lines (sym (leaves_open-append count.is_open bytes text)) in
+    omega (arith, all, more, last)
+
+-- a text has few lines: one for each byte, and one more
+few_open : (is_open : Bool) → open_lines is_open ≤ 1
+few_open true = omega arith
+few_open false = omega arith
+
+pub few_lines : (text : List ℕ) → length (raw_lines text) ≤ length text + 1
+few_lines text =
     let lines = lines_counted text in
-    rw is (omega (arith, lines))
+    let feeds = count_by-le-length (λ byte. byte == line_feed) text in
+    let open_one = few_open (leaves_open false text) in
+    omega (arith, lines, feeds, open_one)

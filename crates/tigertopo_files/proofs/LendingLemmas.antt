@@ -1,5 +1,5 @@
 -- Files that are opened, lent to what reads them, and closed.
-use Rattle.std.proofs.Common.{◌≡◌, ◌⊎◌, inl, inr, ℕ, zero, suc, ◌+◌, ◌<◌, Bool, true, false, List, [], ◌∷◌, ◌++◌, map, take, length, Contains, Option, Some, None, Result, Ok, Err, IfOk, IfErr, refl, sym, ap, subst, ◌∙◌, arith}
+use Rattle.std.proofs.Common.{◌≡◌, ◌⊎◌, inl, inr, ℕ, zero, suc, ◌+◌, ◌<◌, Bool, true, false, List, [], ◌∷◌, ◌++◌, map, take, length, Contains, Option, Some, None, Result, Ok, Err, IfErr, refl, sym, ap, subst, ◌∙◌, arith}
 use Rattle.std.proofs.Math.Seq.{take-length}
 use Rattle.std.proofs.lemmas.List.Elements.{Contains-append_left, Contains-append_right, Contains-push}
 use Rattle.std.proofs.lemmas.List.Sums.{sum_by-cons}
@@ -102,12 +102,21 @@ module _ {T : Type 0} (answers : T → Type 0) (stops : Stop → Type 0) (failed
       by_stop Budget why = absurd why
 
   -- they are opened and read
-  pub was_read : (r : Result T Stop) (count : ℕ) → IfOk r answers → IfErr r (MayStop stops) → TellsReads (stops Device) count r → (0 < count → failed) → Tells answers stops failed r
-  was_read (Ok t) count answered stopped tells fails = record { answered = answered; stopped = tt; device = λ e. absurd (cc) }
-  was_read (Err (Record line cause)) count answered stopped tells fails = record { answered = tt; stopped = stopped; device = λ e. absurd (cc) }
-  was_read (Err Memory) count answered stopped tells fails = record { answered = tt; stopped = tt; device = λ e. absurd (cc) }
-  was_read (Err Device) count answered stopped tells fails = record { answered = tt; stopped = tt; device = λ e. elim tells [ inl some ↦ inl (fails some) | inr why ↦ inr why ] }
-  was_read (Err Budget) count answered stopped tells fails = record { answered = tt; stopped = stopped; device = λ e. absurd (cc) }
+  pub was_read : (t : T) → answers t → Tells answers stops failed (Ok t)
+  was_read t answered = record { answered = answered; stopped = tt; device = λ e. absurd (cc) }
+
+-- they are opened and read, and nothing is answered: so nothing is of what is made of the answer
+module _ {A T : Type 0} (answers : T → Type 0) (stops : Stop → Type 0) (failed : Type 0) where
+  pub was_stopped : (q : Result A Stop) (r : Result T Stop) (stop : Stop) (count : ℕ) → q ≡ Err stop → IsErrAnd r (λ told. told ≡ stop) → IfErr q (MayStop stops) → TellsReads (stops Device) count q → (0 < count → failed)
+      → Tells answers stops failed r
+  was_stopped q (Ok t) stop count was is stopped tells fails = absurd is
+  was_stopped q (Err told) stop count was is stopped tells fails = subst (λ s. Tells answers stops failed (Err s)) (sym is) (by_stop stop (rw was at stopped) (subst (λ q. TellsReads (stops Device) count q) was tells))
+    where
+      by_stop : (stop : Stop) → MayStop stops stop → TellsReads {T = A} (stops Device) count (Err stop) → Tells answers stops failed (Err stop)
+      by_stop (Record line cause) stopped tells = record { answered = tt; stopped = stopped; device = λ e. absurd (cc) }
+      by_stop Memory stopped tells = record { answered = tt; stopped = tt; device = λ e. absurd (cc) }
+      by_stop Device stopped tells = record { answered = tt; stopped = tt; device = λ e. elim tells [ inl some ↦ inl (fails some) | inr why ↦ inr why ] }
+      by_stop Budget stopped tells = record { answered = tt; stopped = stopped; device = λ e. absurd (cc) }
 
 -- of sources that never fail no read does
 never_fails : {A : Type 0} (knows : Bool) (before after : Log) → MayFail (λ (source : A). 0) → Fails knows before after

@@ -1,8 +1,9 @@
 -- The texts that files are read as, and what comes of reading them.
-use Rattle.std.specs.Prelude.{◌≡◌, ◌⊎◌, ◌<◌, ℕ, true, false, List, [], ◌∷◌, ◌++◌, Contains, length, map, Option, Some, None, Result, Err, IfOk, IfErr, IfSome, IfNone}
+use Rattle.std.specs.Prelude.{◌≡◌, ◌⊎◌, ◌<◌, ℕ, Bool, true, false, List, [], ◌∷◌, ◌++◌, Contains, length, map, Option, Some, None, Result, Err, IfOk, IfErr, IfSome, IfNone}
 use Rattle.tl_record.specs.Lines.{raw_lines}
 use Rattle.tl_cert_output.specs.declared.stop.Stop.{Stop}
 use Rattle.tl_cert_output.specs.declared.stop.Stop.TheVariants.{Device}
+use Rattle.tigertopo_files.specs.declared.lending.Reply.{Reply}
 use Rattle.tigertopo_files.specs.Joining.{joined_bytes}
 use Rattle.tigertopo_files.specs.Files.{Under, bytes_under}
 use Rattle.tigertopo_files.specs.Log.{LogsAgain}
@@ -21,6 +22,16 @@ single_under under (Some name) = bytes_under under name
 abbrev pub HaveLines : Under → List (List ℕ) → List ℕ → Type 0
 HaveLines under names counts =
     (texts : List (List ℕ)) → map (bytes_under under) names ≡ map Some texts → counts ≡ map (λ text. length (raw_lines text)) texts
+
+-- those of these names whose lines are counted, all or none
+abbrev pub counted_names : (counts : Bool) → List (List ℕ) → List (List ℕ)
+counted_names true names = names
+counted_names false names = []
+
+-- what is answered is so, and if the lines of the files of these names are counted, it is said how many each has, and else no number
+pub record IsReply {T : Type 0} (answers : T → Type 0) (under : Under) (names : List (List ℕ)) (counts : Bool) (reply : Reply T) : Type 0 where
+  pub answered : answers reply.answer
+  pub counted : HaveLines under (counted_names counts names) reply.line_counts.items
 
 -- the names of all, that of the one that is read by itself behind the others
 abbrev pub all_names : List (List ℕ) → Option (List ℕ) → List (List ℕ)

@@ -4,14 +4,14 @@ ghost use Rattle.std.specs.Prelude.{◌≡◌, ℕ, Bool, true, false, is_some, 
 ghost use Rattle.std.specs.Prelude.{IfOk, IfErr, IfSome, OnOk, OnErr, map, option_map, string_bytes};
 ghost use Rattle.tigertopo_files.specs.Files.{Under, standing, beside, trouble_of, IsRoom, IsFree, KeepsBut, KeepsEach};
 ghost use Rattle.tigertopo_files.specs.Log.{Log, after_draft, with_settled};
-ghost use Rattle.tigertopo_files.specs.Reading.{DoesAgain, HaveLines, all_names, single_under, text_under};
+ghost use Rattle.tigertopo_files.specs.Reading.{DoesAgain, IsReply, all_names, single_under, text_under};
 ghost use Rattle.tigertopo_files.specs.World.{Does, world};
 ghost use Rattle.tigertopo_files.specs.declared.beginning.FileKind.{FileKind};
 ghost use Rattle.tl_cert_output.specs.Stops.{StopsFor};
 ghost use Rattle.tl_cert_output.specs.Texts.{PrintsText};
 
 use crate::beginning::FileKind;
-use crate::lending::Reading;
+use crate::lending::{Reading, Reply};
 use std::alloc::{AllocError, Global};
 use tl_cert_output::{Stop, Text};
 
@@ -69,19 +69,21 @@ pub trait FileSystem {
     ghost knows: { Bool };
 
     /// Opens the files that stand under these names, each once and in their order, and that of `single` behind them, has them read when
-    /// all are open, and closes them. A device fails where the bytes of one aren't known, a read of one failed, or as the reading says.
+    /// all are open, and closes them. Where `counts`, it counts the lines of each but that of `single`, and reads what the reading left of
+    /// them. A device fails where the bytes of one aren't known, a read of one failed, or as the reading says.
     fn read<Q: Reading>(
         &mut self,
         alloc: Global,
         names: &[String],
         single: Option<&String>,
+        counts: bool,
         reading: &Q,
-    ) -> Result<Q::Answer, Stop>
+    ) -> Result<Reply<Q::Answer>, Stop>
         ensures { let known = text_under (under self.old) (map string_bytes names.now) in
             let alone = single_under (under self.old) (option_map (λ name. string_bytes name.now) single.entry) in
             Does (world under log knows self.old self.new)
             (all_names (map string_bytes names.now) (option_map (λ name. string_bytes name.now) single.entry)) None
-            (Q.answers reading.now known alone) (Q.stops reading.now known alone) result };
+            (IsReply (Q.answers reading.now known alone) (under self.old) (map string_bytes names.now) counts) (Q.stops reading.now known alone) result };
 
     /// Has the files read once more, as [`FileSystem::read`] does, where each of them can be read again from its
     /// beginning. `None` says that one can't: it is no regular file, as a pipe is none.
@@ -121,16 +123,6 @@ pub trait FileSystem {
     fn show_progress(&mut self, last: String)
         ensures stays { under self.new ≡ under self.old }
         ensures logged { knows ≡ true → log self.new ≡ record (log self.old) { watched = Some (string_bytes last) } };
-
-    /// The lines of files of records are counted in what the next [`FileSystem::read`] reads.
-    fn count_lines(&mut self)
-        ensures stays { under self.new ≡ under self.old }
-        ensures logged { knows ≡ true → log self.new ≡ log self.old };
-
-    /// How many lines each of the files of these names has, which were read last, while lines were counted. The error is that memory was
-    /// refused.
-    fn line_counts(&self, alloc: Global, names: &[String]) -> Result<Vec<u64>, AllocError>
-        ensures { IfOk result (λ counts. HaveLines (under self.now) (map string_bytes names.now) counts.items) };
 
     /// Whether a new file of this kind may take a name, where those of these names are read.
     fn room(&self, alloc: Global, name: &str, read: &[String], kind: FileKind) -> Result<Room, Stop>

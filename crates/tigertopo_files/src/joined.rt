@@ -1,53 +1,70 @@
 //! Several sources as one.
 
-ghost use Rattle.std.specs.Prelude.{◌≡◌, ◌+◌, ◌<◌, ◌≤◌, false, List, ℕ, Some, MatchResult, map, drop, take, length};
+ghost use Rattle.std.specs.Prelude.{◌≡◌, ◌+◌, ◌<◌, ◌≤◌, false, List, ℕ, Option, Some, IfOk, IfErr, MatchResult, map, drop, take, length};
 ghost use Rattle.std.specs.Prelude.{vec_len};
 ghost use Rattle.std.specs.Io.{ReadsAtMost};
 ghost use Rattle.std.specs.Io.KnownBytes.{Consumes, Keeps};
 ghost use Rattle.tl_record.specs.Failures.{CountsRead};
+ghost use Rattle.tl_record.specs.Lines.{raw_lines};
+ghost use Rattle.tl_cert_output.specs.Stops.{StopsFor};
+ghost use Rattle.tigertopo_files.specs.Counting.{AreCounted, AreCounted-prop};
 ghost use Rattle.tigertopo_files.specs.Joining.{joined, joined_bytes, failures_of};
+ghost use Rattle.tigertopo_files.specs.Reading.{MayFail};
 
+use crate::counting::{LineCount, count_at, count_rest, lines_of_each};
+use std::alloc::Global;
 use std::io;
-use std::io::Read;
-use tl_record::{Meter, Source};
+use std::marker::{Brand, PhantomData};
+use tl_cert_output::Stop;
+use tl_record::Source;
 
-/// A reader over a list of readers, whose reads that fail are counted.
-pub type Joined<R> = JoinedSources<Meter<R>>;
+/// The texts whose lines are counted, each where its bytes are known. A call picks them.
+pub trait Texts {
+    ghost texts: { List (Option (List ℕ)) };
+}
+
+impl Texts for Brand {
+    ghost use Rattle.std.specs.Prelude.{[]};
+
+    ghost texts = { [] };
+}
 
 /// A source over a list of sources, which gives their bytes one after the other. After one that gave bytes, of which the
 /// last is no LF, it puts an LF, so that no line runs from one file into the next. Its failures are those of all.
+///
+/// Where lines are counted, the sources give the texts of `T`, and it counts the lines of each.
 #[derive(Drop)]
-pub struct JoinedSources<R> {
+pub struct JoinedSources<R: Source, T: Texts> {
     readers: Vec<R>,
     // The reader that is read now.
     place: usize,
     // The reader that is read now gave bytes, of which the last is no LF.
     is_open: bool,
+    // How many lines each reader gave so far, if they are counted.
+    counts: Vec<LineCount>,
+    of: PhantomData<T>,
     ghost within: { place ≤ vec_len readers },
+    ghost counted: { AreCounted R.remaining T.texts place readers.items counts.items } by { AreCounted-prop R.remaining T.texts place readers.items counts.items },
 }
 
-impl<R: Source> JoinedSources<R> {
-    /// A source of what these give, from the first to the last.
-    pub fn new(readers: Vec<R>) -> JoinedSources<R>
+impl<R: Source, T: Texts> JoinedSources<R, T> {
+    /// A source of what these give, from the first to the last. A count of no byte is given for each whose lines are counted.
+    pub fn new(readers: Vec<R>, counts: Vec<LineCount>) -> JoinedSources<R, T>
+        requires { AreCounted R.remaining T.texts 0 readers.items counts.items }
         ensures known { (texts : List (List ℕ)) → map R.remaining readers.items ≡ map Some texts
-            → ⟦<JoinedSources<R> as Source>⟧.remaining result ≡ Some (joined texts) }
-        ensures bytes { ⟦<JoinedSources<R> as Source>⟧.remaining result
+            → ⟦<JoinedSources<R, T> as Source>⟧.remaining result ≡ Some (joined texts) }
+        ensures bytes { ⟦<JoinedSources<R, T> as Source>⟧.remaining result
             ≡ joined_bytes R.remaining false readers.items }
-        ensures failures { ⟦<JoinedSources<R> as Source>⟧.failure_count result
+        ensures failures { ⟦<JoinedSources<R, T> as Source>⟧.failure_count result
             ≡ failures_of R.failure_count readers.items }
     {
         JoinedSources {
             readers,
             place: 0,
             is_open: false,
+            counts,
+            of: PhantomData,
         }
-    }
-
-    /// The sources, each as far as it was read.
-    pub fn into_readers(self) -> Vec<R>
-        ensures { failures_of R.failure_count result.items ≡ ⟦<JoinedSources<R> as Source>⟧.failure_count self }
-    {
-        self.readers
     }
 
     // One read of the reader that is read now. Where it is at its end, the next one is read from here on, and the LF
@@ -70,6 +87,7 @@ impl<R: Source> JoinedSources<R> {
     {
         let count = self.readers[self.place].fetch(buf)?;
         if count > 0 {
+            count_at(&mut self.counts, self.place, &buf[..count]);
             self.is_open = buf[count - 1] != b'\n';
             return Ok(count);
         }
@@ -83,7 +101,27 @@ impl<R: Source> JoinedSources<R> {
     }
 }
 
-impl<R: Source> Source for JoinedSources<R> {
+impl<R: Source + Drop, T: Texts> JoinedSources<R, T> {
+    /// How many lines each source has, if they are counted, and else no number. What they have left is read to their ends.
+    pub fn into_line_counts(self, alloc: Global) -> Result<Vec<u64>, Stop>
+        ensures counts { IfOk result (λ lines. (texts : List (List ℕ)) → T.texts ≡ map Some texts
+            → lines.items ≡ map (λ text. length (raw_lines text)) texts) }
+        ensures stop { IfErr result (StopsFor (MayFail R.failure_count)) }
+    {
+        let JoinedSources {
+            mut readers,
+            place,
+            mut counts,
+            ..
+        } = self;
+        for at in place..counts.len() {
+            counts[at] = count_rest(&mut readers[at], counts[at])?;
+        }
+        Ok(lines_of_each(alloc, &counts)?)
+    }
+}
+
+impl<R: Source, T: Texts> Source for JoinedSources<R, T> {
     ghost remaining = { λ j. joined_bytes R.remaining j.is_open (drop j.place j.readers.items) };
 
     ghost failure_count = { λ j. failures_of R.failure_count j.readers.items };
@@ -107,13 +145,5 @@ impl<R: Source> Source for JoinedSources<R> {
             failures = failures.saturating_add(reader.failures());
         }
         failures
-    }
-}
-
-impl<R: Source> Read for JoinedSources<R> {
-    ghost remaining = { λ j. joined_bytes R.remaining j.is_open (drop j.place j.readers.items) };
-
-    fn read(&mut self, buf: &mut [u8]) -> io::Result<usize> {
-        self.fetch(buf)
     }
 }

@@ -1,8 +1,9 @@
 //! Files that are opened together.
 
-ghost use Rattle.std.specs.Prelude.{◌≡◌, IfOk, IfErr, None, map, string_bytes};
+ghost use Rattle.std.specs.Prelude.{◌≡◌, All, IfOk, IfErr, None, map, string_bytes};
 ghost use Rattle.std.specs.Bool.{OnFalse};
 ghost use Rattle.std.specs.List.{sum_by};
+ghost use Rattle.tigertopo_files.specs.Counting.{IsShort};
 ghost use Rattle.tigertopo_files.specs.Files.{Under, bytes_under};
 ghost use Rattle.tigertopo_files.specs.World.{SomeMissing};
 ghost use Rattle.tl_cert_output.specs.Stops.{StopsFor};
@@ -19,9 +20,10 @@ pub trait Opener {
     // What stands under each name, where that is known.
     ghost held: { Self → Under };
 
-    /// Opens the file that stands under a name. A device fails only where the bytes of none are known.
+    /// Opens the file that stands under a name. A device fails only where the bytes of none are known. A file has fewer than 2^63 bytes.
     fn open_one(&self, alloc: Global, name: &str) -> Result<Self::Reader, Stop>
         ensures opened { IfOk result (λ file. Self.Reader.remaining file ≡ bytes_under (held self.now) name.now) }
+        ensures short { IfOk result (λ file. IsShort (Self.Reader.remaining file)) }
         ensures fresh { IfOk result (λ file. Self.Reader.failure_count file ≡ 0) }
         ensures failed { IfErr result (StopsFor (bytes_under (held self.now) name.now ≡ None)) };
 
@@ -40,6 +42,7 @@ pub fn open_each<O: Opener>(
 ) -> Result<Vec<O::Reader>, Stop>
     ensures opened { IfOk result (λ files. map O.Reader.remaining files.items
         ≡ map (λ name. bytes_under (O.held opener.now) (string_bytes name)) names.now) }
+    ensures short { IfOk result (λ files. All (λ file. IsShort (O.Reader.remaining file)) files.items) }
     ensures fresh { IfOk result (λ files. sum_by O.Reader.failure_count files.items ≡ 0) }
     ensures failed { IfErr result (StopsFor (SomeMissing (O.held opener.now) (map string_bytes names.now))) }
 {

@@ -7,9 +7,8 @@ use Rattle.std.proofs.lemmas.Bool.{cases_Bool, cases_lt}
 use Rattle.std.proofs.lemmas.Option.{same_Some, slice_get-map, slice_get-get_or}
 use Rattle.std.proofs.lemmas.Cmp.{nat_list_eq_equiv}
 use Rattle.std.proofs.lemmas.List.{at_drop_more, get_or-map, length-map}
-use Rattle.tl_record.specs.Lines.{raw_lines}
 use Rattle.tigertopo_memory_files.specs.declared.in_memory.Stored.{Stored}
-use Rattle.tigertopo_memory_files.specs.Keeping.Stored.{same_name, found_with, found_from, file_in, lines_found}
+use Rattle.tigertopo_memory_files.specs.Keeping.Stored.{same_name, found_with, found_from, file_in}
 
 -- one file more
 found_push : (name : List ℕ) (found : Option (List ℕ)) (files : List Stored) (file : Stored) → found_from name found (files ++ file ∷ []) ≡ found_with name (found_from name found files) file
@@ -60,14 +59,3 @@ pub none_among : {X : Type 0} (f : X → List ℕ) (xs : List X) (i : ℕ) (name
 none_among f xs i name all none has =
     let long = length-map xs f in
     none has.0 name (omega (arith, has.1, long)) (slice_get-get_or (map f xs) has.0 name has.1 ∙ ap Some has.2) refl
-
--- how many lines are found under names, where it is known what stands there
-pub lines_under : {X : Type 0} (under : List ℕ → Option (List ℕ)) (f : X → List ℕ) (names : List X) (texts : List (List ℕ)) → map under (map f names) ≡ map Some texts
-    → map (λ name. lines_found (under (f name))) names ≡ map (λ text. length (raw_lines text)) texts
-lines_under under f [] [] known = refl
-lines_under under f [] (text ∷ texts) known = cc
-lines_under under f (name ∷ names) [] known = cc
-lines_under under f (name ∷ names) (text ∷ texts) known =
-    let first : under (f name) ≡ Some text = cc in
-    let others : map under (map f names) ≡ map Some texts = cc in
-    rw (first, lines_under under f names texts others) refl

@@ -1,16 +1,16 @@
 //! Files in memory, for tests and for who has no other.
 
-ghost use Rattle.std.specs.Prelude.{◌≡◌, ◌≢◌, ◌++◌, ℕ, List, None, Some, IfOk, IfErr, OnOk, OnErr, Contains, map, option_map, string_bytes};
+ghost use Rattle.std.specs.Prelude.{◌≡◌, ◌≢◌, ◌<◌, ◌^◌, ℕ, List, None, Some, IfOk, IfErr, OnOk, OnErr, Contains, length, map, option_map, string_bytes};
 ghost use Rattle.std.specs.Bool.{OnTrue, OnFalse};
 ghost use Rattle.tl_cert_output.specs.Stops.{StopsFor};
-ghost use Rattle.tigertopo_memory_files.specs.Keeping.Stored.{found_with as found_with_of, lines_found};
+ghost use Rattle.tigertopo_memory_files.specs.Keeping.Stored.{found_with as found_with_of};
 
 use std::alloc::{AllocError, Global};
 use std::collections::VecDeque;
 use std::io;
 use std::io::{ErrorKind, Read, Write};
 use tigertopo_files::{
-    FileKind, FileSystem, Opener, Reading, Room, all_names, line_count, read_each, read_each_again,
+    FileKind, FileSystem, Opener, Reading, Reply, Room, all_names, read_each, read_each_again,
     with_printed,
 };
 use tigertopo_system_files::{Lookup, Seen, Spot, name_beside, room_of};
@@ -196,10 +196,11 @@ impl FileSystem for FilesInMemory {
         alloc: Global,
         names: &[String],
         single: Option<&String>,
+        counts: bool,
         reading: &Q,
-    ) -> Result<Q::Answer, Stop> {
+    ) -> Result<Reply<Q::Answer>, Stop> {
         self.log_names(all_names(alloc, names, single)?)?;
-        read_each(self, alloc, names, single, reading)
+        read_each(self, alloc, names, single, counts, reading)
     }
 
     fn read_again<Q: Reading>(
@@ -234,17 +235,6 @@ impl FileSystem for FilesInMemory {
 
     fn show_progress(&mut self, last: String) {
         self.watched = Some(last);
-    }
-
-    // The bytes of these files are there to be counted.
-    fn count_lines(&mut self) {}
-
-    fn line_counts(&self, alloc: Global, names: &[String]) -> Result<Vec<u64>, AllocError> {
-        let mut counts = Vec::new(alloc);
-        for name in names {
-            counts.push(lines_of(self.bytes(name.as_str())))?;
-        }
-        Ok(counts)
     }
 
     fn room(
@@ -328,6 +318,7 @@ impl Lookup for FilesInMemory {
 // A file of these bytes, which is read, where there are any.
 fn held_of(bytes: Option<&[u8]>, alloc: Global) -> Result<Held, Stop>
     ensures bytes { IfOk result (λ file. option_map (λ bytes. bytes.now) bytes.entry ≡ Some file.bytes.items) }
+    ensures short { IfOk result (λ file. length file.bytes.items < 2 ^ 63) }
     ensures stop { IfErr result (StopsFor (bytes.entry ≡ None)) }
 {
     let Some(bytes) = bytes else {
@@ -337,16 +328,6 @@ fn held_of(bytes: Option<&[u8]>, alloc: Global) -> Result<Held, Stop>
     match held.write(bytes) {
         Ok(_) => Ok(Held { bytes: held }),
         Err(_) => Err(Stop::Memory),
-    }
-}
-
-// How many lines the bytes of a file have, where there are any.
-fn lines_of(bytes: Option<&[u8]>) -> u64
-    ensures { result ≡ lines_found (option_map (λ bytes. bytes.now) bytes.entry) }
-{
-    match bytes {
-        Some(bytes) => line_count(bytes),
-        None => 0,
     }
 }
 

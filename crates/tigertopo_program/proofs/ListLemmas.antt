@@ -1,6 +1,6 @@
 -- What is answered of what was found.
-use Rattle.std.proofs.Common.{◌≡◌, ◌⊎◌, inl, inr, ℕ, ◌+◌, take, Bool, true, List, [], ◌∷◌, ◌++◌, map, Some, None, Option, Result, Ok, Err, refl, sym, ap, subst, ◌∙◌, arith, append-nil}
-use Rattle.std.specs.Prelude.{slice_get, Vec, IfErr, codes, is_some, length, false}
+use Rattle.std.proofs.Common.{◌≡◌, inl, inr, ℕ, ◌+◌, take, Bool, true, List, [], ◌∷◌, ◌++◌, map, Some, None, Option, Result, Ok, Err, refl, sym, ap, subst, ◌∙◌, arith, append-nil}
+use Rattle.std.specs.Prelude.{slice_get, Vec, codes, is_some, length, false}
 use Rattle.std.specs.Global.{Global}
 use Rattle.std.specs.Option.{IfSome, option_map}
 use Rattle.std.specs.Result.{IsErrAnd}
@@ -22,7 +22,7 @@ use Rattle.tigertopo_files.specs.Files.{bytes_under}
 use Rattle.tigertopo_files.specs.Joining.{joined}
 use Rattle.tigertopo_files.specs.Log.{Log}
 use Rattle.tigertopo_files.specs.Reading.{HaveLines, text_under}
-use Rattle.tigertopo_files.specs.World.{World, Does, Failed, Keeps, Made, Unmade}
+use Rattle.tigertopo_files.specs.World.{World, Does, Made}
 use Rattle.tigertopo_files.proofs.JoiningLemmas.{joined_bytes-known}
 use Rattle.tigertopo_files.proofs.WorldLemmas.{all_kept, none_made}
 use Rattle.tigertopo_words.specs.declared.budget.Told.{Told}
@@ -30,7 +30,7 @@ use Rattle.tigertopo_words.specs.declared.budget.Told.TheVariants.{One, All}
 use Rattle.tigertopo_words.specs.declared.form.Form.{Form}
 use Rattle.tigertopo_words.specs.declared.form.Form.TheVariants.{Lines as FormLines, Records as FormRecords, Objects as FormObjects}
 use Rattle.tl_cert_output.specs.declared.stop.Stop.{Stop}
-use Rattle.tl_cert_output.specs.declared.stop.Stop.TheVariants.{Record, Memory, Device}
+use Rattle.tl_cert_output.specs.declared.stop.Stop.TheVariants.{Record, Memory}
 use Rattle.tl_record.specs.declared.stop.Cause.{Cause}
 use Rattle.tl_list_text.specs.Texts.{lines, printed, told_refusal, count_line}
 use Rattle.tigertopo_faults.specs.Hint.Placed.{IsPlaced, placed_text, refused_text, TellsPlaces}
@@ -48,6 +48,7 @@ use Rattle.tl_list_text.specs.declared.listing.Listing.TheVariants.{Sound, Refus
 use Rattle.tl_list.specs.Listings.{IsListingOf}
 use Rattle.tl_list.specs.Findings.{AreFindingsOf, IsLeft}
 use Rattle.tl_list.specs.Noting.{IfRefused, NotesLines, WhereTold}
+use Rattle.tl_list.specs.Keeping.Noting.{bytes_of}
 use Rattle.tl_list.specs.declared.left.Found.{Found}
 use Rattle.tl_list.specs.declared.left.LeftFaults.{LeftFaults}
 use Rattle.tigertopo_program.specs.declared.lists.skipping.LeftTexts.{LeftTexts}
@@ -60,10 +61,11 @@ use Rattle.tigertopo_program.specs.declared.answer.Answer.{Answer}
 use Rattle.tigertopo_program.specs.declared.answer.Answer.TheVariants.{Listing, Lines}
 use Rattle.tigertopo_program.specs.Answers.{IsSaid}
 use Rattle.tigertopo_program.specs.Texts.{answer_status, answer_text}
-use Rattle.tigertopo_program.specs.Lists.Listed.{Asked, ListAnswers, IsSoundList, IsFaultList, StopsList, asks_lines, has_places, most_of, told_text, featured, refused_form, refusals_last, is_skipping, stops_refused}
+use Rattle.tigertopo_faults.specs.Told.{told_text}
+use Rattle.tigertopo_program.specs.Lists.Listed.{Asked, ListAnswers, IsSoundList, IsFaultList, StopsList, asks_lines, has_places, most_of, featured, refused_form, refusals_last, is_skipping, stops_refused}
 use Rattle.tigertopo_program.specs.Lists.Listed.{AreRefused}
 use Rattle.tigertopo_program.specs.Lists.Listed.{refused_text as refused_collection}
-use Rattle.tigertopo_program.specs.Lists.Keeping.{AnswersFronted, AreFeatures, AreFronts, AreLinesOf, AreNoted, ArePrepared, IsLeftPrepared, IsPrepared, IsRefusedList, bytes_of, faults_answer, stop_of_refusal}
+use Rattle.tigertopo_program.specs.Lists.Keeping.{AnswersFronted, AreFeatures, AreFronts, AreLinesOf, AreNoted, ArePrepared, IsLeftPrepared, IsPrepared, IsRefusedList, faults_answer, stop_of_refusal}
 
 -- ---- what is done with files
 
@@ -328,61 +330,33 @@ answers_from u v after l m q k options known asked status text same (inr (inr (i
 
 -- ---- behind what changes nothing
 
-later_keeps : (u after : Under) (l m q : Log) (k : Bool) (made : Option (List ℕ)) → Keeps (record { before = u; after = after; log = m; logged = q; knows = k }) made
-    → Keeps (record { before = u; after = after; log = l; logged = q; knows = k }) made
-later_keeps u after l m q k None keeps = keeps
-later_keeps u after l m q k (Some name) keeps = keeps
-
-later_unmade : {T : Type 0} (u after : Under) (l m q : Log) (k : Bool) (made : Option (List ℕ)) (r : Result T Stop)
-    → IfErr r (λ stop. Unmade (record { before = u; after = after; log = m; logged = q; knows = k }) made) → IfErr r (λ stop. Unmade (record { before = u; after = after; log = l; logged = q; knows = k }) made)
-later_unmade u after l m q k made (Ok t) kept = tt
-later_unmade u after l m q k None (Err stop) kept = kept
-later_unmade u after l m q k (Some name) (Err stop) kept = kept
-
--- what is done behind it is all that is done
-pub does_later : {T : Type 0} (u after : Under) (l m q : Log) (k : Bool) (names : List (List ℕ)) (made : Option (List ℕ)) (P : T → Type 0) (S : Stop → Type 0) (r : Result T Stop) → (k ≡ true → m ≡ l)
-    → Does (record { before = u; after = after; log = m; logged = q; knows = k }) names made P S r → Does (record { before = u; after = after; log = l; logged = q; knows = k }) names made P S r
-does_later u after l m q true names made P S r same does = subst (λ (log : Log). Does (record { before = u; after = after; log = log; logged = q; knows = true }) names made P S r) (same refl) does
-does_later u after l m q false names made P S r same does = record {
-  answered = does.answered;
-  stopped = does.stopped;
-  device = λ is. failed (does.device is);
-  keeps = later_keeps u after l m q false made does.keeps;
-  unmade = later_unmade u after l m q false made r does.unmade;
-  logged = λ known. absurd (let wrong = known in cc);
-}
-  where
-    failed : Failed (record { before = u; after = after; log = m; logged = q; knows = false }) names ⊎ S Device → Failed (record { before = u; after = after; log = l; logged = q; knows = false }) names ⊎ S Device
-    failed (inl (inl missing)) = inl (inl missing)
-    failed (inl (inr fails)) = inl (inr (inl refl))
-    failed (inr why) = inr why
-
 -- ---- what was noted while files were read
 
-pub are_noted : (layout : Layout) (u v : Under) (names : List (List ℕ)) (counts : List ℕ) (found : Found) → v ≡ u → HaveLines v names counts → IfSome (text_under u names) (λ text. NotesLines layout text found)
+pub are_noted : (layout : Layout) (u v : Under) (names : List (List ℕ)) (counts : List ℕ) (found : Found) → v ≡ u → HaveLines u names counts → IfSome (text_under u names) (λ text. NotesLines layout text found)
     → AreNoted layout v names counts found
 are_noted layout u v names counts found same counted notes = λ texts have.
-    let known = joined_bytes-known (bytes_under u) names texts (subst (λ under. HaveTexts under names texts) same have) in
-    (counted texts have, subst (λ (known : Option (List ℕ)). IfSome known (λ text. NotesLines layout text found)) known notes)
+    let before = subst (λ under. HaveTexts under names texts) same have in
+    let known = joined_bytes-known (bytes_under u) names texts before in
+    (counted texts before, subst (λ (known : Option (List ℕ)). IfSome known (λ text. NotesLines layout text found)) known notes)
 
 module _ (layout : Layout) (under : Under) (names : List (List ℕ)) (counts : List ℕ) (found : Found) (noted : AreNoted layout under names counts found) where
-  pub lines_of_faults : (faults : Vec MapFault Global) (touched : ℕ) → found.whole.listing ≡ Faults faults touched → AreLinesOf layout under names counts found.noted.records.items
+  pub lines_of_faults : (faults : Vec MapFault Global) (touched : ℕ) → found.whole.listing ≡ Faults faults touched → AreLinesOf layout under names counts found.noted.records
   lines_of_faults faults touched is = λ texts have.
       let its = noted texts have in
-      (its.0, subst (λ listing. WhereTold listing found.left (found.noted.records.items ≡ (lines_read layout (left_of layout (joined texts))).entries)) is its.1.records)
+      (its.0, subst (λ listing. WhereTold listing found.left (found.noted.records ≡ (lines_read layout (left_of layout (joined texts))).entries)) is its.1.records)
 
   pub lines_of_refused : (list : Vec Refusal Global) → found.whole.listing ≡ Refused list
-      → AreFronts under names counts list.items (bytes_of found.noted.fronts.items) × IfSome found.left (λ it. AreLinesOf layout under names counts found.noted.records.items)
+      → AreFronts under names counts list.items (bytes_of found.noted.fronts.items) × IfSome found.left (λ it. AreLinesOf layout under names counts found.noted.records)
   lines_of_refused list is = (
     λ texts have. let its = noted texts have in (its.0, subst (λ listing. IfRefused listing (λ list. bytes_of found.noted.fronts.items ≡ map (front_in (joined texts)) list.items)) is its.1.fronts),
     where_left found.left refl,
   )
     where
-      where_left : (left : Option LeftFaults) → found.left ≡ left → IfSome left (λ it. AreLinesOf layout under names counts found.noted.records.items)
+      where_left : (left : Option LeftFaults) → found.left ≡ left → IfSome left (λ it. AreLinesOf layout under names counts found.noted.records)
       where_left None none = tt
       where_left (Some it) some = λ texts have.
           let its = noted texts have in
-          let entries = found.noted.records.items ≡ (lines_read layout (left_of layout (joined texts))).entries in
+          let entries = found.noted.records ≡ (lines_read layout (left_of layout (joined texts))).entries in
           (its.0, subst (λ left. WhereTold (Refused list) left entries) some (subst (λ listing. WhereTold listing found.left entries) is its.1.records))
 
 -- ---- what is printed of faults, and what stands in the file

@@ -10,6 +10,7 @@ ghost use Rattle.tigertopo_program.specs.Records.{StopsNever};
 
 use crate::answer::{Answer, Converted};
 use crate::making::answer_with_file;
+use crate::reading::read_files;
 use std::alloc::{AllocError, Global};
 use std::slice;
 use tigertopo_files::{FileKind, FileSystem, Reading};
@@ -50,7 +51,7 @@ pub fn convert<F: FileSystem>(
         Does w (string_bytes cert.now ∷ []) (Some (string_bytes made.now))
         (IsSaid (ConvertAnswers w (bytes_under (F.under files.old) (string_bytes cert.now)) (string_bytes made.now))) StopsNever result }
 {
-    match files.read(alloc, &[], Some(cert), &CertificateIn)? {
+    match read_files(files, alloc, &[], Some(cert), &CertificateIn)? {
         Ok(certificate) => make(files, alloc, cert, made, &certificate.to_v2()),
         Err(fault) => Ok(Answer::Verdict(Verdict::CertFault(fault))),
     }

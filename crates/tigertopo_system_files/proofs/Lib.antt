@@ -3,4 +3,3 @@ pub mod FrontLemmas
 pub mod ReadLemmas
 pub mod WordLemmas
 pub mod LookLemmas
-pub mod CountLemmas

@@ -1,15 +1,15 @@
-//! Readers of which it is noted how many lines they have, and whether one began as a record of type 1 does.
+//! Readers of which it is noted whether a line began as a record of type 1 does.
 
-ghost use Rattle.std.specs.Prelude.{◌≡◌, IfOk, length, vec_len};
+ghost use Rattle.std.specs.Prelude.{◌≡◌};
 ghost use Rattle.tigertopo_files.specs.Joining.{leaves_open as leaves_open_by};
 ghost use Rattle.tigertopo_system_files.specs.Noting.{begins_chain};
 
-use std::alloc::{AllocError, Global};
+use std::alloc::Global;
 use std::cell::Cell;
 use std::io;
 use std::io::Read;
 use std::rc::Rc;
-use tigertopo_files::{LineCount, leaves_open};
+use tigertopo_files::leaves_open;
 
 /// Whether a line of what was read began so.
 pub type Note = Rc<Cell<bool>>;
@@ -19,57 +19,23 @@ pub fn no_chain(alloc: Global) -> Option<Note> {
     Rc::new(alloc, Cell::new(false)).ok()
 }
 
-/// How many lines were read.
-pub type CountedLines = Rc<Cell<LineCount>>;
-
-/// That none were so far, of each of so many files.
-pub fn no_lines(alloc: Global, files: usize) -> Result<Vec<CountedLines>, AllocError>
-    ensures { IfOk result (λ lines. vec_len lines ≡ files) }
-{
-    let mut lines = Vec::new(alloc);
-    for _ in 0..files {
-        lines.push(Rc::new(alloc, Cell::new(LineCount::new()))?)?;
-    }
-    Ok(lines)
-}
-
-/// How many lines were read of each of so many files. None were of one that isn't among these.
-pub fn counts_of(
-    alloc: Global,
-    lines: &[CountedLines],
-    files: usize,
-) -> Result<Vec<u64>, AllocError>
-    ensures { IfOk result (λ counts. length counts.items ≡ files) }
-{
-    let mut counts = Vec::new(alloc);
-    for place in 0..files {
-        counts.push(match lines.get(place) {
-            Some(lines) => lines.get().lines(),
-            None => 0,
-        })?;
-    }
-    Ok(counts)
-}
-
-/// A reader, of whose lines that is noted, if there is a note, and which are counted, if there is where.
+/// A reader, of whose lines that is noted, if there is a note.
 #[derive(Drop)]
 pub struct NotedReader<T> {
     reader: T,
     note: Option<Note>,
-    lines: Option<CountedLines>,
     // Whether bytes were read behind the last line feed.
     is_open: bool,
 }
 
 impl<T: Read> NotedReader<T> {
     /// The reader, whose next byte is a line's first.
-    pub fn new(reader: T, note: Option<Note>, lines: Option<CountedLines>) -> NotedReader<T>
+    pub fn new(reader: T, note: Option<Note>) -> NotedReader<T>
         ensures { ⟦<NotedReader<T> as Read>⟧.remaining result ≡ T.remaining reader }
     {
         NotedReader {
             reader,
             note,
-            lines,
             is_open: false,
         }
     }
@@ -83,9 +49,6 @@ impl<T: Read> NotedReader<T> {
             if !note.get() && begins_chain(!self.is_open, bytes) {
                 note.set(true);
             }
-        }
-        if let Some(lines) = &self.lines {
-            lines.set(lines.get().with(bytes));
         }
         self.is_open = leaves_open(self.is_open, bytes);
     }

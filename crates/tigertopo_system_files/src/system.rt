@@ -4,12 +4,12 @@
 //! safe and end, and their order of calls is trusted. What is made of the bytes and the errors that the calls answer stands in the
 //! files beside them, and is proved there of any reader and any writer.
 
-ghost use Rattle.std.specs.Prelude.{◌≡◌, false, None, IfOk, OnOk, if◌then◌else◌, vec_len, ⊤};
+ghost use Rattle.std.specs.Prelude.{◌≡◌, false, None, IfOk, ⊤};
 ghost use Rattle.tl_cert_output.specs.Stops.{StopsFor};
 
 use crate::looking::room_of;
 use crate::new_file::NewFile;
-use crate::noted::{CountedLines, Note, NotedReader, counts_of, no_chain, no_lines};
+use crate::noted::{Note, NotedReader, no_chain};
 use crate::place::{Names, SystemPlace};
 use crate::progress::Progress;
 use crate::reading::{ShownReader, read_through};
@@ -21,7 +21,9 @@ use std::io::{Eprint, Read};
 use std::rt::Files;
 use std::time::Clock;
 use std::{fs, io};
-use tigertopo_files::{FileKind, FileSystem, Opener, Reading, Room, read_each, read_each_again};
+use tigertopo_files::{
+    FileKind, FileSystem, Opener, Reading, Reply, Room, read_each, read_each_again,
+};
 use tl_cert_output::Stop;
 use tl_record::{Meter, Source};
 
@@ -45,10 +47,6 @@ pub struct SystemFiles<'a, R> {
     // How many files of records are opened by the read that is under way, before the others, and how many of them are.
     records: usize,
     begun: Cell<usize>,
-    // Whether the lines of files of records are counted in the next read.
-    counts: bool,
-    // The lines of those that the last read opened, in their order, where they were counted.
-    lines: Vec<CountedLines>,
 }
 
 impl<'a, R: Files<File = File> + Clock + Eprint> SystemFiles<'a, R> {
@@ -63,8 +61,6 @@ impl<'a, R: Files<File = File> + Clock + Eprint> SystemFiles<'a, R> {
             note: no_chain(alloc),
             records: 0,
             begun: Cell::new(0),
-            counts: false,
-            lines: Vec::new(alloc),
         }
     }
 
@@ -78,42 +74,31 @@ impl<'a, R: Files<File = File> + Clock + Eprint> SystemFiles<'a, R> {
     {
         let file = File::open(self.rt, name)?;
         let progress = self.progress_of(alloc, name, &file);
-        let reader = self.noted(file)?;
-        Ok(Meter::new(ShownReader::new(reader, progress)))
+        Ok(Meter::new(ShownReader::new(self.noted(file), progress)))
     }
 
     // The reader of the file that is opened now, of whose lines that is noted which is to be, if it is one of records.
-    fn noted(&self, file: File) -> Result<NotedReader<File>, AllocError>
-        ensures { IfOk result (λ reader. ⟦<NotedReader<File> as Read>⟧.remaining reader ≡ ⟦<File as Read>⟧.remaining file) }
+    fn noted(&self, file: File) -> NotedReader<File>
+        ensures { ⟦<NotedReader<File> as Read>⟧.remaining result ≡ ⟦<File as Read>⟧.remaining file }
     {
         let place = self.begun.get();
         if place >= self.records {
-            return Ok(NotedReader::new(file, None, None));
+            return NotedReader::new(file, None);
         }
         self.begun.set(place + 1);
         let note = match &self.note {
             Some(note) => note.clone().ok(),
             None => None,
         };
-        let lines = match self.lines.get(place) {
-            Some(lines) => Some(lines.clone()?),
-            None => None,
-        };
-        Ok(NotedReader::new(file, note, lines))
+        NotedReader::new(file, note)
     }
 
-    // So many files of records are opened next. Their lines are counted where that was asked for.
-    fn begin(&mut self, alloc: Global, records: usize) -> Result<(), AllocError>
-        ensures records { OnOk result (self.new.records ≡ records) }
-        ensures lines { OnOk result (vec_len self.new.lines ≡ if self.old.counts then records else 0) }
-        ensures once { self.new.counts ≡ false }
+    // So many files of records are opened next.
+    fn begin(&mut self, records: usize)
+        ensures { self.new.records ≡ records }
     {
-        let counted = if self.counts { records } else { 0 };
-        self.counts = false;
-        self.lines = no_lines(alloc, counted)?;
         self.begun.set(0);
         self.records = records;
-        Ok(())
     }
 
     // How far the reading of this file is, where that is to be shown.
@@ -238,12 +223,13 @@ impl<'a, R: Files<File = File> + Clock + Eprint> FileSystem for SystemFiles<'a, 
         alloc: Global,
         names: &[String],
         single: Option<&String>,
+        counts: bool,
         reading: &Q,
-    ) -> Result<Q::Answer, Stop> {
-        self.begin(alloc, names.len())?;
-        let answer = read_each(self, alloc, names, single, reading);
+    ) -> Result<Reply<Q::Answer>, Stop> {
+        self.begin(names.len());
+        let reply = read_each(self, alloc, names, single, counts, reading);
         self.records = 0;
-        answer
+        reply
     }
 
     fn read_again<Q: Reading>(
@@ -294,14 +280,6 @@ impl<'a, R: Files<File = File> + Clock + Eprint> FileSystem for SystemFiles<'a, 
         if self.is_seen {
             self.last = Some(last);
         }
-    }
-
-    fn count_lines(&mut self) {
-        self.counts = true;
-    }
-
-    fn line_counts(&self, alloc: Global, names: &[String]) -> Result<Vec<u64>, AllocError> {
-        counts_of(alloc, self.lines.as_slice(), names.len())
     }
 
     fn room(

@@ -35,6 +35,7 @@ about_text (about.Records it) = about_records_text it
 about_text (about.Meet meet) =
     codes " " ++ segment_text meet.tlid meet.s ++ codes " " ++ segment_text meet.other meet.t ++ codes " at " ++ rational_text meet.at
 about_text (about.Darts node first next) = codes " at " ++ node_text node ++ codes " darts " ++ decimal first ++ codes " " ++ decimal next
+about_text (about.PolygonAlone k) = codes " polygon " ++ key_text k
 about_text (about.PolygonTlid k t) = codes " polygon " ++ key_text k ++ codes " tlid " ++ decimal t
 about_text (about.PolygonOther k other) = codes " polygon " ++ key_text k ++ codes " other " ++ key_text other
 about_text (about.Cells odds) =

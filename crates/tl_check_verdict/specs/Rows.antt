@@ -1,7 +1,6 @@
 -- What each fault of a map says: its code, its name, and what it is about. Of faults of the records it is said in `tl_map_rules`.
 use Rattle.std.specs.Prelude.{codes}
 use Rattle.tl_map_rules.specs.declared.rows.AboutRecords.{AboutRecords}
-use Rattle.tl_map_rules.specs.declared.rows.AboutRecords.TheVariants.{Polygon}
 use Rattle.tl_map_rules.specs.Rows.{Row, record_row, lacking_row}
 use Rattle.tl_check_inside.specs.declared.misplaced.Misplaced.{Misplaced}
 use Rattle.tl_check_inside.specs.declared.misplaced.Misplaced.TheVariants.{OnChain, Outside, InOther}
@@ -17,7 +16,7 @@ about_records row = (row.0, row.1, about.Records row.2)
 -- what a polygon's point that lies wrong says
 abbrev pub point_row : Misplaced → Row About
 point_row (OnChain k t) = (codes "G3", codes "PointOnChain", about.PolygonTlid k t)
-point_row (Outside k) = (codes "G4", codes "PointOutside", about.Records (Polygon k))
+point_row (Outside k) = (codes "G4", codes "PointOutside", about.PolygonAlone k)
 point_row (InOther k other) = (codes "G5", codes "PointInOther", about.PolygonOther k other)
 
 -- what a fault says

@@ -17,12 +17,14 @@ use tl_record_key::PolyKey;
 /// What a fault is about.
 #[derive(Clone, Copy)]
 pub enum About {
-    /// Records, or a polygon alone.
+    /// Records.
     Records(AboutRecords),
     /// Two segments, and where they meet.
     Meet(Meet),
     /// Two darts at a node.
     Darts { node: Point, first: u32, next: u32 },
+    /// A polygon alone, by its point.
+    PolygonAlone(PolyKey),
     /// A polygon, and a chain that its point is on.
     PolygonTlid(PolyKey, u64),
     /// A polygon, and another that its point is in.
@@ -67,8 +69,7 @@ fn point_row(misplaced: Misplaced) -> FaultRow<About>
             FaultRow::new("G3", "PointOnChain", About::PolygonTlid(polygon, tlid))
         }
         Misplaced::Outside { polygon } => {
-            let about = AboutRecords::Polygon(polygon);
-            FaultRow::new("G4", "PointOutside", About::Records(about))
+            FaultRow::new("G4", "PointOutside", About::PolygonAlone(polygon))
         }
         Misplaced::InOther { polygon, other } => {
             FaultRow::new("G5", "PointInOther", About::PolygonOther(polygon, other))
@@ -95,6 +96,7 @@ impl fmt::Display for About {
             About::Darts { node, first, next } => {
                 write!(f, " at {} {} darts {first} {next}", node.x, node.y)
             }
+            About::PolygonAlone(polygon) => write!(f, " polygon {polygon}"),
             About::PolygonTlid(polygon, tlid) => write!(f, " polygon {polygon} tlid {tlid}"),
             About::PolygonOther(polygon, other) => { write!(f, " polygon {polygon} other {other}") }
             About::Cells(odds) => write!(

@@ -36,7 +36,7 @@ use Rattle.tl_list.specs.declared.left.LeftFaults.{LeftFaults}
 use Rattle.tl_list.specs.declared.noted.NotedLines.{NotedLines}
 use Rattle.tl_list.specs.Noting.{IfRefused, WhereTold, NotesLines}
 use Rattle.tl_list.specs.Keeping.OfRecords.{IsListingOfRecords}
-use Rattle.tl_list.specs.Keeping.Noting.{bytes_of, front_among, no_front, NotesFronts, NotesSoFar}
+use Rattle.tl_list.specs.Keeping.Noting.{bytes_of, no_front, NotesFronts, NotesSoFar}
 
 -- ---- records
 
@@ -78,25 +78,26 @@ notes_all notes (Some all) now new skipped entries gives before = λ on.
 
 -- ---- the first bytes of refused lines
 
-pub fronts_none : (notes : Bool) (lines : Option (List (List ℕ))) (fronts : List (Vec ℕ Global)) → fronts ≡ [] → NotesFronts notes lines [] fronts
+pub fronts_none : (notes : Bool) (known : Option (List ℕ)) (fronts : List (Vec ℕ Global)) → fronts ≡ [] → NotesFronts notes known [] fronts
 fronts_none notes None fronts is = λ on. tt
-fronts_none notes (Some lines) fronts is = λ on. ap bytes_of is
+fronts_none notes (Some text) fronts is = λ on. ap bytes_of is
 
-few_front : (lines : List (List ℕ)) (line : ℕ) (cause : Cause) → line ≤ most_lines
-    → front_among lines (record { line = line; cause = cause }) ≡ take most_line_bytes (slice_index_or lines (line - 1) [])
-few_front lines line cause few = rw (le-leb line most_lines few) refl
+few_front : (text : List ℕ) (line : ℕ) (cause : Cause) → line ≤ most_lines
+    → front_in text (record { line = line; cause = cause }) ≡ take most_line_bytes (slice_index_or (raw_lines text) (line - 1) [])
+few_front text line cause few = rw (le-leb line most_lines few) refl
 
-pub fronts_more : (notes : Bool) (lines ahead : Option (List (List ℕ))) (count line : ℕ) (cause : Cause) (list : List Refusal) (old new : List (Vec ℕ Global)) (front : List ℕ)
-    → PassesLines count lines ahead → IsFront ahead front → line ≡ count + 1 → line ≤ most_lines → NotesFronts notes lines list old
-    → (notes ≡ true → bytes_of new ≡ bytes_of old ++ front ∷ []) → NotesFronts notes lines (list ++ record { line = line; cause = cause } ∷ []) new
+pub fronts_more : (notes : Bool) (known : Option (List ℕ)) (ahead : Option (List (List ℕ))) (count line : ℕ) (cause : Cause) (list : List Refusal) (old new : List (Vec ℕ Global)) (front : List ℕ)
+    → PassesLines count (option_map raw_lines known) ahead → IsFront ahead front → line ≡ count + 1 → line ≤ most_lines → NotesFronts notes known list old
+    → (notes ≡ true → bytes_of new ≡ bytes_of old ++ front ∷ []) → NotesFronts notes known (list ++ record { line = line; cause = cause } ∷ []) new
 fronts_more notes None ahead count line cause list old new front passes is number few before added = λ on. tt
-fronts_more notes (Some lines) ahead count line cause list old new front passes is number few before added = λ on.
+fronts_more notes (Some text) ahead count line cause list old new front passes is number few before added = λ on.
+    let lines = raw_lines text in
     let shown : front ≡ take most_line_bytes (slice_index_or (drop count lines) 0 []) = rw passes at is in
     let place : line - 1 ≡ count + 0 = omega (arith, number) in
-    let told : front ≡ front_among lines (record { line = line; cause = cause }) =
-    shown ∙ ap (take most_line_bytes) (get_or-drop count lines 0 []) ∙ ap (λ k. take most_line_bytes (slice_index_or lines k [])) (sym place) ∙ sym (few_front lines line cause few) in
-    added on ∙ ap (λ (l : List (List ℕ)). l ++ front ∷ []) (before on) ∙ ap (λ (f : List ℕ). map (front_among lines) list ++ f ∷ []) told
-    ∙ sym (map-append (front_among lines) list (record { line = line; cause = cause } ∷ []))
+    let told : front ≡ front_in text (record { line = line; cause = cause }) =
+    shown ∙ ap (take most_line_bytes) (get_or-drop count lines 0 []) ∙ ap (λ k. take most_line_bytes (slice_index_or lines k [])) (sym place) ∙ sym (few_front text line cause few) in
+    added on ∙ ap (λ (l : List (List ℕ)). l ++ front ∷ []) (before on) ∙ ap (λ (f : List ℕ). map (front_in text) list ++ f ∷ []) told
+    ∙ sym (map-append (front_in text) list (record { line = line; cause = cause } ∷ []))
 
 -- nothing more, of one more line
 none_more : (items : List Refusal) (i : ℕ) → i < length items → map no_front (take (suc i) items) ≡ map no_front (take i items) ++ [] ∷ []
@@ -138,19 +139,19 @@ refused_rise layout before (line ∷ lines) list is = go (refused_rise layout (b
         let behind : map pair_of rest ≡ refusals_of_lines layout (before + 1) lines = cc in
         (omega (arith, number), rise_later refusal.line (before + 1) rest (omega (arith, number)) (deeper rest behind))
 
-many_front : (lines : List (List ℕ)) (refusal : Refusal) → most_lines < refusal.line → front_among lines refusal ≡ []
-many_front lines refusal many =
+many_front : (text : List ℕ) (refusal : Refusal) → most_lines < refusal.line → front_in text refusal ≡ []
+many_front text refusal many =
     elim (cases_Bool (let is : Bool = nat_le refusal.line most_lines in is)) [
       | inl is ↦ let few = leb-true refusal.line most_lines is in absurd (omega (arith, few, many))
       | inr is ↦ rw is refl
     ]
 
-none_beyond : (lines : List (List ℕ)) (before : ℕ) (list : List Refusal) → most_lines ≤ before → RiseFrom before list
-    → map (front_among lines) list ≡ map no_front list
-none_beyond lines before [] many rise = refl
-none_beyond lines before (refusal ∷ rest) many rise =
-    let here = many_front lines refusal (omega (arith, many, rise.0)) in
-    let behind = none_beyond lines refusal.line rest (omega (arith, many, rise.0)) rise.1 in
+none_beyond : (text : List ℕ) (before : ℕ) (list : List Refusal) → most_lines ≤ before → RiseFrom before list
+    → map (front_in text) list ≡ map no_front list
+none_beyond text before [] many rise = refl
+none_beyond text before (refusal ∷ rest) many rise =
+    let here = many_front text refusal (omega (arith, many, rise.0)) in
+    let behind = none_beyond text refusal.line rest (omega (arith, many, rise.0)) rise.1 in
     rw (here, behind) refl
 
 behind_rise : (before : ℕ) (front : List Refusal) (stop : Refusal) (behind : List Refusal) → RiseFrom before (front ++ stop ∷ behind) → RiseFrom stop.line behind
@@ -163,23 +164,22 @@ pub first_refusals : {R : Type 0} (remaining : R → Option (List ℕ)) (reader 
 first_refusals remaining reader reading none = rw (reading, none) refl
 
 -- behind a line beyond the greatest number there is no other, and none has first bytes that are told
-pub fronts_end : (notes : Bool) (layout : Layout) (text : Option (List ℕ)) (front behind all : List Refusal) (stop : Refusal) (old new : List (Vec ℕ Global))
-    → IfSome (refused layout 0 text) (λ rs. ListsAll rs all) → all ≡ (front ++ stop ∷ []) ++ behind → most_lines < stop.line → NotesFronts notes (option_map raw_lines text) front old
+pub fronts_end : (notes : Bool) (layout : Layout) (known : Option (List ℕ)) (front behind all : List Refusal) (stop : Refusal) (old new : List (Vec ℕ Global))
+    → IfSome (refused layout 0 known) (λ rs. ListsAll rs all) → all ≡ (front ++ stop ∷ []) ++ behind → most_lines < stop.line → NotesFronts notes known front old
     → (notes ≡ true → bytes_of new ≡ bytes_of old ++ map no_front (drop (length old) all))
-    → NotesFronts notes (option_map raw_lines text) all new
+    → NotesFronts notes known all new
 fronts_end notes layout None front behind all stop old new lists split many before added = λ on. tt
 fronts_end notes layout (Some text) front behind all stop old new lists split many before added = λ on.
-    let lines = raw_lines text in
     let whole : all ≡ front ++ stop ∷ behind = split ∙ append_assoc front (stop ∷ []) behind in
-    let size : length front ≡ length old = sym (length-map front (front_among lines)) ∙ sym (ap length (before on)) ∙ length-map old (λ (f : Vec ℕ Global). f.items) in
+    let size : length front ≡ length old = sym (length-map front (front_in text)) ∙ sym (ap length (before on)) ∙ length-map old (λ (f : Vec ℕ Global). f.items) in
     let rest : drop (length old) all ≡ stop ∷ behind = ap (drop (length old)) whole ∙ drop_at front (stop ∷ behind) (length old) size in
-    let rise = behind_rise 0 front stop behind (rw whole at (refused_rise layout 0 lines all lists)) in
-    let here = many_front lines stop many in
-    let later = none_beyond lines stop.line behind (omega (arith, many)) rise in
-    let told : map (front_among lines) (stop ∷ behind) ≡ map no_front (stop ∷ behind) = rw (here, later) refl in
+    let rise = behind_rise 0 front stop behind (rw whole at (refused_rise layout 0 (raw_lines text) all lists)) in
+    let here = many_front text stop many in
+    let later = none_beyond text stop.line behind (omega (arith, many)) rise in
+    let told : map (front_in text) (stop ∷ behind) ≡ map no_front (stop ∷ behind) = rw (here, later) refl in
     added on ∙ ap (λ (l : List Refusal). bytes_of old ++ map no_front l) rest ∙ ap (λ (l : List (List ℕ)). bytes_of old ++ l) (sym told)
-    ∙ ap (λ (l : List (List ℕ)). l ++ map (front_among lines) (stop ∷ behind)) (before on)
-    ∙ sym (map-append (front_among lines) front (stop ∷ behind)) ∙ ap (map (front_among lines)) (sym whole)
+    ∙ ap (λ (l : List (List ℕ)). l ++ map (front_in text) (stop ∷ behind)) (before on)
+    ∙ sym (map-append (front_in text) front (stop ∷ behind)) ∙ ap (map (front_in text)) (sym whole)
 
 -- ---- lines that are ahead of a reader
 
@@ -236,24 +236,36 @@ not_refused faces all (Sound report) P is = tt
 not_refused faces all (RefusedLines list) P is = absurd is
 not_refused faces all (Faults faults touched) P is = tt
 
+-- texts of the same lines have refused lines with the same first bytes
+front_alike : (other text : List ℕ) (refusal : Refusal) → raw_lines other ≡ raw_lines text → front_in other refusal ≡ front_in text refusal
+front_alike other text refusal same = rw same refl
+
+fronts_alike : (notes : Bool) (ahead known : Option (List ℕ)) (refused : List Refusal) (fronts : List (Vec ℕ Global)) → option_map raw_lines ahead ≡ option_map raw_lines known
+    → NotesFronts notes ahead refused fronts → NotesFronts notes known refused fronts
+fronts_alike notes ahead None refused fronts same noted = λ on. tt
+fronts_alike notes None (Some text) refused fronts same noted = absurd (let wrong = same in cc)
+fronts_alike notes (Some other) (Some text) refused fronts same noted = λ on.
+    let lines : raw_lines other ≡ raw_lines text = let one = same in cc in
+    noted on ∙ ap (λ (front : Refusal → List ℕ). map front refused) (λ i refusal. front_alike other text refusal lines i)
+
 -- where something is found of records
-pub noted_of : (layout : Layout) (notes : Bool) (known : Option (List ℕ)) (ahead : Option (List (List ℕ))) (came : Option Records) (refused : Vec Refusal Global) (noted : NotedLines) (found : Found)
-    → ahead ≡ option_map raw_lines known → came ≡ option_map (λ text. lines_read layout (left_of layout text)) known → NotesFronts notes ahead refused.items noted.fronts.items
-    → (notes ≡ true → IfSome came (λ all. all.entries ≡ noted.records.items)) → found.noted ≡ noted → IfRefused found.whole.listing (λ list. list ≡ refused)
+pub noted_of : (layout : Layout) (notes : Bool) (known ahead : Option (List ℕ)) (came : Option Records) (refused : Vec Refusal Global) (noted : NotedLines) (found : Found)
+    → option_map raw_lines ahead ≡ option_map raw_lines known → came ≡ option_map (λ text. lines_read layout (left_of layout text)) known → NotesFronts notes ahead refused.items noted.fronts.items
+    → (notes ≡ true → IfSome came (λ all. all.entries ≡ noted.records)) → found.noted ≡ noted → IfRefused found.whole.listing (λ list. list ≡ refused)
     → notes ≡ true → IfSome known (λ text. NotesLines layout text found)
 noted_of layout notes None ahead came refused noted found lines read fronts records same is on = tt
 noted_of layout notes (Some text) ahead came refused noted found lines read fronts records same is on =
-    let shown = (rw lines at fronts) on in
+    let shown = fronts_alike notes ahead (Some text) refused.items noted.fronts.items lines fronts on in
     let told = (rw read at records) on in
     record {
       fronts = if_refused found.whole.listing _ _ is
           (λ list one. ap (λ (n : NotedLines). bytes_of n.fronts.items) same ∙ shown ∙ ap (λ (v : Vec Refusal Global). map (front_in text) v.items) (sym one));
-      records = where_told found.whole.listing found.left _ (ap (λ (n : NotedLines). n.records.items) same ∙ sym told);
+      records = where_told found.whole.listing found.left _ (ap (λ (n : NotedLines). n.records) same ∙ sym told);
     }
 
 -- and of refused lines alone
-pub noted_alone : (layout : Layout) (notes : Bool) (known : Option (List ℕ)) (ahead : Option (List (List ℕ))) (refused : Vec Refusal Global) (noted : NotedLines)
-    → ahead ≡ option_map raw_lines known → NotesFronts notes ahead refused.items noted.fronts.items
+pub noted_alone : (layout : Layout) (notes : Bool) (known ahead : Option (List ℕ)) (refused : Vec Refusal Global) (noted : NotedLines)
+    → option_map raw_lines ahead ≡ option_map raw_lines known → NotesFronts notes ahead refused.items noted.fronts.items
     → notes ≡ true → IfSome known (λ text. NotesLines layout text (record { whole = record { listing = RefusedLines refused; map = None }; left = None; noted = noted }))
 noted_alone layout notes None ahead refused noted lines fronts on = tt
-noted_alone layout notes (Some text) ahead refused noted lines fronts on = record { fronts = (rw lines at fronts) on; records = tt }
+noted_alone layout notes (Some text) ahead refused noted lines fronts on = record { fronts = fronts_alike notes ahead (Some text) refused.items noted.fronts.items lines fronts on; records = tt }

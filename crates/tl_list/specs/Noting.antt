@@ -27,4 +27,4 @@ WhereTold (Faults faults touched) left holds = holds
 -- the first bytes of refused lines are noted; and where something is told of records, these are noted, with the numbers of their lines
 pub record NotesLines (layout : Layout) (text : List ℕ) (found : Found) : Type 0 where
   pub fronts : IfRefused found.whole.listing (λ list. map (λ front. front.items) found.noted.fronts.items ≡ map (front_in text) list.items)
-  pub records : WhereTold found.whole.listing found.left (found.noted.records.items ≡ (lines_read layout (left_of layout text)).entries)
+  pub records : WhereTold found.whole.listing found.left (found.noted.records ≡ (lines_read layout (left_of layout text)).entries)

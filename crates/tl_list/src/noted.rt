@@ -3,13 +3,14 @@
 ghost use Rattle.std.specs.Prelude.{◌≡◌, true, IfOk};
 
 use std::alloc::{AllocError, Global};
-use tl_record::{Record, Refusal};
+use tl_list_text::NotedRecords;
+use tl_record::Refusal;
 
 /// Records with the numbers of their lines, and the first bytes of refused lines.
 #[derive(Drop)]
 pub struct NotedLines {
     /// Each record with its line's number, counted from 1, in the order of the text: as it stands there, before chains are joined.
-    pub records: Vec<(u64, Record)>,
+    pub records: NotedRecords,
     /// The first bytes of each refused line, 1,024 at most, in the order of the text; of one beyond the greatest number of a line there
     /// are none.
     pub fronts: Vec<Vec<u8>>,
@@ -21,11 +22,11 @@ impl NotedLines {
 
     /// Nothing.
     pub(crate) fn new(alloc: Global) -> NotedLines
-        ensures records { result.records.items ≡ [] }
+        ensures records { result.records ≡ [] }
         ensures fronts { result.fronts.items ≡ [] }
     {
         NotedLines {
-            records: Vec::new(alloc),
+            records: NotedRecords::new(alloc),
             fronts: Vec::new(alloc),
         }
     }

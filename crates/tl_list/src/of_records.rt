@@ -70,7 +70,7 @@ pub fn list_faults<R: Source>(
 
 /// Lists all that is wrong with a county as [`list_faults`] does, and hands out the map of its records, where they have one. Where refused
 /// lines are skipped, it lists also all that is wrong with what is left without them, in the same pass, with the map of that. Where `notes`,
-/// it notes on which lines the records stand, which takes about 150 bytes for each, and how refused lines begin.
+/// it notes on which lines the records stand, which takes about 60 bytes for each, and how refused lines begin.
 pub fn list_with_map<R: Source>(
     alloc: Global,
     hasher: RandomState,

@@ -2,9 +2,7 @@
 
 ghost use Rattle.std.specs.Prelude.{◌≡◌, ⊤, IfOk, IfErr, OnOk, true};
 ghost use Rattle.tl_record.specs.declared.reader.Standing.TheVariants.{Reading};
-ghost use Rattle.tl_record.specs.Reader.{source_of, standing_of, lines_of, pending_of, refusals_to_come};
-ghost use Rattle.tl_record.specs.NextLine.{front_of};
-ghost use Rattle.tl_record.specs.Fronts.{lines_ahead};
+ghost use Rattle.tl_record.specs.Reader.{source_of, standing_of, lines_of, refusals_to_come, unjudged};
 ghost use Rattle.tl_record.specs.Leaving.{left_to_come};
 ghost use Rattle.tl_record.specs.Searching.{goes_on};
 ghost use Rattle.tl_record.specs.Leaving.{MayPass};
@@ -122,7 +120,7 @@ fn take_record(
     next: &Record,
 ) -> Result<(), AllocError>
     ensures taken { OnOk result (TakesOne taken.old taken.new next.now) }
-    ensures noted { OnOk result (NotesOne notes taken.old noted.old.records.items noted.new.records.items (line, next.now)) }
+    ensures noted { OnOk result (NotesOne notes taken.old noted.old.records noted.new.records (line, next.now)) }
     ensures fronts { noted.new.fronts ≡ noted.old.fronts }
 {
     let Some(kept) = taken else {
@@ -130,7 +128,7 @@ fn take_record(
     };
     kept.add(next)?;
     if notes {
-        noted.records.push((line, *next))?;
+        noted.records.push(line, next)?;
     }
     Ok(())
 }
@@ -202,8 +200,8 @@ fn take_all<R: Source>(
     requires reads { standing_of reader.old ≡ Reading }
     requires first { lines_of reader.old ≡ 0 }
     ensures read { IfOk result (λ lines. MayTake joins skips R.remaining reader.old reader.new lines.refused.items lines.taken) }
-    ensures fronts { IfOk result (λ lines. NotesFronts notes (lines_ahead R.remaining reader.old) lines.refused.items lines.noted.fronts.items) }
-    ensures records { IfOk result (λ lines. NotesRecords notes (left_to_come R.remaining reader.old) lines.taken lines.noted.records.items) }
+    ensures fronts { IfOk result (λ lines. NotesFronts notes (unjudged R.remaining reader.old) lines.refused.items lines.noted.fronts.items) }
+    ensures records { IfOk result (λ lines. NotesRecords notes (left_to_come R.remaining reader.old) lines.taken lines.noted.records) }
     ensures stops { IfErr result (StopsFor ⊤) }
     ensures failures { TellsDevice (R.failure_count (source_of reader.old))
         (R.failure_count (source_of reader.new)) result }
@@ -265,8 +263,8 @@ pub fn read_all<R: Source>(
     requires reads { standing_of reader.old ≡ Reading }
     requires first { lines_of reader.old ≡ 0 }
     ensures read { IfOk result (λ lines. MayRead joins skips R.remaining reader.old reader.new lines.refused.items lines.kept) }
-    ensures fronts { IfOk result (λ lines. NotesFronts notes (lines_ahead R.remaining reader.old) lines.refused.items lines.noted.fronts.items) }
-    ensures records { IfOk result (λ lines. NotesRecords notes (left_to_come R.remaining reader.old) lines.kept lines.noted.records.items) }
+    ensures fronts { IfOk result (λ lines. NotesFronts notes (unjudged R.remaining reader.old) lines.refused.items lines.noted.fronts.items) }
+    ensures records { IfOk result (λ lines. NotesRecords notes (left_to_come R.remaining reader.old) lines.kept lines.noted.records) }
     ensures stops { IfErr result (StopsFor ⊤) }
     ensures failures { TellsDevice (R.failure_count (source_of reader.old))
         (R.failure_count (source_of reader.new)) result }

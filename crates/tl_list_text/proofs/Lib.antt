@@ -1,3 +1,4 @@
 -- Lemmas on what is printed of listings.
 pub mod LineLemmas
 pub mod PrintLemmas
+pub mod NotedLemmas

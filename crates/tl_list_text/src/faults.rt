@@ -45,6 +45,10 @@ fn print_about<P: Page>(about: &About, page: &mut P)
         About::Records(about) => print_records(about, page),
         About::Meet(meet) => print_meet(meet, page),
         About::Darts { node, first, next } => print_darts(*node, *first, *next, page),
+        About::PolygonAlone(polygon) => {
+            page.add(b" polygon ");
+            print_key(*polygon, page);
+        }
         About::PolygonTlid(polygon, tlid) => {
             page.add(b" polygon ");
             print_key(*polygon, page);

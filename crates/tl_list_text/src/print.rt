@@ -86,8 +86,8 @@ fn print_refusal_lines<P: Page>(list: &[Refusal], page: &mut P)
     }
 }
 
-// A line for each fault.
-fn print_fault_lines<P: Page>(list: &[MapFault], page: &mut P)
+/// Prints a line for each fault.
+pub fn print_fault_lines<P: Page>(list: &[MapFault], page: &mut P)
     ensures { P.adds page.old page.new (lines map_fault_text list.now) }
 {
     for fault in list {

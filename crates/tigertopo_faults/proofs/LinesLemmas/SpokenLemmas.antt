@@ -3,31 +3,33 @@ use Rattle.std.proofs.Common.{◌≡◌, ℕ, ◌+◌, ◌<◌, ◌≤◌, List,
 use Rattle.std.proofs.lemmas.List.{drop_more, drop_all}
 use Rattle.tl_geom.specs.declared.rational.Rational.{Rational}
 use Rattle.tl_check_verdict.specs.declared.fault.MapFault.{MapFault}
-use Rattle.tl_check_verdict.specs.declared.fault.MapFault.TheVariants.{Records, NoRecords, Meet, Side, PolygonPoint, Cell, Face}
+use Rattle.tl_check_verdict.specs.declared.rows.About.{About}
+use Rattle.tl_check_verdict.specs.declared.rows.About.TheVariants.{Records, Meet, Darts, PolygonAlone, PolygonTlid, PolygonOther, Cells, Faces}
 use Rattle.tl_check_planar.specs.declared.meet.Meet.{Meet as TheMeet}
 use Rattle.tl_map_county.specs.TheMap.{MapChain}
 use Rattle.tigertopo_faults.specs.declared.records.subject.Subject.{Subject}
 use Rattle.tigertopo_faults.specs.declared.records.line.RecordLine.{RecordLine}
-use Rattle.tigertopo_faults.specs.Records.SpokenOf.{Subjects, subjects_of}
+use Rattle.tigertopo_faults.specs.Records.SpokenOf.{Subjects, subjects_about}
 use Rattle.tigertopo_faults.specs.Lines.Places.{place_at}
 use Rattle.tigertopo_faults.specs.Lines.Texts.{lines_for, placed_fault_text, placed_faults_text, record_line_text, record_lines_text, spoken_of}
 
--- of a fault of no segments, the records about its subjects
-pub spoken_other : (chains : List MapChain) (about : Subject → List RecordLine) (fault : MapFault) → ((meet : TheMeet) → fault ≡ Meet meet → ⊥)
-    → spoken_of chains about fault ≡ (lines_for about (subjects_of chains fault).0, lines_for about (subjects_of chains fault).1)
-spoken_other chains about (Records fault) other = refl
-spoken_other chains about (NoRecords lacking) other = refl
+-- of what is about no segments, the records about its subjects
+pub spoken_other : (chains : List MapChain) (about : Subject → List RecordLine) (it : About) → ((meet : TheMeet) → it ≡ Meet meet → ⊥)
+    → spoken_of chains about it ≡ (lines_for about (subjects_about chains it).0, lines_for about (subjects_about chains it).1)
+spoken_other chains about (Records it) other = refl
 spoken_other chains about (Meet meet) other = absurd (other meet refl)
-spoken_other chains about (Side node first next) other = refl
-spoken_other chains about (PolygonPoint misplaced) other = refl
-spoken_other chains about (Cell odds) other = refl
-spoken_other chains about (Face fault) other = refl
+spoken_other chains about (Darts node first next) other = refl
+spoken_other chains about (PolygonAlone key) other = refl
+spoken_other chains about (PolygonTlid key tlid) other = refl
+spoken_other chains about (PolygonOther key second) other = refl
+spoken_other chains about (Cells odds) other = refl
+spoken_other chains about (Faces fault) other = refl
 
 -- so they are these, where these are about its subjects
-pub spoken_parts : (chains : List MapChain) (about : Subject → List RecordLine) (fault : MapFault) (subjects : Subjects) (first second : List RecordLine) → ((meet : TheMeet) → fault ≡ Meet meet → ⊥)
-    → subjects ≡ subjects_of chains fault → first ≡ lines_for about subjects.0 → second ≡ lines_for about subjects.1 → (first, second) ≡ spoken_of chains about fault
-spoken_parts chains about fault subjects first second other is one two =
-    (λ i. (one i, two i)) ∙ ap (λ (s : Subjects). (lines_for about s.0, lines_for about s.1)) is ∙ sym (spoken_other chains about fault other)
+pub spoken_parts : (chains : List MapChain) (about : Subject → List RecordLine) (it : About) (subjects : Subjects) (first second : List RecordLine) → ((meet : TheMeet) → it ≡ Meet meet → ⊥)
+    → subjects ≡ subjects_about chains it → first ≡ lines_for about subjects.0 → second ≡ lines_for about subjects.1 → (first, second) ≡ spoken_of chains about it
+spoken_parts chains about it subjects first second other is one two =
+    (λ i. (one i, two i)) ∙ ap (λ (s : Subjects). (lines_for about s.0, lines_for about s.1)) is ∙ sym (spoken_other chains about it other)
 
 -- the line of a record before those behind it
 pub line_next : (names : List (List ℕ)) (counts : List ℕ) (at : Option Rational) (lines : List RecordLine) (i : ℕ) (d : RecordLine) → i < length lines

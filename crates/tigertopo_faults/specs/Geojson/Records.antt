@@ -4,7 +4,7 @@ use Rattle.std.specs.Option.{option_map_or}
 use Rattle.tl_record.specs.declared.record.Record.{Record}
 use Rattle.tl_record.specs.declared.record.Record.TheVariants.{Chain, Shape, Sides, PolyPoint, Landmark, AreaLink}
 use Rattle.tl_map_county.specs.TheMap.{MapChain}
-use Rattle.tl_check_verdict.specs.declared.fault.MapFault.{MapFault}
+use Rattle.tl_check_verdict.specs.declared.rows.About.{About}
 use Rattle.tigertopo_faults.specs.Places.LinePlaces.{place_of}
 use Rattle.tigertopo_faults.specs.declared.records.line.RecordLine.{RecordLine}
 use Rattle.tigertopo_faults.specs.declared.records.subject.Subject.{Subject}
@@ -59,8 +59,8 @@ record_text names counts line =
     codes "{\"file\":" ++ line_text names counts line.line ++ codes ",\"type\":\"" ++ type_text line.holds ++ codes "\"" ++ ends_text line.ends ++ codes "}"
 
 -- the records that a fault speaks of, one after the other
-abbrev pub spoken_lines : List MapChain → (Subject → List RecordLine) → MapFault → List RecordLine
-spoken_lines chains about fault = (spoken_of chains about fault).0 ++ (spoken_of chains about fault).1
+abbrev pub spoken_lines : List MapChain → (Subject → List RecordLine) → About → List RecordLine
+spoken_lines chains about it = (spoken_of chains about it).0 ++ (spoken_of chains about it).1
 
 -- a list of records
 unfoldable pub records_text : List (List ℕ) → List ℕ → List RecordLine → List ℕ

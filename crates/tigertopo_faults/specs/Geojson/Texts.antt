@@ -41,7 +41,7 @@ fault_text names counts chains about at fault =
     codes "{\"type\":\"Feature\",\"geometry\":" ++ geometry_text at
     ++ codes ",\"properties\":{" ++ words_text (row fault)
     ++ codes ",\"at\":" ++ exact_text at
-    ++ codes "," ++ names_text chains (row fault).2 ++ records_text names counts (spoken_lines chains about fault) ++ codes "}}"
+    ++ codes "," ++ names_text chains (row fault).2 ++ records_text names counts (spoken_lines chains about (row fault).2) ++ codes "}}"
 
 -- the fault with this number, at the place with it
 abbrev pub fault_feature : List (List ℕ) → List ℕ → List MapChain → (Subject → List RecordLine) → List (Option Rational) → List MapFault → ℕ → List ℕ

@@ -9,11 +9,11 @@ use Rattle.tl_map_county.specs.declared.polygons.Polygon.{Polygon}
 use Rattle.tl_map_county.specs.TheMap.{TheMap}
 use Rattle.tl_map_county.specs.Darts.{dart_start}
 use Rattle.tl_map_rules.specs.MapOf.{same_key}
-use Rattle.tl_check_inside.specs.declared.misplaced.Misplaced.{Misplaced}
-use Rattle.tl_check_inside.specs.declared.misplaced.Misplaced.TheVariants.{OnChain, Outside, InOther}
 use Rattle.tl_check_faces.specs.declared.fault.FaceFault.TheVariants.{Facing, Outward}
 use Rattle.tl_check_verdict.specs.declared.fault.MapFault.{MapFault}
-use Rattle.tl_check_verdict.specs.declared.fault.MapFault.TheVariants.{Records, NoRecords, Meet, Side, PolygonPoint, Cell, Face}
+use Rattle.tl_check_verdict.specs.declared.rows.About.{About}
+use Rattle.tl_check_verdict.specs.declared.rows.About.TheVariants.{Records, Meet, Darts, PolygonAlone, PolygonTlid, PolygonOther, Cells, Faces}
+use Rattle.tl_check_verdict.specs.Rows.{row}
 use Rattle.tigertopo_faults.specs.Records.SpokenOf.{chains_of}
 
 -- the polygons of a map, where there is one
@@ -26,23 +26,26 @@ abbrev pub point_of_key : List Polygon → PolyKey → Option Point
 point_of_key [] key = None
 point_of_key (polygon ∷ rest) key = if same_key polygon.key key then Some polygon.point else point_of_key rest key
 
--- the polygon whose point lies wrong
-abbrev pub polygon_of : Misplaced → PolyKey
-polygon_of (OnChain polygon tlid) = polygon
-polygon_of (Outside polygon) = polygon
-polygon_of (InOther polygon other) = polygon
+-- where a polygon's point lies on the map
+abbrev pub place_of_point : Option TheMap → PolyKey → Option Rational
+place_of_point drawn key = option_map whole (point_of_key (polygons_of drawn) key)
 
--- where a fault lies on the map that the records draw: where two segments meet, at a node, at a polygon's point, where a dart starts, on
+-- where a fault lies, by what it is about, on the map that the records draw: where two segments meet, at a node, at a polygon's point, where a dart starts, on
 -- the first of two segments that face one another; a fault of the records alone has no place
+abbrev pub place_about : Option TheMap → About → Option Rational
+place_about drawn (Records it) = None
+place_about drawn (Meet meet) = Some meet.at
+place_about drawn (Darts node first next) = Some (whole node)
+place_about drawn (PolygonAlone key) = place_of_point drawn key
+place_about drawn (PolygonTlid key tlid) = place_of_point drawn key
+place_about drawn (PolygonOther key other) = place_of_point drawn key
+place_about drawn (Cells odds) = option_map whole (dart_start (chains_of drawn) odds.first)
+place_about drawn (Faces (Facing first last)) = Some first.at
+place_about drawn (Faces (Outward face way)) = Some face.at
+
+-- where a fault lies
 abbrev pub fault_place : Option TheMap → MapFault → Option Rational
-fault_place drawn (Records fault) = None
-fault_place drawn (NoRecords lacking) = None
-fault_place drawn (Meet meet) = Some meet.at
-fault_place drawn (Side node first next) = Some (whole node)
-fault_place drawn (PolygonPoint misplaced) = option_map whole (point_of_key (polygons_of drawn) (polygon_of misplaced))
-fault_place drawn (Cell odds) = option_map whole (dart_start (chains_of drawn) odds.first)
-fault_place drawn (Face (Facing first last)) = Some first.at
-fault_place drawn (Face (Outward face way)) = Some face.at
+fault_place drawn fault = place_about drawn (row fault).2
 
 -- the place with this number, where there is one
 abbrev pub place_at : List (Option Rational) → ℕ → Option Rational

@@ -8,7 +8,9 @@ use Rattle.tl_record.specs.declared.record.Record.TheVariants.{Chain, Shape, Sid
 use Rattle.tl_map_county.specs.TheMap.{MapChain}
 use Rattle.tl_cert_output.specs.Writing.{line_of}
 use Rattle.tl_check_verdict.specs.declared.fault.MapFault.{MapFault}
-use Rattle.tl_check_verdict.specs.declared.fault.MapFault.TheVariants.{Meet}
+use Rattle.tl_check_verdict.specs.declared.rows.About.{About}
+use Rattle.tl_check_verdict.specs.declared.rows.About.TheVariants.{Meet}
+use Rattle.tl_check_verdict.specs.Rows.{row}
 use Rattle.tl_check_verdict.specs.Messages.{map_fault_text}
 use Rattle.tigertopo_faults.specs.Places.LinePlaces.{place_of}
 use Rattle.tigertopo_faults.specs.Places.Degrees.{is_in_reach, location_text}
@@ -19,7 +21,7 @@ use Rattle.tigertopo_faults.specs.declared.records.line.Part.TheVariants.{Start,
 use Rattle.tigertopo_faults.specs.declared.records.subject.Subject.{Subject}
 use Rattle.tigertopo_faults.specs.declared.records.subject.Subject.TheVariants.{Drawn}
 use Rattle.tigertopo_faults.specs.Records.Ends.{segment_lines, segment_within}
-use Rattle.tigertopo_faults.specs.Records.SpokenOf.{subjects_of}
+use Rattle.tigertopo_faults.specs.Records.SpokenOf.{subjects_about}
 use Rattle.tigertopo_faults.specs.Lines.Places.{place_at}
 use Rattle.tigertopo_words.specs.Names.{shown_name}
 use Rattle.tigertopo_words.specs.declared.budget.Told.{Told}
@@ -87,20 +89,20 @@ lines_for about (Some subject) = about subject
 abbrev pub segment_spoken : List MapChain → (Subject → List RecordLine) → ℕ → ℕ → List RecordLine
 segment_spoken chains about tlid segment = segment_lines (about (Drawn tlid)) (segment_within chains segment)
 
--- the records that a fault speaks of: those about its first subject and those about its second; of two segments that meet those that
--- hold their ends
-abbrev pub spoken_of : List MapChain → (Subject → List RecordLine) → MapFault → List RecordLine × List RecordLine
+-- the records that a fault speaks of, by what it is about: those about its first subject and those about its second; of two segments that
+-- meet those that hold their ends
+abbrev pub spoken_of : List MapChain → (Subject → List RecordLine) → About → List RecordLine × List RecordLine
 spoken_of chains about (Meet meet) = (segment_spoken chains about meet.tlid meet.s, segment_spoken chains about meet.other meet.t)
-spoken_of chains about fault = (lines_for about (subjects_of chains fault).0, lines_for about (subjects_of chains fault).1)
+spoken_of chains about it = (lines_for about (subjects_about chains it).0, lines_for about (subjects_about chains it).1)
 
 -- the lines of the records that a fault at this place speaks of
-abbrev pub spoken_text : List (List ℕ) → List ℕ → List MapChain → (Subject → List RecordLine) → Option Rational → MapFault → List ℕ
-spoken_text names counts chains about at fault =
-    record_lines_text names counts at (spoken_of chains about fault).0 ++ record_lines_text names counts at (spoken_of chains about fault).1
+abbrev pub spoken_text : List (List ℕ) → List ℕ → List MapChain → (Subject → List RecordLine) → Option Rational → About → List ℕ
+spoken_text names counts chains about at it =
+    record_lines_text names counts at (spoken_of chains about it).0 ++ record_lines_text names counts at (spoken_of chains about it).1
 
 -- a fault, and the records that it speaks of
 abbrev pub placed_fault_text : List (List ℕ) → List ℕ → List MapChain → (Subject → List RecordLine) → Option Rational → MapFault → List ℕ
-placed_fault_text names counts chains about at fault = line_of (map_fault_text fault) ++ spoken_text names counts chains about at fault
+placed_fault_text names counts chains about at fault = line_of (map_fault_text fault) ++ spoken_text names counts chains about at (row fault).2
 
 -- faults one after the other, each with its records; the first lies at the place with this number
 abbrev pub placed_faults_text : List (List ℕ) → List ℕ → List MapChain → (Subject → List RecordLine) → List (Option Rational) → ℕ → List MapFault → List ℕ

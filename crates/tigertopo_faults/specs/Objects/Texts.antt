@@ -25,7 +25,7 @@ about_text chains about = codes ",\"about\":{" ++ names_text chains about ++ det
 unfoldable pub object_text : List (List ℕ) → List ℕ → List MapChain → (Subject → List RecordLine) → Option Rational → MapFault → List ℕ
 object_text names counts chains about at fault =
     codes "{\"is\":\"fault\"," ++ words_text (row fault) ++ about_text chains (row fault).2 ++ codes ",\"place\":" ++ place_text at
-    ++ records_text names counts (spoken_lines chains about fault) ++ codes "}\n"
+    ++ records_text names counts (spoken_lines chains about (row fault).2) ++ codes "}\n"
 
 -- the fault with this number, at the place with it
 abbrev pub fault_object : List (List ℕ) → List ℕ → List MapChain → (Subject → List RecordLine) → List (Option Rational) → List MapFault → ℕ → List ℕ

@@ -69,7 +69,7 @@ abbrev pub subjects_of_faces : FaceFault → Subjects
 subjects_of_faces (Facing first last) = sides_of_darts (Some first.tlid) (Some last.tlid)
 subjects_of_faces (Outward face way) = (Some (subject.Sides face.tlid), None)
 
--- what a fault of records, or of a polygon alone, speaks of
+-- what a fault of records speaks of
 abbrev pub subject_about : AboutRecords → Option Subject
 subject_about (which.Tlid t records) = Some (subject_in records t)
 subject_about (which.Polygon k) = Some (subject.Polygon k)
@@ -84,6 +84,7 @@ abbrev pub subjects_about : List MapChain → About → Subjects
 subjects_about chains (about.Records it) = (subject_about it, None)
 subjects_about chains (about.Meet meet) = (Some (subject.Drawn meet.tlid), option_map subject.Drawn (other_tlid (Some meet.tlid) (Some meet.other)))
 subjects_about chains (about.Darts node first next) = sides_of_darts (tlid_of chains first) (tlid_of chains next)
+subjects_about chains (about.PolygonAlone k) = (Some (subject.Polygon k), None)
 subjects_about chains (about.PolygonTlid k t) = (Some (subject.Polygon k), Some (subject.Drawn t))
 subjects_about chains (about.PolygonOther k other) = (Some (subject.Polygon k), Some (subject.Polygon other))
 subjects_about chains (about.Cells odds) = sides_of_darts (tlid_of chains odds.first) (tlid_of chains odds.second)

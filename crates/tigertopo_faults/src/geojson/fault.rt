@@ -15,7 +15,7 @@ use crate::geojson::place::{print_exact, print_geometry};
 use crate::geojson::record::print_records;
 use crate::geojson::words::print_words;
 use crate::lines::{lines_for, place_at, segment_spoken};
-use crate::records::{RecordLines, subjects_of};
+use crate::records::{RecordLines, subjects_about};
 use tigertopo_pictures::geojson::{print_key, print_lead};
 use tl_cert_output::Page;
 use tl_check_verdict::{About, MapFault, row};
@@ -64,8 +64,9 @@ fn print_fault<P: Page>(
     page.add(b",\"at\":");
     print_exact(at, page);
     page.add(b",");
-    print_names(drawn, &row(fault).about, page);
-    print_spoken(names, counts, drawn, lines, fault, page);
+    let about = row(fault).about;
+    print_names(drawn, &about, page);
+    print_spoken(names, counts, drawn, lines, &about, page);
     page.add(b"}}");
 }
 
@@ -130,24 +131,24 @@ fn print_keys<P: Page>(keys: (Option<PolyKey>, Option<PolyKey>), page: &mut P)
     }
 }
 
-/// Prints the records that a fault speaks of.
+/// Prints the records that a fault speaks of, by what it is about.
 pub fn print_spoken<P: Page>(
     names: &[String],
     counts: &[u64],
     drawn: Option<&Map>,
     lines: &RecordLines,
-    fault: &MapFault,
+    about: &About,
     page: &mut P,
 )
     ensures { P.adds page.old page.new (records_text
-        (map string_bytes names.now) counts.now (spoken_lines (chains_of (option_copied drawn.entry)) (held lines.now) fault.now)) }
+        (map string_bytes names.now) counts.now (spoken_lines (chains_of (option_copied drawn.entry)) (held lines.now) about.now)) }
 {
-    if let MapFault::Meet(meet) = fault {
+    if let About::Meet(meet) = about {
         let first = segment_spoken(drawn, lines, meet.tlid, meet.s);
         let second = segment_spoken(drawn, lines, meet.other, meet.t);
         return print_records(names, counts, first.as_slice(), second.as_slice(), page);
     }
-    let (first, second) = subjects_of(drawn, fault);
+    let (first, second) = subjects_about(drawn, about);
     print_records(
         names,
         counts,

@@ -25,7 +25,7 @@ pub fn tlids_of(map: Option<&Map>, about: &About) -> (Option<u64>, Option<u64>)
             each_once(Some(first.tlid), Some(last.tlid))
         }
         About::Faces(FaceFault::Outward { face, .. }) => (Some(face.tlid), None),
-        About::PolygonOther(_, _) => (None, None),
+        About::PolygonAlone(_) | About::PolygonOther(_, _) => (None, None),
     }
 }
 
@@ -55,7 +55,7 @@ pub fn keys_of(about: &About) -> (Option<PolyKey>, Option<PolyKey>)
 {
     match about {
         About::Records(records) => (key_about(records), None),
-        About::PolygonTlid(polygon, _) => (Some(*polygon), None),
+        About::PolygonAlone(polygon) | About::PolygonTlid(polygon, _) => (Some(*polygon), None),
         About::PolygonOther(polygon, other) => (Some(*polygon), Some(*other)),
         About::Faces(FaceFault::Facing { first, last }) => (first.polygon, last.polygon),
         About::Faces(FaceFault::Outward { face, .. }) => (face.polygon, None),
@@ -63,7 +63,7 @@ pub fn keys_of(about: &About) -> (Option<PolyKey>, Option<PolyKey>)
     }
 }
 
-// The key that is named where a fault is of records, or of a polygon alone.
+// The key that is named where a fault is of records.
 fn key_about(records: &AboutRecords) -> Option<PolyKey>
     ensures { result ≡ key_about records.now }
 {

@@ -4,15 +4,14 @@ ghost use Rattle.std.specs.Prelude.{◌≡◌, IfOk, map as map_list, option_cop
 ghost use Rattle.tl_geom.specs.Plane.{whole};
 ghost use Rattle.tl_map_county.specs.Darts.{dart_start};
 ghost use Rattle.tigertopo_faults.specs.Records.SpokenOf.{chains_of};
-ghost use Rattle.tigertopo_faults.specs.Lines.Places.{fault_place, place_at, point_of_key, polygon_of, polygons_of};
+ghost use Rattle.tigertopo_faults.specs.Lines.Places.{fault_place, place_about, place_at, point_of_key, polygons_of};
 ghost use Rattle.tigertopo_faults.specs.Lines.Keyed.{IsIndexOf};
 
 use indexmap::IndexMap;
 use std::alloc::{AllocError, Global};
 use std::hash::RandomState;
 use tl_check_faces::FaceFault;
-use tl_check_inside::Misplaced;
-use tl_check_verdict::MapFault;
+use tl_check_verdict::{About, MapFault, row};
 use tl_geom::{Point, Rational};
 use tl_map_county::Map;
 use tl_record::PolyKey;
@@ -34,7 +33,7 @@ pub fn fault_places(
     let points = index_points(alloc, hasher, map)?;
     let mut places = Vec::with_capacity(alloc, faults.len())?;
     for fault in faults {
-        places.push(fault_place(map, &points, fault))?;
+        places.push(place_about(map, &points, &row(fault).about))?;
     }
     Ok(places)
 }
@@ -50,25 +49,25 @@ pub fn place_at(places: &[Option<Rational>], number: usize) -> Option<Rational>
     }
 }
 
-// Where a fault lies.
-fn fault_place(
+// Where a fault lies, by what it is about.
+fn place_about(
     map: Option<&Map>,
     points: &IndexMap<PolyKey, Point, RandomState>,
-    fault: &MapFault,
+    about: &About,
 ) -> Option<Rational>
     requires { IsIndexOf (polygons_of (option_copied map)) points.now }
-    ensures { result ≡ fault_place (option_copied map.entry) fault.now }
+    ensures { result ≡ place_about (option_copied map.entry) about.now }
 {
-    match fault {
-        MapFault::Records(_) | MapFault::NoRecords(_) => None,
-        MapFault::Meet(meet) => Some(meet.at),
-        MapFault::Side { node, .. } => Some(Rational::from(*node)),
-        MapFault::PolygonPoint(misplaced) => {
-            whole_of(point_of(map, points, polygon_of(misplaced)))
-        }
-        MapFault::Cell(odds) => whole_of(start_of(map, odds.first)),
-        MapFault::Face(FaceFault::Facing { first, .. }) => Some(first.at),
-        MapFault::Face(FaceFault::Outward { face, .. }) => Some(face.at),
+    match about {
+        About::Records(_) => None,
+        About::Meet(meet) => Some(meet.at),
+        About::Darts { node, .. } => Some(Rational::from(*node)),
+        About::PolygonAlone(polygon)
+        | About::PolygonTlid(polygon, _)
+        | About::PolygonOther(polygon, _) => whole_of(point_of(map, points, *polygon)),
+        About::Cells(odds) => whole_of(start_of(map, odds.first)),
+        About::Faces(FaceFault::Facing { first, .. }) => Some(first.at),
+        About::Faces(FaceFault::Outward { face, .. }) => Some(face.at),
     }
 }
 
@@ -91,17 +90,6 @@ fn whole_of(point: Option<Point>) -> Option<Rational>
     match point {
         Some(point) => Some(Rational::from(point)),
         None => None,
-    }
-}
-
-// The polygon whose point lies wrong.
-fn polygon_of(misplaced: &Misplaced) -> PolyKey
-    ensures { result ≡ polygon_of misplaced.now }
-{
-    match *misplaced {
-        Misplaced::OnChain { polygon, .. }
-        | Misplaced::Outside { polygon }
-        | Misplaced::InOther { polygon, .. } => polygon,
     }
 }
 

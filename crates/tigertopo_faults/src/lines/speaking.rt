@@ -11,8 +11,8 @@ use std::alloc::{AllocError, Global};
 use std::hash::RandomState;
 use tl_check_verdict::MapFault;
 use tl_geom::Rational;
+use tl_list_text::NotedRecords;
 use tl_map_county::Map;
-use tl_record::Record;
 
 /// What faults speak of, in files.
 #[derive(Drop)]
@@ -47,7 +47,7 @@ pub fn speak_of(
     alloc: Global,
     hasher: RandomState,
     counts: Vec<u64>,
-    records: &[(u64, Record)],
+    records: &NotedRecords,
     drawn: Option<&Map>,
     faults: &[MapFault],
 ) -> Result<Spoken, AllocError>

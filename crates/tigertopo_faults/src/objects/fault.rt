@@ -50,10 +50,11 @@ fn print_object<P: Page>(
 {
     page.add(b"{\"is\":\"fault\",");
     print_words(fault, page);
-    print_about(drawn, &row(fault).about, page);
+    let about = row(fault).about;
+    print_about(drawn, &about, page);
     page.add(b",\"place\":");
     print_place(at, page);
-    print_spoken(names, counts, drawn, lines, fault, page);
+    print_spoken(names, counts, drawn, lines, &about, page);
     page.add(b"}\n");
 }
 

@@ -52,7 +52,7 @@ pub(crate) fn find_ahead<R: Source>(
 }
 
 /// The next line's first bytes, which stand at the front of the buffer. It isn't taken off.
-pub fn show_line<R: Source>(
+pub(crate) fn show_line<R: Source>(
     buffer: &mut LineBuffer<BLOCK>,
     source: &mut R,
 ) -> Result<Found, RefusalStop>
@@ -86,7 +86,7 @@ fn shown(len: usize) -> Found
 }
 
 /// Takes the next line off, and says whether there was one.
-pub fn pass_line<R: Source>(
+pub(crate) fn pass_line<R: Source>(
     buffer: &mut LineBuffer<BLOCK>,
     source: &mut R,
 ) -> Result<bool, RefusalStop>

@@ -7,6 +7,7 @@ use crate::records::subject::{Subject, subjects_naming};
 use indexmap::IndexSet;
 use std::alloc::{AllocError, Global};
 use std::hash::RandomState;
+use tl_list_text::NotedRecords;
 use tl_record::Record;
 
 /// Records with their lines, each under all wanted subjects that name it.
@@ -111,11 +112,12 @@ impl KeptLines {
     }
 
     /// Adds the lines of several records, one after the other.
-    pub fn note_all(&mut self, found: &[(u64, Record)]) -> Result<(), AllocError>
+    pub fn note_all(&mut self, found: &NotedRecords) -> Result<(), AllocError>
         ensures { OnOk result (NotesAll self.old self.new found.now) }
     {
-        for entry in found {
-            self.note(entry.0, entry.1)?;
+        for place in 0..found.len() {
+            let (line, holds) = found.get(place);
+            self.note(line, holds)?;
         }
         Ok(())
     }

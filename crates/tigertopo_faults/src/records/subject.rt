@@ -41,14 +41,15 @@ pub fn subjects_of(map: Option<&Map>, fault: &MapFault) -> Subjects
     subjects_about(map, &row(fault).about)
 }
 
-// The same, by what the fault is about.
-fn subjects_about(map: Option<&Map>, about: &About) -> Subjects
+/// The same, by what the fault is about.
+pub(crate) fn subjects_about(map: Option<&Map>, about: &About) -> Subjects
     ensures { result ≡ subjects_about (chains_of (option_copied map.entry)) about.now }
 {
     match *about {
         About::Records(records) => (subject_about(records), None),
         About::Meet(meet) => subjects_of_meet(meet.tlid, meet.other),
         About::Darts { first, next, .. } => sides_of_darts(tlid_of(map, first), tlid_of(map, next)),
+        About::PolygonAlone(polygon) => (Some(Subject::Polygon(polygon)), None),
         About::PolygonTlid(polygon, tlid) => {
             (Some(Subject::Polygon(polygon)), Some(Subject::Drawn(tlid)))
         }
@@ -63,7 +64,7 @@ fn subjects_about(map: Option<&Map>, about: &About) -> Subjects
     }
 }
 
-// What a fault of records, or of a polygon alone, speaks of.
+// What a fault of records speaks of.
 fn subject_about(about: AboutRecords) -> Option<Subject>
     ensures { result ≡ subject_about about }
 {

@@ -1,7 +1,6 @@
 -- Kept on the way: files in a list, each with its name.
-use Rattle.std.specs.Prelude.{ℕ, Bool, nat_eq, if◌then◌else◌, List, [], ◌∷◌, length, Option, Some, None, string_bytes}
+use Rattle.std.specs.Prelude.{ℕ, Bool, nat_eq, if◌then◌else◌, List, [], ◌∷◌, Option, Some, None, string_bytes}
 use Rattle.std.specs.Cmp.Lexicographic.{pointwise}
-use Rattle.tl_record.specs.Lines.{raw_lines}
 use Rattle.tigertopo_memory_files.specs.declared.in_memory.Stored.{Stored}
 
 -- are these one name
@@ -20,8 +19,3 @@ found_from name found (file ∷ files) = found_from name (found_with name found 
 -- the bytes of the last file of a name
 abbrev pub file_in : List Stored → List ℕ → Option (List ℕ)
 file_in files name = found_from name None files
-
--- how many lines are found in what stands under a name, where a file does
-abbrev pub lines_found : Option (List ℕ) → ℕ
-lines_found None = 0
-lines_found (Some text) = length (raw_lines text)

@@ -36,7 +36,8 @@ use Rattle.tl_list.specs.declared.left.LeftFaults.{LeftFaults}
 use Rattle.tigertopo_program.specs.declared.lists.skipping.LeftTexts.{LeftTexts}
 use Rattle.tigertopo_faults.specs.Lines.Speaking.{AreSpoken}
 use Rattle.tigertopo_faults.specs.Records.SpokenOf.{chains_of}
-use Rattle.tigertopo_program.specs.Lists.Listed.{Asked, asks_lines, featured, has_places, most_of, refused_form, refusals_text, skipped_text, told_text}
+use Rattle.tigertopo_faults.specs.Told.{told_text}
+use Rattle.tigertopo_program.specs.Lists.Listed.{Asked, asks_lines, featured, has_places, most_of, refused_form, refusals_text, skipped_text}
 
 -- what is found in a text, and what is noted of its lines where that is asked for
 pub record IsFoundWith (options : Options) (skips notes : Bool) (known : Option (List ℕ)) (found : Found) : Type 0 where
@@ -57,10 +58,6 @@ AreLinesOf layout under names counts entries = (texts : List (List ℕ)) → Hav
 abbrev pub AreFronts : Under → List (List ℕ) → (counts : List ℕ) → List Refusal → (fronts : List (List ℕ)) → Type 0
 AreFronts under names counts refusals fronts = (texts : List (List ℕ)) → HaveTexts under names texts
     → (counts ≡ map line_count texts) × (fronts ≡ map (front_in (joined texts)) refusals)
-
--- the bytes of each
-abbrev pub bytes_of : List (Vec ℕ Global) → List (List ℕ)
-bytes_of fronts = map (λ front. front.items) fronts
 
 -- the text of faults, or nothing where they are printed as they are listed
 abbrev pub IsPrepared : List (List ℕ) → List MapChain → Spoken → Form → Told → List MapFault → ℕ → Option (Vec ℕ Global) → Type 0

@@ -9,7 +9,7 @@ use Rattle.tl_record.specs.declared.refusal.Refusal.{Refusal}
 use Rattle.tl_record.specs.Layout.{layout_with}
 use Rattle.tl_record.specs.Left.{left_of}
 use Rattle.tl_record.specs.Records.{records_of}
-use Rattle.tl_map_county.specs.TheMap.{TheMap, MapChain}
+use Rattle.tl_map_county.specs.TheMap.{TheMap}
 use Rattle.tigertopo_files.specs.Files.{Under}
 use Rattle.tigertopo_files.specs.World.{World, Made}
 use Rattle.tigertopo_faults.specs.Hint.Telling.{HaveTexts}
@@ -25,20 +25,18 @@ use Rattle.tigertopo_words.specs.declared.form.Form.TheVariants as form
 use Rattle.tl_cert_output.specs.declared.stop.Stop.{Stop}
 use Rattle.tl_check_verdict.specs.declared.fault.MapFault.{MapFault}
 use Rattle.tl_check_verdict.specs.declared.verdict.Report.{Report}
-use Rattle.tl_check_verdict.specs.Messages.{map_fault_text}
 use Rattle.tl_check_verdict.specs.Records.{HaveMap}
 use Rattle.tl_check_verdict.specs.Sound.{IsSoundFor}
 use Rattle.tl_list_text.specs.declared.listing.Listing.TheVariants as listing
 use Rattle.tl_list.specs.Listings.{IsListingOf}
-use Rattle.tl_list_text.specs.Texts.{lines, listing_text, printed, count_line}
+use Rattle.tl_list_text.specs.Texts.{listing_text, printed, count_line}
 use Rattle.tl_list.specs.Findings.{AreFaultsOf, AreFindingsOf, HasBeyond}
 use Rattle.tigertopo_faults.specs.Records.SpokenOf.{chains_of}
 use Rattle.tigertopo_faults.specs.Records.Keeping.{held}
 use Rattle.tigertopo_faults.specs.declared.lines.speaking.Spoken.{Spoken}
 use Rattle.tigertopo_faults.specs.Lines.Speaking.{AreSpoken}
-use Rattle.tigertopo_faults.specs.Lines.Texts.{placed_text, chosen, end_text}
 use Rattle.tigertopo_faults.specs.Geojson.Texts.{faults_text}
-use Rattle.tigertopo_faults.specs.Objects.Texts.{objects_text}
+use Rattle.tigertopo_faults.specs.Told.{told_text}
 use Rattle.tigertopo_faults.specs.Objects.Ends.{sound_object, refusals_end, skipped_end}
 use Rattle.tigertopo_program.specs.declared.answer.Answer.{Answer}
 use Rattle.tigertopo_program.specs.Records.{IsSoundWith, OfMap, StopsRecords}
@@ -55,19 +53,6 @@ pub record Asked : Type 0 where
 
 abbrev pub wanted_of : List (List ℕ) → TheWanted → Asked
 wanted_of names wanted = record { names = names; told = wanted.told; form = wanted.form; made = option_map string_bytes wanted.made.now }
-
--- what is printed of faults without their records: the first line, or all, or so many from the front, and where all are told,
--- how many there are
-abbrev pub plain_text : Told → List MapFault → ℕ → List ℕ
-plain_text told faults touched = lines map_fault_text (chosen told faults) ++ end_text told (length faults) touched
-
--- what is printed of faults: lines, with the records that they speak of or without, or objects
-abbrev pub told_text : List (List ℕ) → List MapChain → Spoken → Form → Told → List MapFault → ℕ → List ℕ
-told_text names chains spoken form.Lines told faults touched = plain_text told faults touched
-told_text names chains spoken form.Records told faults touched =
-    placed_text names spoken.counts.items chains (held spoken.lines) spoken.places.items told faults touched
-told_text names chains spoken form.Objects told faults touched =
-    objects_text names spoken.counts.items chains (held spoken.lines) spoken.places.items told faults touched
 
 -- what is printed of a sound map's numbers
 abbrev pub report_text : Form → Report → List ℕ

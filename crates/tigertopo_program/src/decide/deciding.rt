@@ -8,6 +8,7 @@ ghost use Rattle.tigertopo_program.specs.Answers.{CheckAnswers, IsSaid};
 ghost use Rattle.tigertopo_program.specs.Records.{IsChecked, StopsCheck};
 
 use crate::answer::Answer;
+use crate::reading::read_files;
 use std::alloc::Global;
 use std::hash::RandomState;
 use tigertopo_files::{FileSystem, Reading};
@@ -69,6 +70,6 @@ pub fn check<F: FileSystem>(
         options,
         budget,
     };
-    let verdict = files.read(alloc, names, Some(cert), &asked)?;
+    let verdict = read_files(files, alloc, names, Some(cert), &asked)?;
     Ok(Answer::Verdict(verdict))
 }

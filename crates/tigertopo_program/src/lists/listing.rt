@@ -7,7 +7,7 @@ ghost use Rattle.tl_cert_output.specs.declared.stop.Stop.TheVariants.{Memory};
 ghost use Rattle.tl_list.specs.Findings.{IsFoundIn, SaysWhy};
 ghost use Rattle.tigertopo_files.specs.World.{Does, MayMake, world};
 ghost use Rattle.tigertopo_files.specs.declared.beginning.FileKind.TheVariants.{Collection};
-ghost use Rattle.tigertopo_files.specs.Reading.{HaveLines, text_under};
+ghost use Rattle.tigertopo_files.specs.Reading.{IsReply, text_under};
 ghost use Rattle.tigertopo_program.specs.Records.{StopsNever};
 ghost use Rattle.tigertopo_program.specs.Lists.Listed.{ListAnswers, IsSoundList, IsFaultList, StopsList, has_places, most_of};
 ghost use Rattle.tigertopo_program.specs.Answers.{IsSaid};
@@ -17,22 +17,23 @@ ghost use Rattle.tigertopo_program.specs.Lists.Keeping.{AreLinesOf, AreNoted, Is
 use crate::answer::Answer;
 use crate::lists::collection::{make_collection, make_without_faults};
 use crate::lists::found::FindingsIn;
-use crate::lists::prepared::{ToldFaults, prepare};
+use crate::lists::prepared::prepare;
 use crate::lists::refused::{is_skipping, tell_refused};
 use crate::lists::speaking::{featured, speak_where};
-use crate::reading::over_records;
+use crate::reading::over_records_with;
 use crate::stop::{DONE, MAP_FAULT};
-use std::alloc::{AllocError, Global};
+use std::alloc::Global;
 use std::hash::RandomState;
 use tigertopo_faults::objects::SoundObject;
-use tigertopo_files::{FileSystem, with_printed};
+use tigertopo_faults::told::ToldFaults;
+use tigertopo_files::{FileSystem, Reply, with_printed};
 use tigertopo_words::{Form, Told};
 use tl_cert_output::Stop;
 use tl_check_verdict::{MapFault, Report};
 use tl_list::{Findings, Found};
-use tl_list_text::Listing;
+use tl_list_text::{Listing, NotedRecords};
 use tl_map_county::Map;
-use tl_record::{Options, Record};
+use tl_record::Options;
 
 /// What is asked of a list: which faults are told, the first or all or so many from the front, in which form, and the name of the file of
 /// GeoJSON that is made of them, if one is.
@@ -62,8 +63,10 @@ pub fn list<F: FileSystem>(
 {
     let skips = is_skipping(wanted.told);
     let asks = asks_lines(wanted.form, wanted.made);
-    let found = find_all(files, alloc, hasher, options, names, skips, asks)?;
-    let counts = counts_where(files, alloc, names, asks)?;
+    let Reply {
+        answer: found,
+        line_counts: counts,
+    } = find_all(files, alloc, hasher, options, names, skips, asks)?;
     tell_found(files, alloc, hasher, options, names, wanted, found, counts)
 }
 
@@ -77,49 +80,17 @@ fn find_all<F: FileSystem>(
     names: &[String],
     skips: bool,
     notes: bool,
-) -> Result<Found, Stop>
+) -> Result<Reply<Found>, Stop>
     ensures { let known = text_under (F.under files.old) (map_list string_bytes names.now) in
         Does (world F.under F.log F.knows files.old files.new) (map_list string_bytes names.now) None
-        (IsFoundWith options skips notes known) StopsNever result }
+        (IsReply (IsFoundWith options skips notes known) (F.under files.old) (map_list string_bytes names.now) notes) StopsNever result }
 {
-    count_where(files, notes);
-    over_records(
-        files,
-        alloc,
-        hasher,
-        names,
-        &FindingsIn {
-            options,
-            skips,
-            notes,
-        },
-    )
-}
-
-// The lines of the files that are read next are counted, where that is asked for.
-fn count_where<F: FileSystem>(files: &mut F, asks: bool)
-    ensures stays { F.under files.new ≡ F.under files.old }
-    ensures logged { F.knows ≡ true → F.log files.new ≡ F.log files.old }
-{
-    if asks {
-        files.count_lines();
-    }
-}
-
-// How many lines each of the files of these names has, where that is asked for.
-fn counts_where<F: FileSystem>(
-    files: &F,
-    alloc: Global,
-    names: &[String],
-    asks: bool,
-) -> Result<Vec<u64>, AllocError>
-    ensures { IfOk result (λ counts. asks ≡ true → HaveLines (F.under files.now) (map_list string_bytes names.now) counts.items) }
-{
-    if asks {
-        files.line_counts(alloc, names)
-    } else {
-        Ok(Vec::new(alloc))
-    }
+    let asked = FindingsIn {
+        options,
+        skips,
+        notes,
+    };
+    over_records_with(files, alloc, hasher, names, notes, &asked)
 }
 
 // Answers what was found in files of these names, which have so many lines each, and makes the file that is wanted.
@@ -150,7 +121,7 @@ fn tell_found<F: FileSystem>(
             files, alloc, hasher, options, names, wanted, list, left, counts, &noted,
         ),
         Listing::Faults { faults, touched } => {
-            let records = noted.records.as_slice();
+            let records = &noted.records;
             tell_faults(
                 files, alloc, hasher, names, wanted, map, faults, touched, counts, records,
             )
@@ -215,7 +186,7 @@ fn tell_faults<F: FileSystem>(
     faults: Vec<MapFault>,
     touched: u64,
     counts: Vec<u64>,
-    records: &[(u64, Record)],
+    records: &NotedRecords,
 ) -> Result<Answer, Stop>
     requires { MayMake (F.under files.old) (option_map string_bytes wanted.made.now) (map_list string_bytes names.now) Collection }
     ensures { let w = world F.under F.log F.knows files.old files.new in

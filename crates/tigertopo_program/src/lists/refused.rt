@@ -15,7 +15,8 @@ ghost use Rattle.tl_list.specs.Findings.{IsLeft};
 ghost use Rattle.tigertopo_program.specs.Lists.Listed.{ListAnswers, StopsList, asks_lines, has_places};
 ghost use Rattle.tigertopo_program.specs.Answers.{IsSaid};
 ghost use Rattle.tigertopo_program.specs.Lists.Listed.{is_skipping, refusals_last, refused_form, stops_refused, wanted_of};
-ghost use Rattle.tigertopo_program.specs.Lists.Keeping.{AnswersFronted, AreFronts, AreLinesOf, ArePreparedOf, bytes_of, stop_of_refusal};
+ghost use Rattle.tigertopo_program.specs.Lists.Keeping.{AnswersFronted, AreFronts, AreLinesOf, ArePreparedOf, stop_of_refusal};
+ghost use Rattle.tl_list.specs.Keeping.Noting.{bytes_of};
 
 use crate::answer::Answer;
 use crate::lists::collection::make_without_faults;
@@ -56,7 +57,7 @@ pub(crate) fn tell_refused<F: FileSystem>(
         let w = world F.under F.log F.knows files.old files.new in
         let asked = wanted_of (map_list string_bytes names.now) wanted.entry in
         (asks_lines asked.form asked.made ≡ true → AreFronts w.before asked.names counts.items list.items (bytes_of noted.now.fronts.items)
-        × IfSome left (λ it. AreLinesOf (layout_with options) w.before asked.names counts.items noted.now.records.items))
+        × IfSome left (λ it. AreLinesOf (layout_with options) w.before asked.names counts.items noted.now.records))
         → Does w [] asked.made (IsSaid (ListAnswers w options known asked))
         (StopsList options known asked) result }
 {

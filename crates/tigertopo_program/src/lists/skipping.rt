@@ -11,7 +11,8 @@ ghost use Rattle.tigertopo_files.specs.World.{Does, MayMake, world};
 ghost use Rattle.tigertopo_files.specs.declared.beginning.FileKind.TheVariants.{Collection};
 ghost use Rattle.tl_list.specs.Findings.{IsLeft};
 ghost use Rattle.tigertopo_program.specs.Lists.Listed.{ListAnswers, StopsList, asks_lines, is_skipping, skipped_text, wanted_of};
-ghost use Rattle.tigertopo_program.specs.Lists.Keeping.{AreFronts, AreLinesOf, IsLeftPrepared, bytes_of};
+ghost use Rattle.tigertopo_program.specs.Lists.Keeping.{AreFronts, AreLinesOf, IsLeftPrepared};
+ghost use Rattle.tl_list.specs.Keeping.Noting.{bytes_of};
 ghost use Rattle.tigertopo_program.specs.Answers.{IsSaid};
 ghost use Rattle.tigertopo_program.specs.Texts.{answer_text};
 
@@ -19,7 +20,6 @@ use crate::answer::Answer;
 use crate::line::add_answer;
 use crate::lists::collection::make_collection;
 use crate::lists::listing::Wanted;
-use crate::lists::prepared::ToldFaults;
 use crate::lists::refused::refused_texts;
 use crate::lists::speaking::{featured, speak_where};
 use crate::stop::REFUSED;
@@ -27,6 +27,7 @@ use std::alloc::{AllocError, Global};
 use std::hash::RandomState;
 use tigertopo_faults::lines::Spoken;
 use tigertopo_faults::objects::print_skipped_end;
+use tigertopo_faults::told::ToldFaults;
 use tigertopo_files::{FileSystem, with_printed};
 use tigertopo_words::Form;
 use tl_cert_output::{Page, Stop, Text};
@@ -53,7 +54,7 @@ pub(crate) fn tell_left<F: FileSystem>(
         (known : Option (List ℕ)) → IfSome known (λ text. IsListingOf options text (RefusedLines list))
         → IsLeft options (is_skipping asked.told) known (RefusedLines list) (Some left.now)
         → (asks_lines asked.form asked.made ≡ true → AreFronts w.before asked.names counts.items list.items (bytes_of noted.now.fronts.items)
-        × AreLinesOf (layout_with options) w.before asked.names counts.items noted.now.records.items)
+        × AreLinesOf (layout_with options) w.before asked.names counts.items noted.now.records)
         → Does w [] asked.made (IsSaid (ListAnswers w options known asked))
         (StopsList options known asked) result }
 {
@@ -105,14 +106,14 @@ fn prepare_left(
     ensures prepared { let asked = wanted_of (map_list string_bytes names.now) wanted.entry in
         IfOk result (λ texts. (under : Under) → (asks_lines asked.form asked.made ≡ true →
         AreFronts under asked.names counts.items list.items (bytes_of noted.now.fronts.items)
-        × AreLinesOf (layout_with options) under asked.names counts.items noted.now.records.items)
+        × AreLinesOf (layout_with options) under asked.names counts.items noted.now.records)
         → IsLeftPrepared (layout_with options) under asked list.items left.now texts) }
     ensures stop { IfErr result (λ stop. stop ≡ Memory) }
 {
     let drawn = left.map.as_ref();
     let faults = left.faults.as_slice();
     let shown = featured(wanted.told, faults);
-    let records = noted.records.as_slice();
+    let records = &noted.records;
     let spoken = speak_where(alloc, hasher, wanted, counts, records, drawn, shown)?;
     let told = ToldFaults {
         names,

@@ -12,8 +12,8 @@ use tigertopo_faults::lines::{Spoken, speak_of};
 use tigertopo_words::Told;
 use tl_cert_output::Stop;
 use tl_check_verdict::MapFault;
+use tl_list_text::NotedRecords;
 use tl_map_county::Map;
-use tl_record::Record;
 
 /// Where faults lie, and the records that they speak of, of these records with their lines, in files of so many lines each, if that is
 /// asked for.
@@ -22,7 +22,7 @@ pub(crate) fn speak_where(
     hasher: RandomState,
     wanted: Wanted<'_>,
     counts: Vec<u64>,
-    records: &[(u64, Record)],
+    records: &NotedRecords,
     drawn: Option<&Map>,
     faults: &[MapFault],
 ) -> Result<Spoken, Stop>

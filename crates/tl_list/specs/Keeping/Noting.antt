@@ -1,26 +1,22 @@
 -- What is noted of lines while they are read.
-use Rattle.std.specs.Prelude.{◌≡◌, ℕ, ◌-◌, nat_le, Bool, true, if◌then◌else◌, List, [], ◌∷◌, ◌++◌, map, take, slice_index_or, Option, Some, IfSome, Vec}
+use Rattle.std.specs.Prelude.{◌≡◌, ℕ, Bool, true, List, [], ◌∷◌, ◌++◌, map, Option, Some, IfSome, Vec}
 use Rattle.std.specs.Global.{Global}
 use Rattle.tl_record.specs.declared.record.Record.{Record}
 use Rattle.tl_record.specs.declared.refusal.Refusal.{Refusal}
-use Rattle.tl_record.specs.Limits.{most_lines, most_line_bytes}
+use Rattle.tl_record.specs.Fronts.{front_in}
 use Rattle.tl_record.specs.Records.{Records}
 
 -- bytes, as lists
 abbrev pub bytes_of : List (Vec ℕ Global) → List (List ℕ)
 bytes_of fronts = map (λ front. front.items) fronts
 
--- the first bytes of a refused line of these
-abbrev pub front_among : List (List ℕ) → Refusal → List ℕ
-front_among lines refusal = if nat_le refusal.line most_lines then take most_line_bytes (slice_index_or lines (refusal.line - 1) []) else []
-
 -- none, of a line that is beyond the greatest number
 abbrev pub no_front : Refusal → List ℕ
 no_front refusal = []
 
--- the first bytes of refused lines are noted, where that is asked
-abbrev pub NotesFronts : (notes : Bool) → (lines : Option (List (List ℕ))) → List Refusal → List (Vec ℕ Global) → Type 0
-NotesFronts notes lines refused fronts = notes ≡ true → IfSome lines (λ lines. bytes_of fronts ≡ map (front_among lines) refused)
+-- the first bytes of refused lines of a text are noted, where that is asked
+abbrev pub NotesFronts : (notes : Bool) → (known : Option (List ℕ)) → List Refusal → List (Vec ℕ Global) → Type 0
+NotesFronts notes known refused fronts = notes ≡ true → IfSome known (λ text. bytes_of fronts ≡ map (front_in text) refused)
 
 -- all records that were to come are noted with their lines, where that is asked and something was kept of them
 abbrev pub NotesRecords : {K : Type 0} → (notes : Bool) → Option Records → Option K → List (ℕ × Record) → Type 0

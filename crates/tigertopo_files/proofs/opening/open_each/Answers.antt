@@ -1,4 +1,6 @@
-use Rattle.std.proofs.Common.{refl, map, string_bytes}
+use Rattle.std.proofs.Common.{[], refl, map, string_bytes}
+use Rattle.std.proofs.lemmas.List.Elements.{All-nil, All-push, All-same}
+use Rattle.tigertopo_files.specs.Counting.{IsShort}
 use Rattle.tigertopo_files.specs.Files.{bytes_under}
 use Rattle.tigertopo_files.specs.World.{SomeMissing}
 use Rattle.tl_cert_output.specs.Stops.{StopsFor}
@@ -10,6 +12,7 @@ pub loop-name-init : goal.loop-name-init
 loop-name-init g c = (
   none_opened g.O.Reader.Source.remaining (λ name. bytes_under (g.O.Opener.held c.args.opener.now) (string_bytes name)) _ c.args.names.now c.new-files.ensures.items,
   rw c.new-files.ensures.items refl,
+  All-same (λ file. IsShort (g.O.Reader.Source.remaining file)) _ [] c.new-files.ensures.items (All-nil (λ file. IsShort (g.O.Reader.Source.remaining file))),
 )
 
 pub loop-name-preserved : goal.loop-name-preserved
@@ -18,6 +21,7 @@ loop-name-preserved g c =
       one_more_opened g.O.Reader.Source.remaining (λ name. bytes_under (g.O.Opener.held c.args.opener.now) (string_bytes name)) c.loop-name.files.items _ c.in_ok-open_one.field-0 c.args.names.now c.loop-name.name-index c.name-item.result c.loop-name-test.true c.name-item.is
           (rw c.as_str.ensures.value at c.in_ok-open_one.ensures.opened) c.in_ok-push.ensures.items before.0,
       one_more_clear g.O.Reader.Source.failure_count c.loop-name.files.items _ c.in_ok-open_one.field-0 c.in_ok-push.ensures.items before.1 c.in_ok-open_one.ensures.fresh,
+      All-same (λ file. IsShort (g.O.Reader.Source.remaining file)) _ _ c.in_ok-push.ensures.items (All-push (λ file. IsShort (g.O.Reader.Source.remaining file)) c.loop-name.files.items c.in_ok-open_one.field-0 before.2 c.in_ok-open_one.ensures.short),
     )
 
 pub returns-clause-opened : goal.returns-clause-opened
@@ -25,6 +29,9 @@ returns-clause-opened g c = all_opened g.O.Reader.Source.remaining (λ name. byt
 
 pub returns-clause-fresh : goal.returns-clause-fresh
 returns-clause-fresh g c = c.loop-name.invariant.1
+
+pub returns-clause-short : goal.returns-clause-short
+returns-clause-short g c = c.loop-name.invariant.2
 
 pub returns-in_err-open_one-clause-failed : goal.returns-in_err-open_one-clause-failed
 returns-in_err-open_one-clause-failed g c =

@@ -109,11 +109,11 @@ lines-preserved g c =
     let put = c.in_ok-add_front-in-Err-Refused.ensures in
     record {
       kept = rw (c.in_ok-push-in-Err-Refused.ensures.items, c.taken_if-taken.ensures, put.records)
-          (may_passed c.args.joins c.args.skips c.args.notes _ _ _ _ _ line cause c.lines.refused.items refusal c.lines.noted.records.items c.lines.taken
+          (may_passed c.args.joins c.args.skips c.args.notes _ _ _ _ _ line cause c.lines.refused.items refusal c.lines.noted.records c.lines.taken
           (rw c.in-Err-Refused.field-0-is at left) few passed.1.left before.kept);
       refused = rw c.in_ok-push-in-Err-Refused.ensures.items (lists_more _ _ _ c.lines.refused.items refusal before.refused
           (first_given _ _ _ line cause stopped.1 passed.1.refusals));
-      fronts = rw c.in_ok-push-in-Err-Refused.ensures.items (fronts_more c.args.notes lines (lines_ahead g.R.Source.remaining now) (lines_of now) line cause c.lines.refused.items
+      fronts = rw c.in_ok-push-in-Err-Refused.ensures.items (fronts_more c.args.notes (unjudged g.R.Source.remaining c.args.reader.now) (lines_ahead g.R.Source.remaining now) (lines_of now) line cause c.lines.refused.items
           c.lines.noted.fronts.items c.add_front.new.self.fronts.items (front_of (pending_of now)) at_stop.0 at_stop.1 counted.0 few before.fronts
           (λ on. put.added on ∙ ap (λ (f : List ℕ). bytes_of c.lines.noted.fronts.items ++ f ∷ []) (c.in_ok-front-in-Err-Refused.ensures on ∙ c.refused_line.ensures)));
       ahead = ahead_passed lines (lines_ahead g.R.Source.remaining now) (lines_ahead g.R.Source.remaining c.pass_refused.new.reader) (standing_of c.pass_refused.new.reader) (lines_of now)

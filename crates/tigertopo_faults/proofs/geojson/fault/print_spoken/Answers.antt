@@ -13,5 +13,5 @@ returns g c =
     let page = g.met.P.Page.adding in
     as_text page c.print_records-2.ensures
     (ap (λ (parts : List RecordLine × List RecordLine). records_text (map string_bytes c.args.names.now) c.args.counts.now (parts.0 ++ parts.1))
-    (spoken_parts (chains_of (option_copied c.args.drawn)) (held c.args.lines.now) c.args.fault.now c.subjects_of-first.result c.lines_for.result.now c.lines_for-2.result.now c.in_default.not-Meet
-    c.subjects_of-first.ensures c.lines_for.ensures c.lines_for-2.ensures))
+    (spoken_parts (chains_of (option_copied c.args.drawn)) (held c.args.lines.now) c.args.about.now c.subjects_about-first.result c.lines_for.result.now c.lines_for-2.result.now c.in_default.not-Meet
+    c.subjects_about-first.ensures c.lines_for.ensures c.lines_for-2.ensures))

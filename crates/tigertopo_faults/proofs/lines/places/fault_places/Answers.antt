@@ -2,12 +2,14 @@ use Rattle.std.proofs.Common.{map, sym, ap, ◌∙◌}
 use Rattle.std.proofs.lemmas.Result.{err_from_is_err_and}
 use Rattle.std.specs.Prelude.{option_copied}
 use Rattle.std.proofs.lemmas.List.{map_more, take_all}
-use Rattle.tigertopo_faults.specs.Lines.Places.{fault_place}
+use Rattle.tl_map_rules.specs.Rows.{Row}
+use Rattle.tl_check_verdict.specs.declared.rows.About.{About}
+use Rattle.tigertopo_faults.specs.Lines.Places.{fault_place, place_about}
 use Rattle.tigertopo_faults.proofs.lines.places.fault_places.Goals as goal
 
 pub loop-fault-preserved : goal.loop-fault-preserved
 loop-fault-preserved c =
-    rw (c.in_ok-push.ensures.items, c.loop-fault.invariant, c.fault_place.ensures, c.fault-item.is)
+    rw (c.in_ok-push.ensures.items, c.loop-fault.invariant, c.place_about.ensures, ap (λ (r : Row About). place_about (option_copied c.args.map) r.2) c.row.ensures, c.fault-item.is)
     (sym (map_more (fault_place (option_copied c.args.map)) c.args.faults.now c.loop-fault.fault-index c.fault-item.result c.loop-fault-test.true))
 
 pub returns : goal.returns

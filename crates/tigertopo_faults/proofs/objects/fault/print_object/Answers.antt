@@ -1,8 +1,10 @@
-use Rattle.std.proofs.Common.{ap}
+use Rattle.std.proofs.Common.{ap, map, string_bytes}
 use Rattle.std.specs.Prelude.{option_copied}
 use Rattle.tl_map_rules.specs.Rows.{Row}
 use Rattle.tl_check_verdict.specs.declared.rows.About.{About}
 use Rattle.tl_cert_output.proofs.PageLemmas.{both, as_text}
+use Rattle.tigertopo_faults.specs.Geojson.Records.{records_text, spoken_lines}
+use Rattle.tigertopo_faults.specs.Records.Keeping.{held}
 use Rattle.tigertopo_faults.specs.Records.SpokenOf.{chains_of}
 use Rattle.tigertopo_faults.specs.Objects.Texts.{about_text, object_text}
 use Rattle.tigertopo_faults.proofs.objects.fault.print_object.Goals as goal
@@ -12,4 +14,6 @@ unfolding object_text
 returns g c =
     let page = g.met.P.Page.adding in
     let about = as_text page c.print_about.ensures (ap (λ (r : Row About). about_text (chains_of (option_copied c.args.drawn)) r.2) c.row.ensures) in
-    both page (both page (both page (both page (both page (both page c.add.ensures c.print_words.ensures) about) c.add-2.ensures) c.print_place.ensures) c.print_spoken.ensures) c.add-3.ensures
+    let spoken = as_text page c.print_spoken.ensures (ap (λ (r : Row About). records_text (map string_bytes c.args.names.now) c.args.counts.now
+    (spoken_lines (chains_of (option_copied c.args.drawn)) (held c.args.lines.now) r.2)) c.row.ensures) in
+    both page (both page (both page (both page (both page (both page c.add.ensures c.print_words.ensures) about) c.add-2.ensures) c.print_place.ensures) spoken) c.add-3.ensures

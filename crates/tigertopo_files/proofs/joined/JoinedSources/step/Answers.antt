@@ -1,6 +1,7 @@
 use Rattle.std.proofs.lemmas.Result.{err_from_is_err_and}
 use Rattle.std.proofs.Common.{◌≡◌, ◌<◌, arith, length, refl, take}
 use Rattle.tigertopo_files.proofs.JoiningLemmas.{joined_bytes-read, joined_bytes-end, leaves_open-read, take-line_feed, good_read, failed_read}
+use Rattle.tigertopo_files.proofs.CountsLemmas.{counts_read, counts_end, counts_keep}
 use Rattle.tl_cert_output.proofs.WritingLemmas.{counts_err}
 use Rattle.tigertopo_files.proofs.joined.JoinedSources.step.Goals as goal
 
@@ -84,3 +85,28 @@ returns-clause-bytes g c =
     c.args.self.now.place _ c.fetch.new.self within c.index_mut.ensures.value gone
     (c.in_ok-count.ensures.bytes.1 none room) in
     rw c.if-self.false (rw c.if-self.false at done)
+
+pub invariant_of-self : goal.invariant_of-self
+invariant_of-self g c = record {
+  within = c.args.self.now.within;
+  counted = counts_keep g.R.Source.remaining g.T.Texts.texts c.args.self.now.place c.args.self.now.readers.items c.args.self.now.counts.items _ c.fetch.new.self c.index_mut.ensures.value c.args.self.now.counted c.in_err-count.ensures.bytes;
+}
+
+pub invariant_of-self-then-count-gt0 : goal.invariant_of-self-then-count-gt0
+invariant_of-self-then-count-gt0 g c = record {
+  within = c.args.self.now.within;
+  counted = counts_read g.R.Source.remaining g.T.Texts.texts c.args.self.now.place c.args.self.now.readers.items c.args.self.now.counts.items c.count_at.new.counts.items _ c.fetch.new.self (take c.in_ok-count.count c.fetch.new.buf)
+      c.index_mut.ensures.value c.args.self.now.counted c.in_ok-count.ensures.bytes.0 c.count_at.ensures;
+}
+
+pub invariant_of-self-then-self-clause-counted : goal.invariant_of-self-then-self-clause-counted
+invariant_of-self-then-self-clause-counted g c =
+    let none : c.in_ok-count.count ≡ 0 = omega arith in
+    counts_end g.R.Source.remaining g.T.Texts.texts c.args.self.now.place c.args.self.now.readers.items c.args.self.now.counts.items _ c.fetch.new.self c.index_mut.ensures.value c.args.self.now.counted
+    (rw none at c.in_ok-count.ensures.bytes.0) (c.in_ok-count.ensures.bytes.1 none (omega arith))
+
+pub invariant_of-self-else-self-clause-counted : goal.invariant_of-self-else-self-clause-counted
+invariant_of-self-else-self-clause-counted g c =
+    let none : c.in_ok-count.count ≡ 0 = omega arith in
+    counts_end g.R.Source.remaining g.T.Texts.texts c.args.self.now.place c.args.self.now.readers.items c.args.self.now.counts.items _ c.fetch.new.self c.index_mut.ensures.value c.args.self.now.counted
+    (rw none at c.in_ok-count.ensures.bytes.0) (c.in_ok-count.ensures.bytes.1 none (omega arith))

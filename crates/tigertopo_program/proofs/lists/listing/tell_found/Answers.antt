@@ -30,7 +30,7 @@ returns-in-Faults g c = λ known found noted.
     let lines = λ (asks : asks_lines asked.form asked.made ≡ true). lines_of_faults (layout_with c.args.options) u asked.names c.args.counts.items c.args.found (noted asks) c.in-Faults.faults c.in-Faults.touched c.in-Faults.is in
     does_so _ [] _ _ _ StopsNever _ (fault_answers c.args.options known asked _ c.args.found.whole.map c.in-Faults.faults c.in-Faults.touched
     (IfSome_then known found.whole (λ text is. record { told = subst (IsListingOf c.args.options text) c.in-Faults.is is.told; drawn = is.drawn })))
-    (λ s never. absurd never) _ (c.tell_faults.ensures (layout_with c.args.options) (rw c.as_slice-records.ensures.value lines))
+    (λ s never. absurd never) _ (c.tell_faults.ensures (layout_with c.args.options) lines)
 
 pub tell_refused-requires-clause-some : goal.tell_refused-requires-clause-some
 tell_refused-requires-clause-some g c = subst (SaysWhy c.args.found.whole.map) c.in-Refused.is c.requires.why

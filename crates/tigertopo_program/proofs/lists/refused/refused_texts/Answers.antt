@@ -3,7 +3,7 @@ use Rattle.tl_record.specs.Layout.{layout_with}
 use Rattle.tl_record.specs.declared.refusal.Refusal.{Refusal}
 use Rattle.tigertopo_faults.specs.declared.hint.form.RefusedForm.TheVariants.{Features}
 use Rattle.tigertopo_faults.specs.Hint.Fronts.{fronted_text}
-use Rattle.tigertopo_program.specs.Lists.Keeping.{bytes_of}
+use Rattle.tl_list.specs.Keeping.Noting.{bytes_of}
 use Rattle.tigertopo_program.specs.Lists.Listed.{featured, wanted_of}
 use Rattle.tigertopo_program.proofs.ListLemmas.{asks_where_made, asks_where_placed, features_placed}
 use Rattle.tigertopo_program.proofs.lists.refused.refused_texts.Goals as goal

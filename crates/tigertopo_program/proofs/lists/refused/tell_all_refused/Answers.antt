@@ -1,6 +1,6 @@
 use Rattle.std.proofs.Common.{map, string_bytes, sym, ◌∙◌}
 use Rattle.tl_record.specs.Layout.{layout_with}
-use Rattle.tigertopo_program.specs.Lists.Keeping.{bytes_of}
+use Rattle.tl_list.specs.Keeping.Noting.{bytes_of}
 use Rattle.tigertopo_program.specs.Lists.Listed.{most_of, wanted_of}
 use Rattle.tigertopo_program.proofs.ListLemmas.{plain_refused, placed_refused}
 use Rattle.tigertopo_program.proofs.lists.refused.tell_all_refused.Goals as goal

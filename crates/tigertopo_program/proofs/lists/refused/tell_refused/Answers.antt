@@ -7,7 +7,8 @@ use Rattle.tl_list_text.specs.declared.listing.Listing.TheVariants.{Refused}
 use Rattle.tigertopo_files.specs.World.{world}
 use Rattle.tl_list.specs.declared.left.LeftFaults.{LeftFaults}
 use Rattle.tl_list.specs.Findings.{IsLeft}
-use Rattle.tigertopo_program.specs.Lists.Keeping.{AreFronts, AreLinesOf, bytes_of}
+use Rattle.tl_list.specs.Keeping.Noting.{bytes_of}
+use Rattle.tigertopo_program.specs.Lists.Keeping.{AreFronts, AreLinesOf}
 use Rattle.tigertopo_program.specs.Lists.Listed.{is_skipping, wanted_of}
 use Rattle.tigertopo_program.proofs.ListLemmas.{first_refused}
 use Rattle.tigertopo_program.proofs.lists.refused.tell_refused.Goals as goal
@@ -26,7 +27,7 @@ pub returns-in-Some : goal.returns-in-Some
 returns-in-Some g c = λ known are found noted.
     let u = g.F.FileSystem.under c.args.files.now in
     let asked = wanted_of (map string_bytes c.args.names.now) c.args.wanted in
-    let lines = AreLinesOf (layout_with c.args.options) u asked.names c.args.counts.items c.args.noted.now.records.items in
+    let lines = AreLinesOf (layout_with c.args.options) u asked.names c.args.counts.items c.args.noted.now.records in
     c.tell_left.ensures known are (subst (λ (left : Option LeftFaults). IsLeft c.args.options (is_skipping c.args.wanted.told) known (Refused c.args.list) left) c.in-Some.is found)
     (λ asks. let both = noted asks in (both.0, subst (λ (left : Option LeftFaults). IfSome left (λ it. lines)) c.in-Some.is both.1))
 

@@ -2,15 +2,16 @@ use Rattle.std.proofs.Common.{◌≡◌, ℕ, true, List, Option, map, string_by
 use Rattle.std.specs.Prelude.{Vec, option_copied}
 use Rattle.std.specs.Global.{Global}
 use Rattle.tl_record.specs.Layout.{layout_with}
-use Rattle.tl_record.specs.declared.record.Record.{Record}
 use Rattle.tl_record.specs.declared.refusal.Refusal.{Refusal}
 use Rattle.tl_map_county.specs.TheMap.{TheMap}
 use Rattle.tl_check_verdict.specs.declared.fault.MapFault.{MapFault}
 use Rattle.tigertopo_faults.specs.Lines.Speaking.{AreSpoken}
 use Rattle.tigertopo_faults.specs.Records.SpokenOf.{chains_of}
 use Rattle.tigertopo_faults.proofs.LinesLemmas.SpeakingLemmas.{are_spoken}
-use Rattle.tigertopo_program.specs.Lists.Keeping.{AreFronts, AreLinesOf, bytes_of}
-use Rattle.tigertopo_program.specs.Lists.Listed.{asks_lines, featured, most_of, refusals_text, skipped_text, told_text, wanted_of}
+use Rattle.tl_list.specs.Keeping.Noting.{bytes_of}
+use Rattle.tigertopo_faults.specs.Told.{told_text}
+use Rattle.tigertopo_program.specs.Lists.Keeping.{AreFronts}
+use Rattle.tigertopo_program.specs.Lists.Listed.{asks_lines, featured, most_of, refusals_text, skipped_text, wanted_of}
 use Rattle.tigertopo_program.specs.Texts.{answer_text}
 use Rattle.tigertopo_program.proofs.lists.skipping.prepare_left.Goals as goal
 
@@ -43,8 +44,7 @@ returns-clause-prepared c = λ u noted.
       speak = λ asks.
           subst (λ (d : Option TheMap). AreSpoken layout u asked.names d (featured asked.told left.faults.items) spoken) drawn
           (subst (λ (fs : List MapFault). AreSpoken layout u asked.names (option_copied c.as_ref-drawn.result) fs spoken) shown
-          (are_spoken layout u asked.names c.args.counts.items c.as_slice-records.result.now (option_copied c.as_ref-drawn.result) c.featured-shown.result.now spoken
-          (c.in_ok-spoken.ensures.spoken asks)
-          (subst (λ (rs : List (ℕ × Record)). AreLinesOf layout u asked.names c.args.counts.items rs) (sym c.as_slice-records.ensures.value) (noted asks).1)));
+          (are_spoken layout u asked.names c.args.counts.items c.args.noted.now.records (option_copied c.as_ref-drawn.result) c.featured-shown.result.now spoken
+          (c.in_ok-spoken.ensures.spoken asks) (noted asks).1));
       features = so.features;
     }
