@@ -5,7 +5,7 @@ use Rattle.std.proofs.lemmas.Simd.{map-map}
 use Rattle.std.proofs.lemmas.List.Elements.{All-head, All-tail}
 use Rattle.std.specs.Io.KnownBytes.{Consumes, IsAtEnd, Keeps}
 use Rattle.tl_record.specs.Lines.{raw_lines}
-use Rattle.tigertopo_files.specs.Counting.{lines_with, IsNew, GoesOn, IsShort, IsCounted, AreCounted}
+use Rattle.tigertopo_files.specs.Counting.{lines_with, IsNew, CountsAt, IsShort, IsCounted, AreCounted}
 use Rattle.tigertopo_files.specs.Files.{Under, bytes_under}
 use Rattle.tigertopo_files.specs.Reading.{counted_names}
 use Rattle.tigertopo_files.specs.declared.counting.LineCount.{LineCount}
@@ -15,12 +15,12 @@ use Rattle.tigertopo_files.proofs.CountingLemmas.{few_lines}
 
 module _ (bytes : List ℕ) where
   pub set_goes_on : (counts : List LineCount) (place : ℕ) (d new : LineCount) → place < length counts → ((text : List ℕ) → lines_with new text ≡ lines_with (slice_index_or counts place d) (bytes ++ text))
-      → GoesOn counts (slice_set counts place new) place bytes
+      → CountsAt counts (slice_set counts place new) place bytes
   set_goes_on [] place d new within more = absurd (omega (arith, within))
   set_goes_on (count ∷ counts) zero d new within more = (more, refl)
   set_goes_on (count ∷ counts) (suc place) d new within more = (refl, set_goes_on counts place d new (omega (arith, within)) more)
 
-  pub none_goes_on : (counts : List LineCount) (place : ℕ) → length counts ≤ place → GoesOn counts counts place bytes
+  pub none_goes_on : (counts : List LineCount) (place : ℕ) → length counts ≤ place → CountsAt counts counts place bytes
   none_goes_on [] place past = refl
   none_goes_on (count ∷ counts) zero past = absurd (omega (arith, past))
   none_goes_on (count ∷ counts) (suc place) past = (refl, none_goes_on counts place (omega (arith, past)))
@@ -108,7 +108,7 @@ all_read (Some xs) now before count reads is most = λ few. absurd (let long = i
 
 -- ---- several texts
 
-none_more : (counts other : List LineCount) (place : ℕ) (bytes : List ℕ) → length counts ≡ 0 → GoesOn counts other place bytes → length other ≡ 0
+none_more : (counts other : List LineCount) (place : ℕ) (bytes : List ℕ) → length counts ≡ 0 → CountsAt counts other place bytes → length other ≡ 0
 none_more [] other place bytes none on = ap length on
 none_more (count ∷ counts) other place bytes none on = absurd (omega (arith, none))
 
@@ -153,7 +153,7 @@ module _ {R : Type 0} (remaining : R → Option (List ℕ)) where
 
   -- the reader that is read now gave bytes
   pub counts_read : (texts : List (Option (List ℕ))) (place : ℕ) (readers : List R) (counts other : List LineCount) (old new : R) (bytes : List ℕ) → old ≡ slice_index_or readers place old
-      → AreCounted remaining texts place readers counts → Consumes (remaining old) (remaining new) bytes → GoesOn counts other place bytes → AreCounted remaining texts place (slice_set readers place new) other
+      → AreCounted remaining texts place readers counts → Consumes (remaining old) (remaining new) bytes → CountsAt counts other place bytes → AreCounted remaining texts place (slice_set readers place new) other
   counts_read [] place readers counts other old new bytes here are takes on = none_more counts other place bytes are on
   counts_read (text ∷ texts) place [] counts other old new bytes here are takes on = absurd are
   counts_read (text ∷ texts) place (reader ∷ readers) [] other old new bytes here are takes on = absurd are

@@ -20,11 +20,11 @@ abbrev pub IsNew : LineCount → Type 0
 IsNew count = (text : List ℕ) → lines_with count text ≡ min (length (raw_lines text)) (2 ^ 64 - 1)
 
 -- the count at this place, if there is one, goes on with these bytes, and the others stay
-abbrev pub GoesOn : List LineCount → List LineCount → (place : ℕ) → List ℕ → Type 0
-GoesOn [] new place bytes = new ≡ []
-GoesOn (count ∷ counts) [] place bytes = ⊥
-GoesOn (count ∷ counts) (other ∷ new) zero bytes = ((text : List ℕ) → lines_with other text ≡ lines_with count (bytes ++ text)) × (new ≡ counts)
-GoesOn (count ∷ counts) (other ∷ new) (suc place) bytes = (other ≡ count) × GoesOn counts new place bytes
+abbrev pub CountsAt : List LineCount → List LineCount → (place : ℕ) → List ℕ → Type 0
+CountsAt [] new place bytes = new ≡ []
+CountsAt (count ∷ counts) [] place bytes = ⊥
+CountsAt (count ∷ counts) (other ∷ new) zero bytes = ((text : List ℕ) → lines_with other text ≡ lines_with count (bytes ++ text)) × (new ≡ counts)
+CountsAt (count ∷ counts) (other ∷ new) (suc place) bytes = (other ≡ count) × CountsAt counts new place bytes
 
 -- fewer bytes than a file may have, where they are known
 abbrev pub IsShort : Option (List ℕ) → Type 0

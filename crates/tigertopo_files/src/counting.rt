@@ -3,10 +3,11 @@
 ghost use Rattle.std.specs.Prelude.{◌≡◌, ◌<◌, ◌-◌, ◌^◌, ◌++◌, ℕ, All, List, [], IfOk, IfErr, IfSome, length, map, if◌then◌else◌, vec_len};
 ghost use Rattle.tl_record.specs.Lines.{line_feeds as line_feeds_of};
 ghost use Rattle.tl_cert_output.specs.Stops.{StopsFor};
-ghost use Rattle.tigertopo_files.specs.Counting.{GoesOn, IsNew, lines_with};
+ghost use Rattle.tigertopo_files.specs.Counting.{CountsAt, IsNew, lines_with};
 ghost use Rattle.tigertopo_files.specs.Joining.{leaves_open as leaves_open_by};
 ghost use Rattle.tigertopo_files.specs.Reading.{MayFail};
 
+use memchr::memchr_iter;
 use std::alloc::{AllocError, Global};
 use tl_cert_output::Stop;
 use tl_record::Source;
@@ -65,7 +66,7 @@ pub(crate) fn no_lines(alloc: Global, texts: usize) -> Result<Vec<LineCount>, Al
 
 /// Goes on with these bytes in the count at this place, if there is one.
 pub(crate) fn count_at(counts: &mut Vec<LineCount>, place: usize, bytes: &[u8])
-    ensures { GoesOn counts.old.items counts.new.items place bytes.now }
+    ensures { CountsAt counts.old.items counts.new.items place bytes.now }
 {
     if place < counts.len() {
         counts[place] = counts[place].with(bytes);
@@ -103,16 +104,9 @@ pub(crate) fn count_rest<S: Source>(source: &mut S, count: LineCount) -> Result<
 
 // How many line feeds these bytes have.
 fn line_feeds(bytes: &[u8]) -> u64
-    ensures count { result ≡ line_feeds_of bytes.now }
-    ensures small { result < 2 ^ 63 }
+    ensures { result ≡ line_feeds_of bytes.now }
 {
-    let mut count = 0;
-    for byte in bytes {
-        if *byte == b'\n' {
-            count += 1;
-        }
-    }
-    count
+    memchr_iter(b'\n', bytes).count() as u64
 }
 
 /// Whether a text leaves its last line open behind these bytes, where it is said whether it does before them.

@@ -3,7 +3,8 @@
 ghost use Rattle.std.specs.Prelude.{◌≡◌, ◌⊎◌, ◌+◌, ◌<◌, ℕ, List, Option, None, IfOk, IfErr, IfSome, IfNone, map, option_map, string_bytes, vec_len};
 ghost use Rattle.std.specs.Bool.{OnFalse};
 ghost use Rattle.tigertopo_files.specs.Files.{bytes_under};
-ghost use Rattle.tigertopo_files.specs.Reading.{IsReply, MayFail, SomePassing, Tells, TellsReads, all_names, counted_names, failures_in, left_in, single_under, text_under};
+ghost use Rattle.tigertopo_files.specs.Reading.{IsReply, MayFail, SomePassing, Tells, TellsReads};
+ghost use Rattle.tigertopo_files.specs.Reading.{all_names, counted_names, failures_in, left_in, single_under, text_under};
 ghost use Rattle.tigertopo_files.specs.World.{MayStop, SomeMissing};
 ghost use Rattle.tl_cert_output.specs.declared.stop.Stop.{Stop};
 ghost use Rattle.tl_cert_output.specs.declared.stop.Stop.TheVariants.{Device};

@@ -9,7 +9,7 @@ use Rattle.tl_cert_output.specs.Writing.{line_of}
 use Rattle.tl_check_verdict.specs.declared.fault.MapFault.{MapFault as TheMapFault}
 use Rattle.tl_check_verdict.specs.declared.verdict.Verdict.TheVariants.{MapFault}
 use Rattle.tl_check_verdict.specs.Sound.{IsSoundFor}
-use Rattle.tl_check_verdict.specs.Truth.{IsTrueOfMap}
+use Rattle.tl_check_verdict.specs.Truth.{IsTrueOfMapFor}
 use Rattle.tigertopo_files.specs.Files.{StandsUnder}
 use Rattle.tigertopo_files.specs.World.{World, Unmade}
 use Rattle.tigertopo_border.specs.Border.{border_text, chain_count, segment_count}
@@ -38,7 +38,7 @@ pub record IsBordered (w : World) (wanted : Wanted) (faces : Bool) (m : TheMap) 
 abbrev pub IsBorderAnswerOf : World → Wanted → (faces : Bool) → TheMap → Answer → Type 0
 IsBorderAnswerOf w wanted faces m answer =
     (IsBordered w wanted faces m × (answer ≡ Bordered (numbers_of m)))
-    ⊎ ((fault : TheMapFault) × IsTrueOfMap faces m fault × Unmade w (Some wanted.name) × (answer ≡ Verdict (MapFault fault)))
+    ⊎ ((fault : TheMapFault) × IsTrueOfMapFor faces m fault × Unmade w (Some wanted.name) × (answer ≡ Verdict (MapFault fault)))
 
 -- with the status 0 the line of the border of the records' map, which was made
 pub record TellsBorder (w : World) (options : Options) (known : Option (List ℕ)) (wanted : Wanted) (status : ℕ) (text : List ℕ) : Type 0 where

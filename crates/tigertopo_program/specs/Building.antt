@@ -18,7 +18,7 @@ use Rattle.tl_check_verdict.specs.Messages.{report_text, map_fault_text}
 use Rattle.tl_check_verdict.specs.Records.{HaveMap}
 use Rattle.tl_check_verdict.specs.Sound.{IsSoundFor}
 use Rattle.tl_check_verdict.specs.Texts.{IsValidText}
-use Rattle.tl_check_verdict.specs.Truth.{IsTrueOfMap}
+use Rattle.tl_check_verdict.specs.Truth.{IsTrueOfMapFor}
 use Rattle.tl_check_verdict.specs.Valid.{IsValid}
 use Rattle.tigertopo_program.specs.declared.answer.Answer.TheVariants.{Built, Verdict}
 use Rattle.tigertopo_program.specs.declared.answer.Answer.{Answer}
@@ -38,7 +38,7 @@ pub record IsBuilt (w : World) (name : List ℕ) (faces : Bool) (m : TheMap) (re
 abbrev pub IsBuildOf : World → (name : List ℕ) → (faces : Bool) → TheMap → Answer → Type 0
 IsBuildOf w name faces m answer =
     ((report : Report) × IsBuilt w name faces m report × (answer ≡ Built report))
-    ⊎ ((fault : TheMapFault) × IsTrueOfMap faces m fault × Unmade w (Some name) × (answer ≡ Verdict (MapFault fault)))
+    ⊎ ((fault : TheMapFault) × IsTrueOfMapFor faces m fault × Unmade w (Some name) × (answer ≡ Verdict (MapFault fault)))
 
 -- with the status 0 the line of a certificate that was made of the records' map
 pub record TellsBuilt (w : World) (options : Options) (known : Option (List ℕ)) (name : List ℕ) (status : ℕ) (text : List ℕ) : Type 0 where

@@ -27,7 +27,7 @@ use Rattle.tl_check_verdict.specs.declared.verdict.Verdict.TheVariants.{Sound, M
 use Rattle.tl_check_verdict.specs.Sound.{IsSoundFor}
 use Rattle.tl_check_verdict.specs.Texts.{IsValidText, IsTrueOfText, TextAllowsSearch}
 use Rattle.tl_check_verdict.specs.Truth.{IsOfDarts}
-use Rattle.tl_check_verdict.specs.Records.{HaveMap, IsTrueOfRecords}
+use Rattle.tl_check_verdict.specs.Records.{HaveMap, IsTrueOfRecordsFor}
 use Rattle.tl_check_verdict.specs.Verdicts.{IsReport, OnSearched}
 
 -- no line of the text is refused, and the fault is true of its records
@@ -67,7 +67,7 @@ OfMap layout known P = IfSome known (λ text. HaveMap (records_of layout text) P
 
 -- a fault that is named is true of the records, or of their map
 abbrev pub IsTrueFault : Options → Option (List ℕ) → TheMapFault → Type 0
-IsTrueFault options known fault = IfSome known (λ text. IsTrueOfRecords options.faces (records_of (layout_with options) text) fault)
+IsTrueFault options known fault = IfSome known (λ text. IsTrueOfRecordsFor options.faces (records_of (layout_with options) text) fault)
 
 -- the map keeps what is asked of it, and the report is its report
 pub record IsSoundWith (faces : Bool) (report : Report) (m : TheMap) : Type 0 where

@@ -11,7 +11,7 @@ use Rattle.tl_cert.specs.Certificates.{TheCertificate}
 use Rattle.tl_tree_index.specs.declared.index.Memory.{Memory}
 use Rattle.tl_check_verdict.specs.declared.fault.MapFault.{MapFault}
 use Rattle.tl_check_verdict.specs.Sound.{IsSound, IsSoundFor}
-use Rattle.tl_check_verdict.specs.Truth.{IsTrueOfMap}
+use Rattle.tl_check_verdict.specs.Truth.{IsTrueOfMap, IsTrueOfMapFor}
 use Rattle.tl_check_verdict.specs.Verdicts.{IsReport}
 use Rattle.tl_check_faces.specs.Crossings.Headings.{AreProper}
 use Rattle.tl_check_faces.specs.declared.fault.FaceFault.{FaceFault}
@@ -33,12 +33,12 @@ use Rattle.tl_build.specs.Building.{Building, IfCert, OnCert, IfFault, HasCert}
 use Rattle.tl_build.specs.Keeping.Deciding.{AuditsFor, BuildsFor, IsBuilt}
 
 -- where nothing was found to be at odds
-pub none_found : (m : TheMap) (found : Option MapFault) → found ≡ None → MatchOption found (SidesAgree m.chains × CellsAgree m.chains) (IsTrueOfMap false m) → SidesAgree m.chains × CellsAgree m.chains
-none_found m found is told = subst (λ f. MatchOption f (SidesAgree m.chains × CellsAgree m.chains) (IsTrueOfMap false m)) is told
+pub none_found : (m : TheMap) (found : Option MapFault) → found ≡ None → MatchOption found (SidesAgree m.chains × CellsAgree m.chains) (IsTrueOfMap m) → SidesAgree m.chains × CellsAgree m.chains
+none_found m found is told = subst (λ f. MatchOption f (SidesAgree m.chains × CellsAgree m.chains) (IsTrueOfMap m)) is told
 
 -- and a point may be found that is misplaced
 pub sound_where : (m : TheMap) (walks : List (List ℕ)) → AreWalks m.chains walks → IsPlanar m.chains → SidesAgree m.chains × CellsAgree m.chains → (answer : Result (Option MapFault) Memory) →
-    IfOk answer (λ found. MatchOption found (ArePlaced m) (IsTrueOfMap false m)) → IfOk answer (λ found. MatchOption found (IsSound m) (IsTrueOfMap false m))
+    IfOk answer (λ found. MatchOption found (ArePlaced m) (IsTrueOfMap m)) → IfOk answer (λ found. MatchOption found (IsSound m) (IsTrueOfMap m))
 sound_where m walks are planar agree (Ok None) told = sound_by m walks are planar agree told
 sound_where m walks are planar agree (Ok (Some fault)) told = told
 sound_where m walks are planar agree (Err refused) told = tt
@@ -56,7 +56,7 @@ module _ (faces : Bool) (m : TheMap) where
   reported (Ok (audit.Fault fault)) says = tt
   reported (Err stop) says = tt
 
-  pub faulty : (answer : Auditing) → AuditsFor faces m answer → IfFaulty answer (IsTrueOfMap faces m)
+  pub faulty : (answer : Auditing) → AuditsFor faces m answer → IfFaulty answer (IsTrueOfMapFor faces m)
   faulty (Ok (audit.Sound report)) says = tt
   faulty (Ok (audit.Fault fault)) says = says
   faulty (Err stop) says = tt
@@ -86,7 +86,7 @@ module _ (faces : Bool) (m : TheMap) where
   if_cert P leads (Ok (built.Fault fault)) says = tt
   if_cert P leads (Err stop) says = tt
 
-  pub if_fault : (answer : Building) → BuildsFor faces m answer → IfFault answer (IsTrueOfMap faces m)
+  pub if_fault : (answer : Building) → BuildsFor faces m answer → IfFault answer (IsTrueOfMapFor faces m)
   if_fault (Ok (built.Cert cert)) says = tt
   if_fault (Ok (built.Fault fault)) says = says
   if_fault (Err stop) says = tt
@@ -103,7 +103,7 @@ pub sound_alone : (m : TheMap) → IsSound m → IsSoundFor false m
 sound_alone m sound = record { sound = sound; facing = λ asked. absurd (cc) }
 
 pub found_asked : (faces : Bool) (m : TheMap) → IsTrue faces → IsSound m → AreProper m.chains → (found : Option FaceFault) → (found ≡ None → FacesAgree m.chains)
-    → ((fault : FaceFault) → found ≡ Some fault → IsTrueFaceFault m fault) → MatchOption (option_map Face found) (IsSoundFor faces m) (IsTrueOfMap faces m)
+    → ((fault : FaceFault) → found ≡ Some fault → IsTrueFaceFault m fault) → MatchOption (option_map Face found) (IsSoundFor faces m) (IsTrueOfMapFor faces m)
 found_asked faces m asked sound proper (Some fault) agree disagree = disagrees faces m fault asked sound proper (disagree fault refl)
 found_asked faces m asked sound proper None agree disagree = keeps faces m sound (λ a. agree refl)
 
@@ -112,7 +112,7 @@ not_asked faces m none sound = rw none (sound_alone m sound)
 
 -- ---- what is at odds
 
-pub both_agree : (m : TheMap) (found : Option MapFault) → CellsAgree m.chains → MatchOption found (SidesAgree m.chains) (IsTrueOfMap false m) → MatchOption found (SidesAgree m.chains × CellsAgree m.chains) (IsTrueOfMap false m)
+pub both_agree : (m : TheMap) (found : Option MapFault) → CellsAgree m.chains → MatchOption found (SidesAgree m.chains) (IsTrueOfMap m) → MatchOption found (SidesAgree m.chains × CellsAgree m.chains) (IsTrueOfMap m)
 both_agree m None cells sides = (sides, cells)
 both_agree m (Some fault) cells told = told
 
@@ -123,6 +123,11 @@ sound_leads (Ok (audit.Sound report)) P Q p so = so p
 sound_leads (Ok (audit.Fault fault)) P Q p so = tt
 sound_leads (Err stop) P Q p so = tt
 
+pub faulty_leads : (answer : Auditing) (P Q : MapFault → Type 0) → IfFaulty answer P → ((fault : MapFault) → P fault → Q fault) → IfFaulty answer Q
+faulty_leads (Ok (audit.Sound report)) P Q p so = tt
+faulty_leads (Ok (audit.Fault fault)) P Q p so = so fault p
+faulty_leads (Err stop) P Q p so = tt
+
 pub audit_leads : (answer : Auditing) (P Q : Audit → Type 0) → IfOk answer P → ((a : Audit) → P a → Q a) → IfOk answer Q
 audit_leads (Ok a) P Q p so = so a p
 audit_leads (Err stop) P Q p so = tt
@@ -131,6 +136,11 @@ pub cert_leads : (answer : Building) (P Q : Type 0) → OnCert answer P → (P �
 cert_leads (Ok (built.Cert cert)) P Q p so = so p
 cert_leads (Ok (built.Fault fault)) P Q p so = tt
 cert_leads (Err stop) P Q p so = tt
+
+pub fault_leads : (answer : Building) (P Q : MapFault → Type 0) → IfFault answer P → ((fault : MapFault) → P fault → Q fault) → IfFault answer Q
+fault_leads (Ok (built.Cert cert)) P Q p so = tt
+fault_leads (Ok (built.Fault fault)) P Q p so = so fault p
+fault_leads (Err stop) P Q p so = tt
 
 pub built_leads : (answer : Building) (P Q : Built → Type 0) → IfOk answer P → ((b : Built) → P b → Q b) → IfOk answer Q
 built_leads (Ok b) P Q p so = so b p

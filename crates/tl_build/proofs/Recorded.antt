@@ -11,7 +11,7 @@ use Rattle.tl_map_rules.specs.Reading.{IsReadFrom, StopsReading, TellsDevice as 
 use Rattle.tl_check_verdict.specs.declared.verdict.Report.{Report}
 use Rattle.tl_check_verdict.specs.Sound.{IsSoundFor}
 use Rattle.tl_check_verdict.specs.Verdicts.{IsReport}
-use Rattle.tl_check_verdict.specs.Records.{HaveMap, IsTrueOfRecords}
+use Rattle.tl_check_verdict.specs.Records.{HaveMap, IsTrueOfRecordsFor}
 use Rattle.tl_check_verdict.proofs.Recording.{true_of_records}
 use Rattle.tl_build.specs.declared.answer.Audit.TheVariants as audit
 use Rattle.tl_cert_output.specs.declared.stop.Stop.{Stop}
@@ -32,7 +32,7 @@ module _ (faces : Bool) (of : List ℕ → AllRecords) (text : Option (List ℕ)
   sound_so P so (Ok (audit.Fault fault)) says = tt
   sound_so P so (Err why) says = tt
 
-  fault_so : (answer : Auditing) → AuditsFor faces m answer → IfFaulty answer (λ f. IfSome text (λ t. IsTrueOfRecords faces (of t) f))
+  fault_so : (answer : Auditing) → AuditsFor faces m answer → IfFaulty answer (λ f. IfSome text (λ t. IsTrueOfRecordsFor faces (of t) f))
   fault_so (Ok (audit.Sound report)) says = tt
   fault_so (Ok (audit.Fault f)) says = IfSome_then text is (λ t read. true_of_records faces (of t) m f read says)
   fault_so (Err why) says = tt
@@ -66,7 +66,7 @@ refused_sound (map.Fault fault) P = tt
 refused_sound (map.NoRecords lacking) P = tt
 
 refused_fault : (faces : Bool) (of : List ℕ → AllRecords) (text : Option (List ℕ)) (why : MapStop) → IfSome text (λ t. StopsReading (of t) why)
-    → IfFaulty (refusal_of why) (λ f. IfSome text (λ t. IsTrueOfRecords faces (of t) f))
+    → IfFaulty (refusal_of why) (λ f. IfSome text (λ t. IsTrueOfRecordsFor faces (of t) f))
 refused_fault faces of text (map.Refused line cause) stops = tt
 refused_fault faces of text map.Device stops = tt
 refused_fault faces of text map.Memory stops = tt
@@ -100,10 +100,10 @@ module _ (faces : Bool) (of : List ℕ → AllRecords) (text : Option (List ℕ)
       (refused_sound why (λ r. IfSome text (λ t. HaveMap (of t) (λ m. P m r))))
 
   pub faulty : (read : Result Map MapStop) → AuditsRead faces read answer → IfOk read (λ m. IfSome text (λ t. IsReadFrom (of t) m))
-      → IfErr read (λ why. IfSome text (λ t. StopsReading (of t) why)) → IfFaulty answer (λ f. IfSome text (λ t. IsTrueOfRecords faces (of t) f))
+      → IfErr read (λ why. IfSome text (λ t. StopsReading (of t) why)) → IfFaulty answer (λ f. IfSome text (λ t. IsTrueOfRecordsFor faces (of t) f))
   faulty (Ok m) says is refused = fault_so faces of text m is answer says
   faulty (Err why) says is refused =
-      subst (λ a. IfFaulty a (λ f. IfSome text (λ t. IsTrueOfRecords faces (of t) f))) (sym says) (refused_fault faces of text why refused)
+      subst (λ a. IfFaulty a (λ f. IfSome text (λ t. IsTrueOfRecordsFor faces (of t) f))) (sym says) (refused_fault faces of text why refused)
 
   pub exactly : (read : Result Map MapStop) → AuditsRead faces read answer → IfOk read (λ m. IfSome text (λ t. IsReadFrom (of t) m))
       → IfErr read (λ why. IfSome text (λ t. StopsReading (of t) why)) → IfOk answer (λ a. IfSome text (λ t. SaysSound a ↔ HaveMap (of t) (IsSoundFor faces)))

@@ -1,6 +1,6 @@
 //! The decision of maps whose chains are planar and whose sides agree.
 
-ghost use Rattle.std.specs.Prelude.{ℕ, IfOk, MatchOption, false};
+ghost use Rattle.std.specs.Prelude.{ℕ, IfOk, MatchOption};
 ghost use Rattle.tl_check_planar.specs.Planar.{IsPlanar};
 ghost use Rattle.tl_check_inside.specs.Suspects.{AreSuspects};
 ghost use Rattle.tl_check_verdict.specs.Sound.{IsSound};
@@ -9,7 +9,7 @@ ghost use Rattle.tl_build.specs.Keeping.Deciding.{Audits};
 ghost use Rattle.tl_build_propose.specs.Keeping.Counted.{HaveWalksInAgreement};
 
 use crate::answer::Audit;
-use crate::planar::look_at_suspects;
+use crate::points::look_at_suspects;
 use std::alloc::Global;
 use tl_cert_output::Stop;
 use tl_check_sides::cells::find_cells_at_odds;
@@ -36,7 +36,7 @@ fn find_other_fault(alloc: Global, map: &Map, suspects: &[u32]) -> Result<Option
     requires planar { IsPlanar map.now.chains }
     requires agreeing { (rings : ℕ) × HaveWalksInAgreement map.now.chains rings }
     requires suspects { AreSuspects map.now suspects.now }
-    ensures { IfOk result (λ found. MatchOption found (IsSound map.now) (IsTrueOfMap false map.now)) }
+    ensures { IfOk result (λ found. MatchOption found (IsSound map.now) (IsTrueOfMap map.now)) }
 {
     match find_cells_at_odds(alloc, map)? {
         Some(odds) => Ok(Some(MapFault::Cell(odds))),

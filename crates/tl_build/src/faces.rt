@@ -7,7 +7,7 @@ ghost use Rattle.tl_check_faces.specs.Facing.{FacesAgree};
 ghost use Rattle.tl_check_faces.specs.Odd.{IsLowestOddGap};
 ghost use Rattle.tl_check_verdict.specs.declared.fault.MapFault.TheVariants.{Face};
 ghost use Rattle.tl_check_verdict.specs.Sound.{IsSound, IsSoundFor};
-ghost use Rattle.tl_check_verdict.specs.Truth.{IsTrueOfMap};
+ghost use Rattle.tl_check_verdict.specs.Truth.{IsTrueOfMapFor};
 
 use tl_check_face_faults::face_fault_of;
 use tl_check_faces::{FaceFault, OddGap};
@@ -19,7 +19,7 @@ pub fn find_face_fault(map: &Map, asked: bool, gaps: &[OddGap]) -> Option<MapFau
     requires sound { IsSound map.now }
     requires odd { IsPlanar map.now.chains → All (IsLowestOddGap widest map.now.chains) gaps.now }
     requires agree { IsPlanar map.now.chains → gaps.now ≡ [] → FacesAgree map.now.chains }
-    ensures { MatchOption result (IsSoundFor asked map.now) (IsTrueOfMap asked map.now) }
+    ensures { MatchOption result (IsSoundFor asked map.now) (IsTrueOfMapFor asked map.now) }
 {
     if !asked {
         return None;

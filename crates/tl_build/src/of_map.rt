@@ -1,6 +1,6 @@
 //! A certificate of a map, made with none given.
 
-ghost use Rattle.std.specs.Prelude.{◌≡◌, ◌≤◌, ◌↔◌, Ok, IfOk, IfErr, false, All, []};
+ghost use Rattle.std.specs.Prelude.{◌≡◌, ◌≤◌, ◌↔◌, Ok, IfOk, IfErr, All, []};
 ghost use Rattle.tl_tree_index.specs.Trees.{depth, tree_of};
 ghost use Rattle.tl_tree_pack.specs.Packed.{IsEvenlySplit};
 ghost use Rattle.tl_check_planar.specs.Planar.{IsPlanar};
@@ -13,7 +13,7 @@ ghost use Rattle.tl_check_faces.specs.Facing.{FacesAgree};
 ghost use Rattle.tl_check_faces.specs.Odd.{IsLowestOddGap};
 ghost use Rattle.tl_check_verdict.specs.Sound.{IsSound, IsSoundFor};
 ghost use Rattle.tl_check_verdict.specs.Valid.{IsValid};
-ghost use Rattle.tl_check_verdict.specs.Truth.{IsTrueOfMap};
+ghost use Rattle.tl_check_verdict.specs.Truth.{IsTrueOfMap, IsTrueOfMapFor};
 ghost use Rattle.tl_build.specs.Building.{IfCert, OnCert, IfFault, HasCert};
 ghost use Rattle.tl_build.specs.Auditing.{IsMemoryStop};
 ghost use Rattle.tl_build.specs.Keeping.Deciding.{Builds, BuildsFor, IsBuilt};
@@ -46,7 +46,7 @@ pub fn build(alloc: Global, map: &Map) -> Result<Built, Stop>
     // children, whose numbers of segments differ by at most one, and of eight or fewer there is a leaf.
     ensures split { IfCert result (λ cert. IsEvenlySplit (tree_of cert.tree)) }
     // Each fault is true, and none is of faces.
-    ensures fault { IfFault result (IsTrueOfMap false map.now) }
+    ensures fault { IfFault result (IsTrueOfMap map.now) }
     // If it isn't stopped, a certificate is made exactly where the map is sound, and a fault is named where not.
     ensures exactly { IfOk result (λ built. HasCert built ↔ IsSound map.now) }
     // It stops for memory alone.
@@ -69,7 +69,7 @@ pub fn build_with(alloc: Global, map: &Map, faces: bool) -> Result<Built, Stop>
     // children, whose numbers of segments differ by at most one, and of eight or fewer there is a leaf.
     ensures split { IfCert result (λ cert. IsEvenlySplit (tree_of cert.tree)) }
     // Each fault is true; one of faces comes only where they are asked for, and nothing else is wrong with the map.
-    ensures fault { IfFault result (IsTrueOfMap faces map.now) }
+    ensures fault { IfFault result (IsTrueOfMapFor faces map.now) }
     // If it isn't stopped, a certificate is made exactly where the map keeps what is asked of it, and a fault is named where not.
     ensures exactly { IfOk result (λ built. HasCert built ↔ IsSoundFor faces map.now) }
     // It stops for memory alone.

@@ -1,9 +1,9 @@
 //! The decision of records with no certificate given.
 
-ghost use Rattle.std.specs.Prelude.{◌≡◌, ◌↔◌, Ok, IfOk, IfErr, false, All, []};
+ghost use Rattle.std.specs.Prelude.{◌≡◌, ◌↔◌, Ok, IfOk, IfErr, All, []};
 ghost use Rattle.std.specs.Option.{IfSome};
 ghost use Rattle.tl_record.specs.Layout.{tiger_2006, layout_with};
-ghost use Rattle.tl_record.specs.Records.{records_of};
+ghost use Rattle.tl_record.specs.Records.{lines_read, records_of};
 ghost use Rattle.tl_check_planar.specs.Planar.{IsPlanar};
 ghost use Rattle.tl_check_planar.specs.declared.meet.Meet.{Meet};
 ghost use Rattle.tl_check_planar.specs.Searching.{IsTrueMeet};
@@ -14,8 +14,8 @@ ghost use Rattle.tl_check_faces.specs.Facing.{FacesAgree};
 ghost use Rattle.tl_check_faces.specs.Odd.{IsLowestOddGap};
 ghost use Rattle.tl_check_verdict.specs.Sound.{IsSound, IsSoundFor};
 ghost use Rattle.tl_check_verdict.specs.Verdicts.{IsReport};
-ghost use Rattle.tl_check_verdict.specs.Records.{HaveMap, IsTrueOfRecords};
-ghost use Rattle.tl_check_verdict.specs.Truth.{IsTrueOfMap};
+ghost use Rattle.tl_check_verdict.specs.Records.{HaveMap, HaveMapOf, IsTrueOfRecords, IsTrueOfRecordsFor};
+ghost use Rattle.tl_check_verdict.specs.Truth.{IsTrueOfMapFor};
 ghost use Rattle.tl_build.specs.Auditing.{IfSound, OnSound, IfFaulty, SaysSound, IsMemoryStop, IsNotBudget, MayStopAudit};
 ghost use Rattle.tl_cert_output.specs.Stops.{TellsDevice};
 ghost use Rattle.tl_build.specs.Keeping.Deciding.{AuditsFor, AuditsRead};
@@ -40,20 +40,18 @@ use tl_record::{Options, PLAIN, Source};
 /// The records are read whole first. [`Stop::Memory`] comes where memory was refused, and [`Stop::Budget`] never.
 pub fn audit<R: Source>(alloc: Global, hasher: RandomState, records: &mut R) -> Result<Audit, Stop>
     // The map is sound.
-    ensures sound { OnSound result (IfSome (R.remaining records.old) (λ text.
-        HaveMap (records_of tiger_2006 text) IsSound)) }
+    ensures sound { OnSound result (HaveMapOf (lines_read tiger_2006) (R.remaining records.old) IsSound) }
     // The report has the map's numbers.
-    ensures report { IfSound result (λ report. IfSome (R.remaining records.old) (λ text.
-        HaveMap (records_of tiger_2006 text) (λ m. IsReport m report))) }
+    ensures report { IfSound result (λ report. HaveMapOf (lines_read tiger_2006) (R.remaining records.old) (λ m. IsReport m report)) }
     // Each fault is true, and none is of faces.
     ensures fault { IfFaulty result (λ fault. IfSome (R.remaining records.old) (λ text.
-        IsTrueOfRecords false (records_of tiger_2006 text) fault)) }
+        IsTrueOfRecords (lines_read tiger_2006 text) fault)) }
     // If it isn't stopped, it answers `Sound` exactly where the records have a map that is sound, and a fault where not.
     ensures exactly { IfOk result (λ answer. IfSome (R.remaining records.old) (λ text.
-        SaysSound answer ↔ HaveMap (records_of tiger_2006 text) IsSound)) }
+        SaysSound answer ↔ HaveMap (lines_read tiger_2006 text) IsSound)) }
     // It stops at the first line that is refused.
     ensures stops { IfErr result (λ stop. IfSome (R.remaining records.old) (λ text.
-        MayStopAudit (records_of tiger_2006 text) stop)) }
+        MayStopAudit (lines_read tiger_2006 text) stop)) }
     // It has no budget to spend.
     ensures budget { IfErr result IsNotBudget }
     // `Device` is answered where a read failed in this call, and nowhere else.
@@ -72,14 +70,12 @@ pub fn audit_with<R: Source>(
     options: Options,
 ) -> Result<Audit, Stop>
     // The map is sound, with zero-cell ids that agree where they are read, and keeps what is asked of its faces.
-    ensures sound { OnSound result (IfSome (R.remaining records.old) (λ text.
-        HaveMap (records_of (layout_with options) text) (IsSoundFor options.faces))) }
+    ensures sound { OnSound result (HaveMapOf (records_of (layout_with options)) (R.remaining records.old) (IsSoundFor options.faces)) }
     // The report has the map's numbers.
-    ensures report { IfSound result (λ report. IfSome (R.remaining records.old) (λ text.
-        HaveMap (records_of (layout_with options) text) (λ m. IsReport m report))) }
+    ensures report { IfSound result (λ report. HaveMapOf (records_of (layout_with options)) (R.remaining records.old) (λ m. IsReport m report)) }
     // Each fault is true; one of faces comes only where they are asked for, and nothing else is wrong with the map.
     ensures fault { IfFaulty result (λ fault. IfSome (R.remaining records.old) (λ text.
-        IsTrueOfRecords options.faces (records_of (layout_with options) text) fault)) }
+        IsTrueOfRecordsFor options.faces (records_of (layout_with options) text) fault)) }
     // If it isn't stopped, it answers `Sound` exactly where the records have such a map, and a fault where not.
     ensures exactly { IfOk result (λ answer. IfSome (R.remaining records.old) (λ text.
         SaysSound answer ↔ HaveMap (records_of (layout_with options) text) (IsSoundFor options.faces))) }
@@ -114,7 +110,7 @@ pub fn audit_map(alloc: Global, map: &Map, faces: bool) -> Result<Audit, Stop>
     // The report has the map's numbers.
     ensures report { IfSound result (IsReport map.now) }
     // Each fault is true; one of faces comes only where they are asked for, and nothing else is wrong with the map.
-    ensures fault { IfFaulty result (IsTrueOfMap faces map.now) }
+    ensures fault { IfFaulty result (IsTrueOfMapFor faces map.now) }
     // If it isn't stopped, it answers `Sound` exactly where the map keeps what is asked of it, and a fault where not.
     ensures exactly { IfOk result (λ answer. SaysSound answer ↔ IsSoundFor faces map.now) }
     // It stops for memory alone.

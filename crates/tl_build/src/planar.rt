@@ -1,32 +1,27 @@
 //! The decision of maps whose chains are planar, with no certificate given.
 
-ghost use Rattle.std.specs.Prelude.{◌<◌, ◌^◌, length, IfOk, MatchOption, false};
-ghost use Rattle.tl_tree_index.specs.Preorder.{IsPreorder};
+ghost use Rattle.std.specs.Prelude.{IfOk, MatchOption};
 ghost use Rattle.tl_check_planar.specs.Planar.{IsPlanar};
 ghost use Rattle.tl_check_sides.specs.Sides.{SidesAgree};
 ghost use Rattle.tl_check_sides.specs.Walks.{AreWalks};
-ghost use Rattle.tl_check_inside.specs.Placed.{ArePlaced};
 ghost use Rattle.tl_check_inside.specs.Suspects.{AreSuspects};
 ghost use Rattle.tl_check_sides.specs.Cells.Cells.{CellsAgree};
 ghost use Rattle.tl_check_faces.specs.Crossings.Headings.{AreProper};
 ghost use Rattle.tl_check_verdict.specs.Sound.{IsSound};
 ghost use Rattle.tl_check_verdict.specs.Truth.{IsTrueOfMap};
-ghost use Rattle.tl_check_verdict.specs.Valid.{IsTree};
 ghost use Rattle.tl_build.specs.Keeping.Deciding.{Audits, Builds};
 ghost use Rattle.tl_build_propose.specs.Keeping.Lists.{lists_in};
-ghost use Rattle.tl_build_propose.specs.Keeping.Proposed.{IsProposal};
 
 use crate::agreeing::audit_agreeing;
 use crate::answer::{Audit, Built};
-use crate::points::{find_misplaced_beside, find_misplaced_by};
+use crate::points::look_at_suspects;
 use std::alloc::Global;
 use tl_build_propose::{count_walks, find_sides_at_odds, propose, propose_walks};
-use tl_cert::Certificate;
 use tl_cert_output::Stop;
 use tl_check_sides::cells::find_cells_at_odds;
 use tl_check_verdict::{MapFault, report};
 use tl_map_county::Map;
-use tl_tree_index::{Memory, TreeNode};
+use tl_tree_index::Memory;
 
 /// Decides whether a map is sound whose chains are planar, where the points of all polygons but the suspects are known to
 /// lie where they have to.
@@ -67,7 +62,7 @@ fn find_fault(
     requires proper { AreProper map.now.chains }
     requires walks { AreWalks map.now.chains (lists_in walks.now) }
     requires suspects { AreSuspects map.now suspects.now }
-    ensures { IfOk result (λ found. MatchOption found (IsSound map.now) (IsTrueOfMap false map.now)) }
+    ensures { IfOk result (λ found. MatchOption found (IsSound map.now) (IsTrueOfMap map.now)) }
 {
     match find_at_odds(alloc, map, walks)? {
         Some(fault) => Ok(Some(fault)),
@@ -80,7 +75,7 @@ fn find_at_odds(alloc: Global, map: &Map, walks: &[Vec<u32>]) -> Result<Option<M
     requires planar { IsPlanar map.now.chains }
     requires proper { AreProper map.now.chains }
     requires walks { AreWalks map.now.chains (lists_in walks.now) }
-    ensures { IfOk result (λ found. MatchOption found (SidesAgree map.now.chains × CellsAgree map.now.chains) (IsTrueOfMap false map.now)) }
+    ensures { IfOk result (λ found. MatchOption found (SidesAgree map.now.chains × CellsAgree map.now.chains) (IsTrueOfMap map.now)) }
 {
     match find_cells_at_odds(alloc, map)? {
         Some(odds) => Ok(Some(MapFault::Cell(odds))),
@@ -97,61 +92,8 @@ pub fn build_planar(alloc: Global, map: &Map, suspects: &[u32]) -> Result<Built,
 {
     map.has_proper_chains();
     let cert = propose(alloc, map)?;
-    match find_fault_beside(alloc, map, &cert, suspects)? {
+    match find_fault(alloc, map, cert.walks(), suspects)? {
         None => Ok(Built::Cert(cert)),
         Some(fault) => Ok(Built::Fault(fault)),
     }
-}
-
-/// What is wrong with a map whose chains are planar, if anything is, by the certificate that is proposed for it.
-fn find_fault_beside(
-    alloc: Global,
-    map: &Map,
-    cert: &Certificate,
-    suspects: &[u32],
-) -> Result<Option<MapFault>, Memory>
-    requires planar { IsPlanar map.now.chains }
-    requires proper { AreProper map.now.chains }
-    requires proposed { IsProposal map.now cert.now }
-    requires suspects { AreSuspects map.now suspects.now }
-    ensures { IfOk result (λ found. MatchOption found (IsSound map.now) (IsTrueOfMap false map.now)) }
-{
-    match find_at_odds(alloc, map, cert.walks())? {
-        Some(fault) => Ok(Some(fault)),
-        None => look_at_suspects_by(alloc, map, cert.tree(), suspects),
-    }
-}
-
-/// A suspect whose point doesn't lie where it has to, if there is one. Where there are no suspects nothing is looked at.
-pub fn look_at_suspects(
-    alloc: Global,
-    map: &Map,
-    suspects: &[u32],
-) -> Result<Option<MapFault>, Memory>
-    requires suspects { AreSuspects map.now suspects.now }
-    ensures { IfOk result (λ found. MatchOption found (ArePlaced map.now) (IsTrueOfMap false map.now)) }
-{
-    if suspects.is_empty() {
-        return Ok(None);
-    }
-    find_misplaced_beside(alloc, map, suspects)
-}
-
-/// The same by a tree of the map's segments.
-fn look_at_suspects_by(
-    alloc: Global,
-    map: &Map,
-    nodes: &[TreeNode],
-    suspects: &[u32],
-) -> Result<Option<MapFault>, Memory>
-    requires whole { IsPreorder nodes.now }
-    requires numbered { length nodes.now < 2 ^ 32 }
-    requires tree { IsTree map.now nodes.now }
-    requires suspects { AreSuspects map.now suspects.now }
-    ensures { IfOk result (λ found. MatchOption found (ArePlaced map.now) (IsTrueOfMap false map.now)) }
-{
-    if suspects.is_empty() {
-        return Ok(None);
-    }
-    find_misplaced_by(alloc, map, nodes, suspects)
 }

@@ -11,9 +11,9 @@ use Rattle.tl_tree_index.specs.Fits.{Fits}
 use Rattle.tl_tree_index.specs.Trees.{depth, tree_of}
 use Rattle.tl_tree_pack.specs.Packed.{IsFilled, IsShallow}
 use Rattle.tl_cert.specs.Certificates.{IsNode}
-use Rattle.tl_check_verdict.specs.Valid.{segments_of, IsTree}
+use Rattle.tl_check_verdict.specs.Valid.{segments_in_map, IsTree}
 
-pub is_tree : (m : TheMap) (nodes : List TreeNode) → Fits (tree_of nodes) (segments_of m) (segment_rect m.chains) → depth (tree_of nodes) ≤ 11 → IsTree m nodes
+pub is_tree : (m : TheMap) (nodes : List TreeNode) → Fits (tree_of nodes) (segments_in_map m) (segment_rect m.chains) → depth (tree_of nodes) ≤ 11 → IsTree m nodes
 is_tree m nodes fits levels = record { fits = fits; shallow = omega (arith, levels) }
 
 -- eight levels hold as many segments as a map can have

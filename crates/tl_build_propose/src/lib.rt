@@ -8,5 +8,5 @@ mod rounds;
 mod sides;
 mod walks;
 
-pub use proposal::{count_walks, propose, propose_tree, propose_walks};
+pub use proposal::{count_walks, propose, propose_walks};
 pub use sides::find_sides_at_odds;

@@ -56,7 +56,7 @@ fn counts_of(map: &Map) -> Counts
 }
 
 /// The tree over the segments of a map.
-pub fn propose_tree(alloc: Global, map: &Map) -> Result<Vec<TreeNode>, AllocError>
+fn propose_tree(alloc: Global, map: &Map) -> Result<Vec<TreeNode>, AllocError>
     ensures tree { IfOk result (λ nodes. IsTree map.now nodes.items) }
     ensures shallow { IfOk result (λ nodes. depth (tree_of nodes.items) ≤ 8) }
     ensures split { IfOk result (λ nodes. IsEvenlySplit (tree_of nodes.items)) }

@@ -1,6 +1,6 @@
 //! Sides along the walks of a map.
 
-ghost use Rattle.std.specs.Prelude.{MatchOption, false};
+ghost use Rattle.std.specs.Prelude.{MatchOption};
 ghost use Rattle.tl_check_sides.specs.Sides.{IsRing, SidesAgree};
 ghost use Rattle.tl_check_sides.specs.Walks.{AreWalks};
 ghost use Rattle.tl_check_faces.specs.Crossings.Headings.{HeadApart};
@@ -15,7 +15,7 @@ use tl_map_county::{Map, reverse_dart};
 pub fn find_sides_at_odds(map: &Map, walks: &[Vec<u32>]) -> Option<MapFault>
     requires walks { AreWalks map.now.chains (lists_in walks.now) }
     requires apart { HeadApart map.now.chains }
-    ensures { MatchOption result (SidesAgree map.now.chains) (IsTrueOfMap false map.now) }
+    ensures { MatchOption result (SidesAgree map.now.chains) (IsTrueOfMap map.now) }
 {
     for walk in walks {
         match side_at_odds(map, walk) {
@@ -29,7 +29,7 @@ pub fn find_sides_at_odds(map: &Map, walks: &[Vec<u32>]) -> Option<MapFault>
 /// Where a ring comes from one side on its left to another, if it does.
 fn side_at_odds(map: &Map, ring: &[u32]) -> Option<MapFault>
     requires { IsRing map.now.chains ring.now }
-    ensures { MatchOption result (HasOneLeft map.now.chains ring.now) (IsTrueOfMap false map.now) }
+    ensures { MatchOption result (HasOneLeft map.now.chains ring.now) (IsTrueOfMap map.now) }
 {
     let left = map.dart_left(ring[0]);
     for place in 1..ring.len() {

@@ -1,5 +1,5 @@
 -- What the clauses of an answer by a certificate's text read off what it decides.
-use Rattle.std.proofs.Common.{ℕ, List, Option, Ok, Err, false}
+use Rattle.std.proofs.Common.{ℕ, List, Option, Ok, Err}
 use Rattle.std.specs.Prelude.{IfErr}
 use Rattle.std.specs.Option.{IfSome}
 use Rattle.tl_map_county.specs.TheMap.{TheMap}
@@ -31,7 +31,7 @@ module _ (m : TheMap) (budget : ℕ) (text : Option (List ℕ)) where
   reported (Ok (verdict.CertFault fault)) says = tt
   reported (Err why) says = tt
 
-  pub map_fault : (answer : Answer) → Decides m budget text answer → IfMapFault answer (IsTrueOfMap false m)
+  pub map_fault : (answer : Answer) → Decides m budget text answer → IfMapFault answer (IsTrueOfMap m)
   map_fault (Ok (verdict.Sound report)) says = tt
   map_fault (Ok (verdict.MapFault fault)) says = says
   map_fault (Ok (verdict.CertFault fault)) says = tt

@@ -6,7 +6,7 @@ use Rattle.tl_map_county.specs.Segments.{segments_before}
 use Rattle.tl_tree_index.specs.Pairs.{indices, row_sum, pair_sum, meeting, overlaps}
 use Rattle.tl_check_planar.specs.Rectangles.{segment_rect}
 use Rattle.tl_check_planar.specs.Searching.{meeting_segments}
-use Rattle.tl_check.specs.Keeping.Known.{pairs_of}
+use Rattle.tl_check.specs.Keeping.Searching.{pairs_of}
 
 one_at_most : (a b : Bool) → (if a then 0 else (if b then 1 else 0)) ≤ 1
 one_at_most true b = omega arith

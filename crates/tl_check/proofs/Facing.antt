@@ -6,19 +6,17 @@ use Rattle.tl_check_verdict.specs.declared.fault.MapFault.{MapFault}
 use Rattle.tl_check_verdict.specs.declared.fault.MapFault.TheVariants.{Records, NoRecords, Meet, Side, PolygonPoint, Cell, Face}
 use Rattle.tl_check_verdict.specs.declared.fault.CertFault.{CertFault}
 use Rattle.tl_check_verdict.specs.declared.verdict.Report.{Report}
-use Rattle.tl_check_verdict.specs.declared.verdict.Verdict.{Verdict}
 use Rattle.tl_check_verdict.specs.declared.verdict.Verdict.TheVariants as verdict
 use Rattle.tl_cert_output.specs.declared.stop.Stop.{Stop}
-use Rattle.tl_cert_output.specs.declared.stop.Stop.TheVariants.{Memory}
 use Rattle.tl_check_verdict.specs.Sound.{IsSound, IsSoundFor}
-use Rattle.tl_check_verdict.specs.Truth.{IsTrueOfMap}
+use Rattle.tl_check_verdict.specs.Truth.{IsTrueOfMap, IsTrueOfMapFor}
 use Rattle.tl_check_verdict.specs.Verdicts.{Answer, OnSound, OnSoundButFaces, IfSound, IfMapFault, IfCertFault, UnlessMeet, OnSearched}
 use Rattle.tl_cert_output.specs.Stops.{TellsDevice}
 use Rattle.tl_check_faces.specs.Crossings.Headings.{AreProper}
 use Rattle.tl_check_faces.specs.declared.fault.FaceFault.{FaceFault}
 use Rattle.tl_check_faces.specs.Facing.{FacesAgree}
 use Rattle.tl_check_faces.specs.Faults.{IsTrueFaceFault}
-use Rattle.tl_check_verdict.proofs.Denials.{true_still}
+use Rattle.tl_check_verdict.proofs.Denials.{true_still, true_alone}
 use Rattle.tl_check_verdict.proofs.Asked.{keeps, disagrees}
 use Rattle.tl_check.specs.Keeping.Faces.{IsOfFaces, IsFacing, IsWithFaces, verdict_of}
 use Rattle.tl_check.specs.Keeping.Read.{IsDecision}
@@ -30,9 +28,15 @@ sound_so (Ok (verdict.MapFault fault)) P Q p so = tt
 sound_so (Ok (verdict.CertFault fault)) P Q p so = tt
 sound_so (Err why) P Q p so = tt
 
+pub fault_so : (answer : Answer) (P Q : MapFault → Type 0) → IfMapFault answer P → ((fault : MapFault) → P fault → Q fault) → IfMapFault answer Q
+fault_so (Ok (verdict.Sound report)) P Q p so = tt
+fault_so (Ok (verdict.MapFault fault)) P Q p so = so fault p
+fault_so (Ok (verdict.CertFault fault)) P Q p so = tt
+fault_so (Err why) P Q p so = tt
+
 -- what is decided by the faces that were found, if any were
 pub by_found : (faces : Bool) (m : TheMap) (report : Report) → IsTrue faces → IsSound m → AreProper m.chains → (found : Option FaceFault) → (found ≡ None → FacesAgree m.chains)
-    → ((fault : FaceFault) → found ≡ Some fault → IsTrueFaceFault m fault) → IsFacing faces m report (Ok (verdict_of report found))
+    → ((fault : FaceFault) → found ≡ Some fault → IsTrueFaceFault m fault) → IsFacing faces m report (verdict_of report found)
 by_found faces m report asked sound proper (Some fault) agree disagree = (tt, disagrees faces m fault asked sound proper (disagree fault refl))
 by_found faces m report asked sound proper None agree disagree = (refl, keeps faces m sound (λ a. agree refl))
 
@@ -71,14 +75,14 @@ of_faces_searched P (Cell odds) is = absurd is
 of_faces_searched P (Face fault) is = tt
 
 -- one that is true without faces isn't of faces
-not_of_faces : (P : Type 0) (m : TheMap) (fault : MapFault) → IsTrueOfMap false m fault → OnSoundButFaces (Ok (verdict.MapFault fault)) P
+not_of_faces : (P : Type 0) (m : TheMap) (fault : MapFault) → IsTrueOfMap m fault → OnSoundButFaces (Ok (verdict.MapFault fault)) P
 not_of_faces P m (Records fault) true = tt
 not_of_faces P m (NoRecords lacking) true = tt
 not_of_faces P m (Meet meet) true = tt
 not_of_faces P m (Side node first next) true = tt
 not_of_faces P m (PolygonPoint fault) true = tt
 not_of_faces P m (Cell odds) true = tt
-not_of_faces P m (Face fault) true = absurd (cc)
+not_of_faces P m (Face fault) true = absurd true
 
 -- ---- what holds of the answer
 
@@ -87,17 +91,17 @@ module _ (faces : Bool) (m : TheMap) where
   sound (Ok (verdict.Sound report)) (Ok (verdict.Sound told)) is = is.1
   sound (Ok (verdict.Sound report)) (Ok (verdict.MapFault fault)) is = tt
   sound (Ok (verdict.Sound report)) (Ok (verdict.CertFault fault)) is = tt
-  sound (Ok (verdict.Sound report)) (Err why) is = tt
+  sound (Ok (verdict.Sound report)) (Err why) is = absurd is
   sound (Ok (verdict.MapFault fault)) answer is = subst (λ a. OnSound a (IsSoundFor faces m)) (sym is) tt
   sound (Ok (verdict.CertFault fault)) answer is = subst (λ a. OnSound a (IsSoundFor faces m)) (sym is) tt
   sound (Err why) answer is = subst (λ a. OnSound a (IsSoundFor faces m)) (sym is) tt
 
-  but_faces : (P : Type 0) (check answer : Answer) → IsWithFaces faces m check answer → IfMapFault check (IsTrueOfMap false m) → OnSoundButFaces check P
+  but_faces : (P : Type 0) (check answer : Answer) → IsWithFaces faces m check answer → IfMapFault check (IsTrueOfMap m) → OnSoundButFaces check P
       → OnSoundButFaces answer P
   but_faces P (Ok (verdict.Sound report)) (Ok (verdict.Sound told)) is true p = p
   but_faces P (Ok (verdict.Sound report)) (Ok (verdict.MapFault fault)) is true p = of_faces_but P p fault is.0
   but_faces P (Ok (verdict.Sound report)) (Ok (verdict.CertFault fault)) is true p = tt
-  but_faces P (Ok (verdict.Sound report)) (Err why) is true p = tt
+  but_faces P (Ok (verdict.Sound report)) (Err why) is true p = absurd is
   but_faces P (Ok (verdict.MapFault fault)) answer is true p = subst (λ a. OnSoundButFaces a P) (sym is) (not_of_faces P m fault true)
   but_faces P (Ok (verdict.CertFault fault)) answer is true p = subst (λ a. OnSoundButFaces a P) (sym is) tt
   but_faces P (Err why) answer is true p = subst (λ a. OnSoundButFaces a P) (sym is) tt
@@ -106,25 +110,25 @@ module _ (faces : Bool) (m : TheMap) where
   reported P (Ok (verdict.Sound report)) (Ok (verdict.Sound told)) is p = subst P (sym is.0) p
   reported P (Ok (verdict.Sound report)) (Ok (verdict.MapFault fault)) is p = tt
   reported P (Ok (verdict.Sound report)) (Ok (verdict.CertFault fault)) is p = tt
-  reported P (Ok (verdict.Sound report)) (Err why) is p = tt
+  reported P (Ok (verdict.Sound report)) (Err why) is p = absurd is
   reported P (Ok (verdict.MapFault fault)) answer is p = subst (λ a. IfSound a P) (sym is) tt
   reported P (Ok (verdict.CertFault fault)) answer is p = subst (λ a. IfSound a P) (sym is) tt
   reported P (Err why) answer is p = subst (λ a. IfSound a P) (sym is) tt
 
-  map_fault : (check answer : Answer) → IsWithFaces faces m check answer → IfMapFault check (IsTrueOfMap false m) → IfMapFault answer (IsTrueOfMap faces m)
+  map_fault : (check answer : Answer) → IsWithFaces faces m check answer → IfMapFault check (IsTrueOfMap m) → IfMapFault answer (IsTrueOfMapFor faces m)
   map_fault (Ok (verdict.Sound report)) (Ok (verdict.Sound told)) is true = tt
   map_fault (Ok (verdict.Sound report)) (Ok (verdict.MapFault fault)) is true = is.1
   map_fault (Ok (verdict.Sound report)) (Ok (verdict.CertFault fault)) is true = tt
-  map_fault (Ok (verdict.Sound report)) (Err why) is true = tt
-  map_fault (Ok (verdict.MapFault fault)) answer is true = subst (λ a. IfMapFault a (IsTrueOfMap faces m)) (sym is) (true_still faces m fault true)
-  map_fault (Ok (verdict.CertFault fault)) answer is true = subst (λ a. IfMapFault a (IsTrueOfMap faces m)) (sym is) tt
-  map_fault (Err why) answer is true = subst (λ a. IfMapFault a (IsTrueOfMap faces m)) (sym is) tt
+  map_fault (Ok (verdict.Sound report)) (Err why) is true = absurd is
+  map_fault (Ok (verdict.MapFault fault)) answer is true = subst (λ a. IfMapFault a (IsTrueOfMapFor faces m)) (sym is) (true_still faces m fault true)
+  map_fault (Ok (verdict.CertFault fault)) answer is true = subst (λ a. IfMapFault a (IsTrueOfMapFor faces m)) (sym is) tt
+  map_fault (Err why) answer is true = subst (λ a. IfMapFault a (IsTrueOfMapFor faces m)) (sym is) tt
 
   cert_fault : (P : CertFault → Type 0) (check answer : Answer) → IsWithFaces faces m check answer → IfCertFault check P → IfCertFault answer P
   cert_fault P (Ok (verdict.Sound report)) (Ok (verdict.Sound told)) is p = tt
   cert_fault P (Ok (verdict.Sound report)) (Ok (verdict.MapFault fault)) is p = tt
   cert_fault P (Ok (verdict.Sound report)) (Ok (verdict.CertFault fault)) is p = absurd is
-  cert_fault P (Ok (verdict.Sound report)) (Err why) is p = tt
+  cert_fault P (Ok (verdict.Sound report)) (Err why) is p = absurd is
   cert_fault P (Ok (verdict.MapFault fault)) answer is p = subst (λ a. IfCertFault a P) (sym is) tt
   cert_fault P (Ok (verdict.CertFault fault)) answer is p = subst (λ a. IfCertFault a P) (sym is) p
   cert_fault P (Err why) answer is p = subst (λ a. IfCertFault a P) (sym is) tt
@@ -133,7 +137,7 @@ module _ (faces : Bool) (m : TheMap) where
   meets P (Ok (verdict.Sound report)) (Ok (verdict.Sound told)) is p = p
   meets P (Ok (verdict.Sound report)) (Ok (verdict.MapFault fault)) is p = of_faces_meets P p fault is.0
   meets P (Ok (verdict.Sound report)) (Ok (verdict.CertFault fault)) is p = p
-  meets P (Ok (verdict.Sound report)) (Err why) is p = tt
+  meets P (Ok (verdict.Sound report)) (Err why) is p = absurd is
   meets P (Ok (verdict.MapFault fault)) answer is p = subst (λ a. UnlessMeet a P) (sym is) p
   meets P (Ok (verdict.CertFault fault)) answer is p = subst (λ a. UnlessMeet a P) (sym is) p
   meets P (Err why) answer is p = subst (λ a. UnlessMeet a P) (sym is) tt
@@ -142,44 +146,44 @@ module _ (faces : Bool) (m : TheMap) where
   searched P (Ok (verdict.Sound report)) (Ok (verdict.Sound told)) is p = tt
   searched P (Ok (verdict.Sound report)) (Ok (verdict.MapFault fault)) is p = of_faces_searched P fault is.0
   searched P (Ok (verdict.Sound report)) (Ok (verdict.CertFault fault)) is p = tt
-  searched P (Ok (verdict.Sound report)) (Err why) is p = subst (λ w. OnSearched (Err w) P) (sym is) tt
+  searched P (Ok (verdict.Sound report)) (Err why) is p = absurd is
   searched P (Ok (verdict.MapFault fault)) answer is p = subst (λ a. OnSearched a P) (sym is) p
   searched P (Ok (verdict.CertFault fault)) answer is p = subst (λ a. OnSearched a P) (sym is) tt
   searched P (Err why) answer is p = subst (λ a. OnSearched a P) (sym is) p
 
-  stopped : (P : Stop → Type 0) → P Memory → (check answer : Answer) → IsWithFaces faces m check answer → IfErr check P → IfErr answer P
-  stopped P refused (Ok (verdict.Sound report)) (Ok v) is p = tt
-  stopped P refused (Ok (verdict.Sound report)) (Err why) is p = subst P (sym is) refused
-  stopped P refused (Ok (verdict.MapFault fault)) answer is p = subst (λ a. IfErr a P) (sym is) tt
-  stopped P refused (Ok (verdict.CertFault fault)) answer is p = subst (λ a. IfErr a P) (sym is) tt
-  stopped P refused (Err why) answer is p = subst (λ a. IfErr a P) (sym is) p
+  stopped : (P : Stop → Type 0) → (check answer : Answer) → IsWithFaces faces m check answer → IfErr check P → IfErr answer P
+  stopped P (Ok (verdict.Sound report)) (Ok v) is p = tt
+  stopped P (Ok (verdict.Sound report)) (Err why) is p = absurd is
+  stopped P (Ok (verdict.MapFault fault)) answer is p = subst (λ a. IfErr a P) (sym is) tt
+  stopped P (Ok (verdict.CertFault fault)) answer is p = subst (λ a. IfErr a P) (sym is) tt
+  stopped P (Err why) answer is p = subst (λ a. IfErr a P) (sym is) p
 
   pub told : (old new : ℕ) (check answer : Answer) → IsWithFaces faces m check answer → TellsDevice old new check → TellsDevice old new answer
   told old new (Ok (verdict.Sound report)) (Ok v) is p = p
-  told old new (Ok (verdict.Sound report)) (Err why) is p = subst (λ w. TellsDevice {T = Verdict} old new (Err w)) (sym is) p
+  told old new (Ok (verdict.Sound report)) (Err why) is p = absurd is
   told old new (Ok (verdict.MapFault fault)) answer is p = subst (TellsDevice old new) (sym is) p
   told old new (Ok (verdict.CertFault fault)) answer is p = subst (TellsDevice old new) (sym is) p
   told old new (Err why) answer is p = subst (TellsDevice old new) (sym is) p
 
 -- all of it
 module _ (faces : Bool) (m : TheMap) (budget : ℕ) (valid : Type 0) (faulty : CertFault → Type 0) (allows met : Type 0) (why : Stop → Type 0)
-    (refused : why Memory) (check answer : Answer) (is : IsWithFaces faces m check answer) where
+    (check answer : Answer) (is : IsWithFaces faces m check answer) where
   pub decided : IsDecision m false budget valid faulty allows met why check → IsDecision m faces budget valid faulty allows met why answer
-  decided so = record {
+  decided so = let alone_true = fault_so check _ (IsTrueOfMap m) so.map_fault (true_alone m) in record {
     sound = sound faces m check answer is;
-    is_valid = but_faces faces m valid check answer is so.map_fault so.is_valid;
-    within = but_faces faces m _ check answer is so.map_fault so.within;
+    is_valid = but_faces faces m valid check answer is alone_true so.is_valid;
+    within = but_faces faces m _ check answer is alone_true so.within;
     report = reported faces m _ check answer is so.report;
-    map_fault = map_fault faces m check answer is so.map_fault;
+    map_fault = map_fault faces m check answer is alone_true;
     cert_fault = cert_fault faces m faulty check answer is so.cert_fault;
     behind = cert_fault faces m _ check answer is so.behind;
     meets = meets faces m met check answer is so.meets;
     searched = searched faces m allows check answer is so.searched;
-    stops = stopped faces m why refused check answer is so.stops;
+    stops = stopped faces m why check answer is so.stops;
   }
 
 -- what holds where the map is sound holds but for its faces
-pub but : (m : TheMap) (P : Type 0) (answer : Answer) → IfMapFault answer (IsTrueOfMap false m) → OnSound answer P → OnSoundButFaces answer P
+pub but : (m : TheMap) (P : Type 0) (answer : Answer) → IfMapFault answer (IsTrueOfMap m) → OnSound answer P → OnSoundButFaces answer P
 but m P (Ok (verdict.Sound report)) true p = p
 but m P (Ok (verdict.MapFault fault)) true p = not_of_faces P m fault true
 but m P (Ok (verdict.CertFault fault)) true p = tt

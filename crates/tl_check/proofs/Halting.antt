@@ -1,5 +1,5 @@
 -- What the clauses of an answer read off what it says.
-use Rattle.std.proofs.Common.{◌≡◌, ℕ, ◌≤◌, List, Result, Ok, Err, sym, subst, false}
+use Rattle.std.proofs.Common.{◌≡◌, ℕ, ◌≤◌, List, Result, Ok, Err, sym, subst}
 use Rattle.std.specs.Prelude.{IfErr}
 use Rattle.tl_map_county.specs.TheMap.{TheMap}
 use Rattle.tl_check_planar.specs.Planar.{IsPlanar}
@@ -37,14 +37,14 @@ ended m c budget halt.Memory may allows = tt
 ended m c budget halt.Budget may allows = absurd may
 
 -- what is concluded of a certificate in memory
-searched_true : (m : TheMap) (fault : MapFault) (P : Type 0) → IsTrueOfMap false m fault → OnSearched (Ok (verdict.MapFault fault)) P → P
+searched_true : (m : TheMap) (fault : MapFault) (P : Type 0) → IsTrueOfMap m fault → OnSearched (Ok (verdict.MapFault fault)) P → P
 searched_true m (Records fault) P true so = absurd true
 searched_true m (NoRecords lacking) P true so = absurd true
 searched_true m (Meet meet) P true so = so
 searched_true m (Side node first next) P true so = so
 searched_true m (PolygonPoint fault) P true so = so
 searched_true m (Cell odds) P true so = so
-searched_true m (Face fault) P true so = absurd (cc)
+searched_true m (Face fault) P true so = absurd true
 
 pub concluded_shows : (m : TheMap) (c : TheCertificate) (budget : ℕ) (s : State) (answer : Answer) → Holds m c s → IsSearched m budget s → IsBehindSearch m s → IsConcluded m s answer → Shows m c budget answer
 concluded_shows m c budget s (Ok (verdict.Sound report)) held searched behind so =
@@ -126,7 +126,7 @@ module _ (m : TheMap) (c : TheCertificate) (budget : ℕ) where
   reported (Ok (verdict.CertFault fault)) shows = tt
   reported (Err why) shows = tt
 
-  pub map_fault : (answer : Answer) → Shows m c budget answer → IfMapFault answer (IsTrueOfMap false m)
+  pub map_fault : (answer : Answer) → Shows m c budget answer → IfMapFault answer (IsTrueOfMap m)
   map_fault (Ok (verdict.Sound report)) shows = tt
   map_fault (Ok (verdict.MapFault fault)) shows = shows.0
   map_fault (Ok (verdict.CertFault fault)) shows = tt

@@ -4,7 +4,6 @@ pub mod Shown
 pub mod Streaming
 pub mod Recorded
 pub mod Walking
-pub mod Knowing
 pub mod Searched
 pub mod Meeting
 pub mod Halting

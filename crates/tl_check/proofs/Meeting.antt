@@ -105,8 +105,8 @@ refused_meets (map.NoRecords lacking) P = tt
 
 -- chains are planar behind parts that were taken, where their certificate allows a search
 allowed_planar : (m : TheMap) (c : TheCertificate) (s : State) → Holds m c s → IsBehindSearch m s → AllowsSearch m c → IsPlanar m.chains
-allowed_planar m c (state.Rounding rounds suspects) held behind allows = behind
-allowed_planar m c (state.Walking walks known) held behind allows = behind
+allowed_planar m c (state.Rounding rounds left) held behind allows = behind
+allowed_planar m c (state.Walking walks left) held behind allows = behind
 allowed_planar m c (state.Unrounded fault) held behind allows = behind
 allowed_planar m c (state.Wrong fault) held behind allows = behind (of_darts_alone m c fault (held c (goes_on_with_nothing c)) allows)
 

@@ -11,7 +11,7 @@ use Rattle.tl_check_verdict.specs.declared.fault.CertFault.{CertFault}
 use Rattle.tl_check_verdict.specs.declared.verdict.Report.{Report}
 use Rattle.tl_check_verdict.specs.Truth.{IsOfDarts}
 use Rattle.tl_check_verdict.specs.Verdicts.{Answer, OnSound, OnSoundButFaces, IfSound, IfMapFault, IfCertFault, UnlessMeet, OnSearched}
-use Rattle.tl_check_verdict.specs.Records.{HaveMap, IsTrueOfRecords, MayStopOn, TellsEither, LeavesUnread}
+use Rattle.tl_check_verdict.specs.Records.{HaveMap, IsTrueOfRecordsFor, MayStopOn, TellsEither, LeavesUnread}
 use Rattle.tl_check.specs.Keeping.Answers.{refusal_of}
 use Rattle.tl_check.specs.Keeping.Read.{IsOfText, IsOfRead}
 use Rattle.tl_check.proofs.Recorded as recorded
@@ -35,17 +35,11 @@ module _ {S : Type 0} (remaining : S → Option (List ℕ)) (failures : S → �
     read_but_faces P f = by_read (λ a. OnSoundButFaces a (IfSome text (λ t. HaveMap (of t) P))) read so is stops
         (λ m r k. recorded.but_faces of text m r P answer (f m k)) (λ why s e. recorded.refused_but_faces why _)
 
-    pub read_on_text : (P : TheMap → List ℕ → Type 0)
-        → ((m : TheMap) → IsOfText m faces budget (remaining old) (failures old) (failures new) answer → OnSoundButFaces answer (IfSome (remaining old) (P m)))
-        → OnSoundButFaces answer (IfSome text (λ t. IfSome (remaining old) (λ s. HaveMap (of t) (λ n. P n s))))
-    read_on_text P f = by_read (λ a. OnSoundButFaces a (IfSome text (λ t. IfSome (remaining old) (λ s. HaveMap (of t) (λ n. P n s))))) read so is stops
-        (λ m r k. recorded.but_faces_text of text m r (remaining old) P answer (f m k)) (λ why s e. recorded.refused_but_faces why _)
-
     pub read_if_sound : (P : TheMap → Report → Type 0) → ((m : TheMap) → IsOfText m faces budget (remaining old) (failures old) (failures new) answer → IfSound answer (P m)) → IfSound answer (λ r. IfSome text (λ t. HaveMap (of t) (λ n. P n r)))
     read_if_sound P f = by_read (λ a. IfSound a (λ r. IfSome text (λ t. HaveMap (of t) (λ n. P n r)))) read so is stops (λ m r k. recorded.if_sound of text m r P answer (f m k)) (λ why s e. recorded.refused_sound why _)
 
-    pub read_map_fault : IfMapFault answer (λ f. IfSome text (λ t. IsTrueOfRecords faces (of t) f))
-    read_map_fault = by_read (λ a. IfMapFault a (λ f. IfSome text (λ t. IsTrueOfRecords faces (of t) f))) read so is stops (λ m r k. recorded.map_fault of text m r faces answer k.decides.map_fault) (λ why s e. recorded.refused_fault faces of text why s)
+    pub read_map_fault : IfMapFault answer (λ f. IfSome text (λ t. IsTrueOfRecordsFor faces (of t) f))
+    read_map_fault = by_read (λ a. IfMapFault a (λ f. IfSome text (λ t. IsTrueOfRecordsFor faces (of t) f))) read so is stops (λ m r k. recorded.map_fault of text m r faces answer k.decides.map_fault) (λ why s e. recorded.refused_fault faces of text why s)
 
     pub read_cert_fault : (P : TheMap → CertFault → Type 0) → ((m : TheMap) → IsOfText m faces budget (remaining old) (failures old) (failures new) answer → IfCertFault answer (P m)) → IfCertFault answer (λ f. IfSome text (λ t. HaveMap (of t) (λ n. P n f)))
     read_cert_fault P f = by_read (λ a. IfCertFault a (λ f. IfSome text (λ t. HaveMap (of t) (λ n. P n f)))) read so is stops (λ m r k. recorded.cert_fault of text m r P answer (f m k)) (λ why s e. recorded.refused_cert why _)

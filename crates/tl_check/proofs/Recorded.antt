@@ -15,11 +15,11 @@ use Rattle.tl_check_verdict.specs.declared.verdict.Verdict.TheVariants as verdic
 use Rattle.tl_check_verdict.specs.declared.fault.CertFault.{CertFault}
 use Rattle.tl_cert_output.specs.declared.stop.Stop.{Stop}
 use Rattle.tl_cert_output.specs.declared.stop.Stop.TheVariants as stop
-use Rattle.tl_check_verdict.specs.Truth.{IsTrueOfMap, IsOfDarts}
+use Rattle.tl_check_verdict.specs.Truth.{IsTrueOfMapFor, IsOfDarts}
 use Rattle.tl_check_verdict.specs.Verdicts.{Answer, OnSound, OnSoundButFaces, IfSound, IfMapFault, IfCertFault, UnlessMeet, OnSearched}
 use Rattle.tl_check_verdict.specs.Texts.{MayStopReading}
 use Rattle.tl_cert_output.specs.Stops.{TellsDevice}
-use Rattle.tl_check_verdict.specs.Records.{HaveMap, IsTrueOfRecords, MayStopOn, TellsEither, LeavesUnread}
+use Rattle.tl_check_verdict.specs.Records.{HaveMap, IsTrueOfRecordsFor, MayStopOn, TellsEither, LeavesUnread}
 use Rattle.tl_check_verdict.proofs.Recording.{true_of_records}
 use Rattle.tl_check.specs.Keeping.Answers.{refusal_of}
 use Rattle.tl_check.proofs.Searched.{searched_so}
@@ -49,18 +49,13 @@ module _ (of : List ℕ → AllRecords) (text : Option (List ℕ)) (m : TheMap) 
   pub but_faces : (P : TheMap → Type 0) (answer : Answer) → OnSoundButFaces answer (P m) → OnSoundButFaces answer (IfSome text (λ t. HaveMap (of t) P))
   but_faces P answer so = but_faces_so answer (P m) (IfSome text (λ t. HaveMap (of t) P)) so (λ p. IfSome_then text is (λ t read. record { map = m; is_read = read; so = p }))
 
-  pub but_faces_text : (spelt : Option (List ℕ)) (P : TheMap → List ℕ → Type 0) (answer : Answer) → OnSoundButFaces answer (IfSome spelt (P m))
-      → OnSoundButFaces answer (IfSome text (λ t. IfSome spelt (λ s. HaveMap (of t) (λ n. P n s))))
-  but_faces_text spelt P answer so = but_faces_so answer (IfSome spelt (P m)) (IfSome text (λ t. IfSome spelt (λ s. HaveMap (of t) (λ n. P n s)))) so
-      (λ p. IfSome_then text is (λ t read. IfSome_then spelt p (λ s holds. record { map = m; is_read = read; so = holds })))
-
   pub if_sound : (P : TheMap → Report → Type 0) (answer : Answer) → IfSound answer (P m) → IfSound answer (λ r. IfSome text (λ t. HaveMap (of t) (λ n. P n r)))
   if_sound P (Ok (verdict.Sound report)) so = IfSome_then text is (λ t read. record { map = m; is_read = read; so = so })
   if_sound P (Ok (verdict.MapFault fault)) so = tt
   if_sound P (Ok (verdict.CertFault fault)) so = tt
   if_sound P (Err why) so = tt
 
-  pub map_fault : (faces : Bool) (answer : Answer) → IfMapFault answer (IsTrueOfMap faces m) → IfMapFault answer (λ f. IfSome text (λ t. IsTrueOfRecords faces (of t) f))
+  pub map_fault : (faces : Bool) (answer : Answer) → IfMapFault answer (IsTrueOfMapFor faces m) → IfMapFault answer (λ f. IfSome text (λ t. IsTrueOfRecordsFor faces (of t) f))
   map_fault faces (Ok (verdict.MapFault f)) true = IfSome_then text is (λ t read. true_of_records faces (of t) m f read true)
   map_fault faces (Ok (verdict.Sound report)) true = tt
   map_fault faces (Ok (verdict.CertFault f)) true = tt
@@ -95,7 +90,7 @@ module _ (of : List ℕ → AllRecords) (text : Option (List ℕ)) (m : TheMap) 
   stops budget (Err why) may = stop_on budget why may
 
 -- an answer to a map leaves nothing unread
-pub unread : (faces : Bool) (m : TheMap) (budget : ℕ) (P : Type 0) (answer : Answer) → IfMapFault answer (IsTrueOfMap faces m) → IfErr answer (MayStopReading m budget) → LeavesUnread answer P
+pub unread : (faces : Bool) (m : TheMap) (budget : ℕ) (P : Type 0) (answer : Answer) → IfMapFault answer (IsTrueOfMapFor faces m) → IfErr answer (MayStopReading m budget) → LeavesUnread answer P
 unread faces m budget P (Ok (verdict.Sound report)) true may = tt
 unread faces m budget P (Ok (verdict.CertFault f)) true may = tt
 unread faces m budget P (Ok (verdict.MapFault (Records fault))) true may = absurd true
@@ -147,7 +142,7 @@ refused_searched map.Memory P = tt
 refused_searched (map.Fault fault) P = tt
 refused_searched (map.NoRecords lacking) P = tt
 
-pub refused_fault : (faces : Bool) (of : List ℕ → AllRecords) (text : Option (List ℕ)) (why : MapStop) → IfSome text (λ t. StopsReading (of t) why) → IfMapFault (refusal_of why) (λ f. IfSome text (λ t. IsTrueOfRecords faces (of t) f))
+pub refused_fault : (faces : Bool) (of : List ℕ → AllRecords) (text : Option (List ℕ)) (why : MapStop) → IfSome text (λ t. StopsReading (of t) why) → IfMapFault (refusal_of why) (λ f. IfSome text (λ t. IsTrueOfRecordsFor faces (of t) f))
 refused_fault faces of text (map.Refused line cause) stops = tt
 refused_fault faces of text map.Device stops = tt
 refused_fault faces of text map.Memory stops = tt

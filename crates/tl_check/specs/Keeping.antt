@@ -1,5 +1,5 @@
 -- What the checker keeps on its way. No public contract cites a file of this folder.
-pub mod Known
+pub mod Searching
 pub mod Parts
 pub mod Answers
 pub mod Streams

@@ -1,15 +1,14 @@
 //! The check of a map and a certificate in memory.
 
-ghost use Rattle.std.specs.Prelude.{◌≤◌, IfErr, false};
+ghost use Rattle.std.specs.Prelude.{IfErr};
 ghost use Rattle.tl_check_planar.specs.Planar.{IsPlanar};
-ghost use Rattle.tl_check_planar.specs.Searching.{meeting_segments};
 ghost use Rattle.tl_check_verdict.specs.Sound.{IsSound, IsSoundFor};
 ghost use Rattle.tl_check_verdict.specs.Valid.{AllowsSearch, IsValid};
-ghost use Rattle.tl_check_verdict.specs.Truth.{IsTrueOfMap, IsTrueOfCert, IsOfDarts};
-ghost use Rattle.tl_check.specs.Keeping.Known.{AreToldGaps};
+ghost use Rattle.tl_check_verdict.specs.Truth.{IsTrueOfMap, IsTrueOfMapFor, IsTrueOfCert};
+ghost use Rattle.tl_check.specs.Keeping.Searching.{AreToldGaps};
 ghost use Rattle.tl_check.specs.Keeping.Read.{IsOfCert};
 ghost use Rattle.tl_check.specs.Keeping.Streams.{Shows};
-ghost use Rattle.tl_check_verdict.specs.Verdicts.{OnSound, OnSoundButFaces, IfSound, IfMapFault, IfCertFault, UnlessMeet, OnSearched, IsReport, MayStop};
+ghost use Rattle.tl_check_verdict.specs.Verdicts.{OnSound, OnSoundButFaces, IfSound, IfMapFault, IfCertFault, OnDartFault, UnlessMeet, OnSearched, IsReport, IsWithinBudget, MayStop};
 
 use crate::answer::answer;
 use crate::as_read::take_counted;
@@ -33,14 +32,14 @@ pub fn check_map(alloc: Global, map: &Map, cert: &Certificate, budget: u64) -> R
     // The certificate is valid for the map.
     ensures valid { OnSoundButFaces result (IsValid map.now cert.now) }
     // At most as many pairs of segments as the budget have rectangles that meet.
-    ensures within { OnSoundButFaces result (meeting_segments map.now.chains ≤ budget) }
+    ensures within { OnSoundButFaces result (IsWithinBudget budget map.now) }
     // The report has the map's numbers.
     ensures report { IfSound result (IsReport map.now) }
     // Each fault is true, and none is of faces.
-    ensures map_fault { IfMapFault result (IsTrueOfMap false map.now) }
+    ensures map_fault { IfMapFault result (IsTrueOfMap map.now) }
     ensures cert_fault { IfCertFault result (IsTrueOfCert map.now cert.now) }
     // One of rounds or of walks comes only where the chains are planar.
-    ensures behind { IfCertFault result (λ fault. IsOfDarts fault → IsPlanar map.now.chains) }
+    ensures behind { OnDartFault result (IsPlanar map.now.chains) }
     // Where a search may be made by the certificate, and two segments meet where they may not, the answer is such a meet, or a
     // stop.
     ensures meets { UnlessMeet result (AllowsSearch map.now cert.now → IsPlanar map.now.chains) }
@@ -64,12 +63,12 @@ pub fn check_map_with(
     // The map is sound, and keeps what is asked of its faces.
     ensures sound { OnSound result (IsSoundFor faces map.now) }
     ensures valid { OnSoundButFaces result (IsValid map.now cert.now) }
-    ensures within { OnSoundButFaces result (meeting_segments map.now.chains ≤ budget) }
+    ensures within { OnSoundButFaces result (IsWithinBudget budget map.now) }
     ensures report { IfSound result (IsReport map.now) }
     // Each fault is true; one of faces comes only where they are asked for, and nothing else is wrong with the map.
-    ensures map_fault { IfMapFault result (IsTrueOfMap faces map.now) }
+    ensures map_fault { IfMapFault result (IsTrueOfMapFor faces map.now) }
     ensures cert_fault { IfCertFault result (IsTrueOfCert map.now cert.now) }
-    ensures behind { IfCertFault result (λ fault. IsOfDarts fault → IsPlanar map.now.chains) }
+    ensures behind { OnDartFault result (IsPlanar map.now.chains) }
     ensures meets { UnlessMeet result (AllowsSearch map.now cert.now → IsPlanar map.now.chains) }
     ensures searched { OnSearched result (AllowsSearch map.now cert.now) }
     ensures stops { IfErr result (MayStop map.now budget) }
@@ -87,40 +86,36 @@ fn decide(
 ) -> Result<Verdict, Stop>
     ensures { IsOfCert map.now faces budget cert.now result }
 {
-    let mut gaps = None;
+    let mut gaps = Vec::new(alloc);
     let decided = check_whole(alloc, map, cert, budget, &mut gaps);
-    with_faces(alloc, map, faces, decided, gaps)
+    with_faces(map, faces, decided, &gaps)
 }
 
-// The answer, with one clause for what it says by its kind, and the gaps that a sweep has told, if one was made.
+// The answer, with one clause for what it says by its kind, and the gaps that a sweep has told, where the map is sound.
 fn check_whole(
     alloc: Global,
     map: &Map,
     cert: &Certificate,
     budget: u64,
-    gaps: &mut Option<Vec<OddGap>>,
+    gaps: &mut Vec<OddGap>,
 ) -> Result<Verdict, Stop>
-    requires told { AreToldGaps map.now gaps.old }
     ensures shows { Shows map.now cert.now budget result }
     ensures meets { UnlessMeet result (AllowsSearch map.now cert.now → IsPlanar map.now.chains) }
-    ensures told { AreToldGaps map.now gaps.new }
+    ensures told { OnSound result (AreToldGaps map.now gaps.new.items) }
 {
-    let mut state = match take_counted(alloc, map, cert.counts(), cert.tree(), budget, gaps) {
+    let mut state = match take_counted(alloc, map, cert.counts(), cert.tree(), budget) {
         Ok(state) => state,
         Err(halt) => return answer(halt),
     };
     for round in cert.rounds() {
         state = take_round(map, state, round);
     }
-    state = match end_rounds(alloc, map, state, cert.walks()) {
+    state = match end_rounds(alloc, map, state) {
         Ok(state) => state,
         Err(halt) => return answer(halt),
     };
     for walk in cert.walks() {
-        state = match take_walk(map, state, walk) {
-            Ok(state) => state,
-            Err(halt) => return answer(halt),
-        };
+        state = take_walk(map, state, walk);
     }
-    conclude(alloc, map, cert.tree(), state)
+    conclude(alloc, map, state, gaps)
 }

@@ -5,10 +5,10 @@
 //! (`tl_check_verdict/specs/Sound`). Each fault that it names is true (`tl_check_verdict/specs/Truth`), of the map or of the certificate.
 //! [`check_map_with`] asks for faces too, where they are wanted, of a map that is sound otherwise.
 //!
-//! The parts of the certificate are taken in their order. Behind a tree that fits, where the budget is enough for all pairs of
-//! segments, one sweep (`tl_check_sweep`) says whether two segments meet where they may not; it tells too which polygons' points are
-//! still to be looked at, and of gaps at which faces disagree, so that no walk need be kept and no second sweep made. Where the
-//! budget is lower, the certificate's tree is searched, and points are looked at by the walks as rings.
+//! The parts of the certificate are taken in their order, and none is kept. Behind a tree that fits, one sweep (`tl_check_sweep`) says
+//! whether two segments meet where they may not; it tells too which polygons' points are still to be looked at, and of gaps at which
+//! faces disagree, so that no second sweep need be made for them. Where the budget isn't enough for all pairs of segments, the
+//! certificate's tree is searched first, until the budget is spent.
 #![tactic(auto)]
 
 mod answer;
@@ -16,7 +16,6 @@ mod as_read;
 mod counts;
 mod faces;
 mod in_memory;
-mod known;
 mod of_records;
 mod points;
 mod rounds;

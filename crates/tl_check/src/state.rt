@@ -3,19 +3,18 @@
 ghost use Rattle.std.specs.Prelude.{◌≡◌};
 ghost use Rattle.tl_check.specs.declared.state.Halt.TheVariants.{Memory as MemoryHalt};
 
-use crate::known::Known;
+use crate::search::LeftOpen;
 use tl_check_sides::{RoundFault, Rounds, Walks};
 use tl_check_verdict::{CertFault, MapFault};
 use tl_tree_index::Memory;
 
 /// What was found of the rounds and walks so far, behind counts that are the map's and a tree.
 #[derive(Drop)]
-pub enum State<'a> {
-    /// The tree fits, the chains are planar, and the rounds have no fault so far. Where a sweep was made, the point of each
-    /// polygon but the suspects lies where it has to.
-    Rounding(Rounds, Option<Vec<u32>>),
+pub enum State {
+    /// The tree fits, the chains are planar but this is left open, and the rounds have no fault so far.
+    Rounding(Rounds, LeftOpen),
     /// The rounds are the map's, sides agree, and the walks have no fault so far.
-    Walking(Walks, Known<'a>),
+    Walking(Walks, LeftOpen),
     /// The rounds have ended, and have this fault.
     Unrounded(RoundFault),
     /// Each certificate that begins so has this fault.

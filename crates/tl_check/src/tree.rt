@@ -6,13 +6,11 @@ ghost use Rattle.tl_tree_index.specs.Trees.{depth, tree_of};
 ghost use Rattle.tl_check_sides.specs.Keeping.Rounded.{AreSized, HaveTaken};
 ghost use Rattle.tl_check_sides.specs.Cells.Cells.{CellsAgree};
 ghost use Rattle.tl_check_verdict.specs.Valid.{AreCounts, IsTree};
-ghost use Rattle.tl_check.specs.Keeping.Known.{AreToldGaps};
 ghost use Rattle.tl_check.specs.Keeping.Parts.{LeadsBehindTree, MayEnd};
 
 use crate::search::{Found, search};
 use crate::state::{Halt, State};
 use std::alloc::Global;
-use tl_check_faces::OddGap;
 use tl_check_planar::Segments;
 use tl_check_sides::Rounds;
 use tl_check_sides::cells::find_cells_at_odds;
@@ -22,22 +20,14 @@ use tl_tree::FlatTree;
 use tl_tree_index::{TreeNode, TreeStop};
 
 /// Takes the tree, behind counts that are the map's: it fits the map's segments and the chains are planar, or it is wrong,
-/// or no further part is looked at. Where a sweep tells of gaps whose facing sides differ, these are kept.
-pub fn take_tree<'a>(
-    alloc: Global,
-    map: &Map,
-    nodes: &[TreeNode],
-    budget: u64,
-    gaps: &mut Option<Vec<OddGap>>,
-) -> Result<State<'a>, Halt>
+/// or no further part is looked at.
+pub fn take_tree(alloc: Global, map: &Map, nodes: &[TreeNode], budget: u64) -> Result<State, Halt>
     requires whole { IsPreorder nodes.now }
     requires numbered { length nodes.now < 2 ^ 32 }
-    requires told { AreToldGaps map.now gaps.old }
-    ensures leads { LeadsBehindTree map.now budget (IsTree map.now nodes.now) (λ c. AreCounts map.now c.counts) nodes.now result }
-    ensures told { AreToldGaps map.now gaps.new }
+    ensures { LeadsBehindTree map.now budget (IsTree map.now nodes.now) (λ c. AreCounts map.now c.counts) nodes.now result }
 {
     match FlatTree::from_nodes(alloc, nodes) {
-        Ok(tree) => search_by(alloc, map, tree, budget, gaps),
+        Ok(tree) => search_by(alloc, map, tree, budget),
         Err(TreeStop::TooDeep) => Ok(State::Wrong(CertFault::TooDeep)),
         Err(TreeStop::Memory) => Err(Halt::Memory),
     }
@@ -45,17 +35,9 @@ pub fn take_tree<'a>(
 
 /// Looks behind a tree, if it fits the map's segments, for a place where chains meet that they may not, and begins the rounds where
 /// there is none.
-fn search_by<'a>(
-    alloc: Global,
-    map: &Map,
-    tree: FlatTree,
-    budget: u64,
-    gaps: &mut Option<Vec<OddGap>>,
-) -> Result<State<'a>, Halt>
+fn search_by(alloc: Global, map: &Map, tree: FlatTree, budget: u64) -> Result<State, Halt>
     requires shallow { depth (tree_of tree) ≤ 64 }
-    requires told { AreToldGaps map.now gaps.old }
-    ensures leads { LeadsBehindTree map.now budget (IsTree map.now tree.entry) (λ c. AreCounts map.now c.counts) tree.entry result }
-    ensures told { AreToldGaps map.now gaps.new }
+    ensures { LeadsBehindTree map.now budget (IsTree map.now tree.entry) (λ c. AreCounts map.now c.counts) tree.entry result }
 {
     match tree.check(alloc, &Segments::new(map))? {
         Some(fault) => return Ok(State::Wrong(CertFault::Tree(fault))),
@@ -64,10 +46,9 @@ fn search_by<'a>(
     match search(alloc, map, tree, budget)? {
         Found::Meet(meet) => Err(Halt::Fault(MapFault::Meet(meet))),
         Found::Budget => Err(Halt::Budget),
-        Found::Planar(suspects, found) => {
-            *gaps = found;
+        Found::Planar(left) => {
             let rounds = begin_rounds(alloc, map)?;
-            Ok(State::Rounding(rounds, suspects))
+            Ok(State::Rounding(rounds, left))
         }
     }
 }

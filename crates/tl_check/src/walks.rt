@@ -1,73 +1,78 @@
 //! The walks of a certificate.
 
-ghost use Rattle.std.specs.Prelude.{◌≡◌, ◌<◌, ◌^◌, zero, length, IfOk, IfErr};
-ghost use Rattle.tl_tree_index.specs.Preorder.{IsPreorder};
+ghost use Rattle.std.specs.Prelude.{zero, ◌<◌, length, IfOk, IfErr};
 ghost use Rattle.tl_cert.specs.Certificates.{TheCertificate};
-ghost use Rattle.tl_check.specs.Keeping.Parts.{with_walk, Holds, Leads, TakesWalks, IsEnded, IsFaulty};
+ghost use Rattle.tl_check_verdict.specs.Verdicts.{OnSound};
+ghost use Rattle.tl_check.specs.Keeping.Parts.{with_walk, Holds, IsLed, TakesWalks, IsEnded, IsFaulty};
+ghost use Rattle.tl_check.specs.Keeping.Searching.{AreToldGaps};
 ghost use Rattle.tl_check.specs.Keeping.Streams.{IsConcluded};
 
 use crate::answer::answer;
-use crate::known::{Known, known_behind};
 use crate::points::look_at_points;
 use crate::rounds::end_rounds;
-use crate::state::{Halt, State};
+use crate::search::LeftOpen;
+use crate::state::State;
 use std::alloc::Global;
 use tl_cert_output::Stop;
+use tl_check_faces::OddGap;
 use tl_check_verdict::{CertFault, Verdict, report};
 use tl_map_county::Map;
-use tl_tree_index::TreeNode;
 
-/// Takes one walk more, and keeps it where the points of polygons are looked at by rings.
-pub fn take_walk<'a>(map: &Map, state: State<'a>, walk: &[u32]) -> Result<State<'a>, Halt>
+/// Takes one walk more.
+pub fn take_walk(map: &Map, state: State, walk: &[u32]) -> State
     requires some { zero < length walk.now }
     requires held { (c : TheCertificate) × Holds map.now c state }
     requires takes { TakesWalks state }
-    ensures { Leads map.now (λ c. with_walk c walk.now) state.entry result }
+    ensures { IsLed map.now (λ c. with_walk c walk.now) TakesWalks state result }
 {
     match state {
-        State::Walking(mut walks, known) => match walks.take(map, walk) {
-            Ok(()) => {
-                let behind = known_behind(map, known, walk)?;
-                Ok(State::Walking(walks, behind))
-            }
-            Err(fault) => Ok(State::Wrong(CertFault::Walk(fault))),
+        State::Walking(mut walks, left) => match walks.take(map, walk) {
+            Ok(()) => State::Walking(walks, left),
+            Err(fault) => State::Wrong(CertFault::Walk(fault)),
         },
-        faulty => Ok(faulty),
+        faulty => faulty,
     }
 }
 
 /// The answer behind the last part. Rounds that haven't ended yet end first, and then the walks. Where both are the map's,
-/// the points of polygons are looked at as far as they aren't known, and the map is sound if they lie where they have to.
-pub fn conclude(alloc: Global, map: &Map, nodes: &[TreeNode], state: State) -> Result<Verdict, Stop>
-    requires whole { IsPreorder nodes.now }
-    requires numbered { length nodes.now < 2 ^ 32 }
-    requires held { (c : TheCertificate) × Holds map.now c state × (c.tree ≡ nodes.now) }
-    ensures { IsConcluded map.now state.entry result }
+/// the points that were left open are looked at, and the map is sound if they lie where they have to. Then the gaps that were
+/// left open are given.
+pub fn conclude(
+    alloc: Global,
+    map: &Map,
+    state: State,
+    gaps: &mut Vec<OddGap>,
+) -> Result<Verdict, Stop>
+    requires held { (c : TheCertificate) × Holds map.now c state }
+    ensures concluded { IsConcluded map.now state result }
+    ensures told { OnSound result (AreToldGaps map.now gaps.new.items) }
 {
-    let ended = match end_rounds(alloc, map, state, &[]) {
+    let ended = match end_rounds(alloc, map, state) {
         Ok(ended) => ended,
         Err(halt) => return answer(halt),
     };
     match end_walks(map, ended) {
-        Ok((count, known)) => match look_at_points(alloc, map, nodes, &known) {
-            Ok(()) => Ok(Verdict::Sound(report(map, count))),
+        Ok((count, left)) => match look_at_points(alloc, map, &left.suspects) {
+            Ok(()) => {
+                *gaps = left.gaps;
+                Ok(Verdict::Sound(report(map, count)))
+            }
             Err(halt) => answer(halt),
         },
         Err(fault) => Ok(Verdict::CertFault(fault)),
     }
 }
 
-/// Ends the walks: the certificate is valid and has so many walks, behind which this is known, or it has a fault.
-fn end_walks<'a>(map: &Map, state: State<'a>) -> Result<(u32, Known<'a>), CertFault>
+/// Ends the walks: the certificate is valid and has so many walks, and this is left open, or it has a fault.
+fn end_walks(map: &Map, state: State) -> Result<(u32, LeftOpen), CertFault>
     requires held { (c : TheCertificate) × Holds map.now c state }
     requires takes { TakesWalks state }
-    ensures ended { IfOk result (λ ended. IsEnded map.now state.entry ended.0 ended.1) }
-    ensures few { IfOk result (λ ended. ended.0 < 2 ^ 32) }
-    ensures faulty { IfErr result (IsFaulty map.now state.entry) }
+    ensures ended { IfOk result (λ ended. IsEnded map.now state ended.0 ended.1) }
+    ensures faulty { IfErr result (IsFaulty map.now state) }
 {
     match state {
-        State::Walking(walks, known) => match walks.end(map) {
-            Ok(count) => Ok((count, known)),
+        State::Walking(walks, left) => match walks.end(map) {
+            Ok(count) => Ok((count, left)),
             Err(fault) => Err(CertFault::Walk(fault)),
         },
         State::Unrounded(fault) => Err(CertFault::Round(fault)),

@@ -11,7 +11,7 @@ use Rattle.tl_check_inside.specs.Placed.{IsPlacedIn, IsTrueMisplaced}
 use Rattle.tl_check_inside.specs.Keeping.Tallies.{AreClear}
 use Rattle.tl_check_inside.specs.Keeping.Strips.{IsSiteOf, IsPlacedSite}
 use Rattle.tl_check_inside.proofs.Stripping.{one_more}
-use Rattle.tl_check_points.specs.Keeping.Known.{IsLeft, AreLeft}
+use Rattle.tl_check_points.specs.Keeping.Left.{IsLeft, AreLeft}
 
 -- the first k of these points are placed or left
 abbrev pub AreLeftUpTo : TheMap → (sites others : List Site) → ℕ → Type 0

@@ -1,1 +1,18 @@
-mod Leaving
+pub mod Balances
+pub mod Treed
+pub mod Labelled
+pub mod Naming
+pub mod Gapped
+pub mod Entering
+pub mod Going
+pub mod Shortening
+pub mod Passed
+pub mod Seen
+pub mod Visiting
+pub mod Weighed
+pub mod Settling
+pub mod Upward
+pub mod Parted
+pub mod Known
+pub mod Leaving
+pub mod Suspecting

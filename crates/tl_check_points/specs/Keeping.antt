@@ -1,2 +1,9 @@
--- What is kept on the way.
-pub mod Known
+-- What is kept on the way. No public contract cites a file of this folder.
+pub mod Balances
+pub mod Ways
+pub mod Labels
+pub mod Passing
+pub mod Visits
+pub mod Short
+pub mod Parts
+pub mod Left

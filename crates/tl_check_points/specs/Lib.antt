@@ -1,1 +1,3 @@
+-- What the contracts on counts at points cite.
+pub mod Counts
 pub mod Keeping

@@ -13,7 +13,7 @@ use Rattle.tl_check_faces.proofs.TrueSides.{true_sides}
 use Rattle.tl_check_faces.proofs.FromTruth.{fault_denies}
 use Rattle.tl_check_verdict.specs.declared.fault.MapFault.TheVariants.{Face}
 use Rattle.tl_check_verdict.specs.Sound.{IsSound, IsSoundFor}
-use Rattle.tl_check_verdict.specs.Truth.{IsTrueOfMap}
+use Rattle.tl_check_verdict.specs.Truth.{IsTrueOfMapFor}
 
 faces_are_true : (chains : List MapChain) → IsPlanar chains → FacesAgree chains → AreFacesTrue chains
 faces_are_true chains planar agree = record {
@@ -26,5 +26,5 @@ pub keeps : (faces : Bool) (m : TheMap) → IsSound m → (IsTrue faces → Face
 keeps faces m sound agree = record { sound = sound; facing = λ asked. faces_are_true m.chains sound.planar (agree asked) }
 
 -- and those that disagree aren't
-pub disagrees : (faces : Bool) (m : TheMap) (fault : FaceFault) → IsTrue faces → IsSound m → AreProper m.chains → IsTrueFaceFault m fault → IsTrueOfMap faces m (Face fault)
+pub disagrees : (faces : Bool) (m : TheMap) (fault : FaceFault) → IsTrue faces → IsSound m → AreProper m.chains → IsTrueFaceFault m fault → IsTrueOfMapFor faces m (Face fault)
 disagrees faces m fault asked sound proper true = (asked, (sound, (true, fault_denies m fault proper sound.planar sound.sides true)))

@@ -20,21 +20,21 @@ use Rattle.tl_check_verdict.specs.declared.verdict.Verdict.TheVariants as verdic
 use Rattle.tl_cert_output.specs.declared.stop.Stop.TheVariants.{Record, Memory, Device, Budget}
 use Rattle.tl_check_verdict.specs.Sound.{IsSoundFor, AreClosed}
 use Rattle.tl_check_verdict.specs.Valid.{IsValid}
-use Rattle.tl_check_verdict.specs.Truth.{IsTrueOfMap, IsTrueOfCert}
+use Rattle.tl_check_verdict.specs.Truth.{IsTrueOfMapFor, IsTrueOfCert}
 use Rattle.tl_check_verdict.specs.Texts.{IsValidText, IsTrueOfText}
-use Rattle.tl_check_verdict.specs.Records.{HaveMap, IsTrueOfRecords, MayStopOn}
+use Rattle.tl_check_verdict.specs.Records.{HaveMap, IsTrueOfRecordsFor, MayStopOn}
 use Rattle.tl_check_verdict.specs.Verdicts.{Answer, OnSound, IfMapFault, IfCertFault}
 use Rattle.tl_check_verdict.specs.Deciding.{SaysSound, PassesOrStops}
 use Rattle.tl_check_verdict.proofs.Denials.{not_sound, not_valid}
 use Rattle.tl_check_verdict.proofs.OneMap.{both}
 
 -- a fault of the records' map denies that what is asked of it is met
-not_sound_map : (faces : Bool) (all : AllRecords) (f : MapFault) → HaveMap all (λ m. IsTrueOfMap faces m f) → ¬ HaveMap all (IsSoundFor faces)
+not_sound_map : (faces : Bool) (all : AllRecords) (f : MapFault) → HaveMap all (λ m. IsTrueOfMapFor faces m f) → ¬ HaveMap all (IsSoundFor faces)
 not_sound_map faces all f true sound =
-    let one = both all (λ m. IsTrueOfMap faces m f) (IsSoundFor faces) true sound in
+    let one = both all (λ m. IsTrueOfMapFor faces m f) (IsSoundFor faces) true sound in
     not_sound faces one.map f one.so.0 one.so.1
 
-pub not_sound_records : (faces : Bool) (all : AllRecords) (f : MapFault) → IsTrueOfRecords faces all f → ¬ HaveMap all (IsSoundFor faces)
+pub not_sound_records : (faces : Bool) (all : AllRecords) (f : MapFault) → IsTrueOfRecordsFor faces all f → ¬ HaveMap all (IsSoundFor faces)
 not_sound_records faces all (Records f) true sound = sound.is_read.no_fault f true.1
 not_sound_records faces all (NoRecords lacking) true sound =
     let none = sound.is_read.none_lacking in
@@ -62,7 +62,7 @@ not_valid_text m text (Round f) true valid = not_valid_one m text (Round f) true
 not_valid_text m text (Walk f) true valid = not_valid_one m text (Walk f) true.0 valid.0 true.1 valid.1 true.2 valid.2
 
 pub passes : (faces : Bool) (all : AllRecords) (spelt : List ℕ) (budget : ℕ) (answer : Answer) → HaveMap all (IsSoundFor faces)
-    → HaveMap all (λ m. IsValidText m spelt) → IfMapFault answer (IsTrueOfRecords faces all)
+    → HaveMap all (λ m. IsValidText m spelt) → IfMapFault answer (IsTrueOfRecordsFor faces all)
     → IfCertFault answer (λ f. HaveMap all (λ m. IsTrueOfText m spelt f)) → IfErr answer (MayStopOn all budget)
     → PassesOrStops (HaveMap all (λ m. AreBeyond m.chains budget)) answer
 passes faces all spelt budget (Ok (verdict.Sound report)) sound valid map_fault cert_fault stops = tt
@@ -77,7 +77,7 @@ passes faces all spelt budget (Err Budget) sound valid map_fault cert_fault stop
 
 pub decides : (faces : Bool) (m : TheMap) (c : TheCertificate) (answer : Answer) → IsValid m c → OnSound answer (IsPlanar m.chains)
     → OnSound answer (SidesAgree m.chains) → OnSound answer (AreClosed m) → OnSound answer (ArePlaced m) → OnSound answer (CellsAgree m.chains)
-    → OnSound answer (IsTrue faces → AreFacesTrue m.chains) → IfMapFault answer (IsTrueOfMap faces m)
+    → OnSound answer (IsTrue faces → AreFacesTrue m.chains) → IfMapFault answer (IsTrueOfMapFor faces m)
     → IfCertFault answer (IsTrueOfCert m c) → IfOk answer (λ v. SaysSound v ↔ IsSoundFor faces m)
 decides faces m c (Ok (verdict.Sound report)) valid planar sides closed points cells facing map_fault cert_fault = (
   (λ said. record {

@@ -28,7 +28,7 @@ use Rattle.tl_check_verdict.specs.declared.fault.MapFault.TheVariants.{Records, 
 use Rattle.tl_check_verdict.specs.declared.fault.CertFault.{CertFault}
 use Rattle.tl_check_verdict.specs.declared.fault.CertFault.TheVariants as fault
 use Rattle.tl_check_verdict.specs.Sound.{IsSound, IsSoundFor}
-use Rattle.tl_check_verdict.specs.Truth.{IsTrueOfMap, IsTrueOfCert, IsOfDarts}
+use Rattle.tl_check_verdict.specs.Truth.{IsTrueOfMap, IsTrueOfMapFor, IsTrueOfCert, IsOfDarts}
 use Rattle.tl_check_verdict.specs.Valid.{AllowsSearch, IsValid}
 
 -- darts that are at odds deny that cells agree
@@ -47,7 +47,7 @@ misplaced_denies m (InOther polygon other) true placed =
     true.within ((placed true.p (record { key = polygon; point = true.point }) true.of).clear true.q lt true.two)
 
 -- a fault that is true denies what is asked
-pub not_sound : (faces : Bool) (m : TheMap) (f : MapFault) → IsTrueOfMap faces m f → ¬ IsSoundFor faces m
+pub not_sound : (faces : Bool) (m : TheMap) (f : MapFault) → IsTrueOfMapFor faces m f → ¬ IsSoundFor faces m
 not_sound faces m (Records f) true sound = absurd true
 not_sound faces m (NoRecords lacking) true sound = absurd true
 not_sound faces m (Meet meet) true sound = meet_not_planar m.chains meet.s meet.t meet.at true.ordered true.told.meet sound.sound.planar
@@ -56,19 +56,29 @@ not_sound faces m (PolygonPoint fault) true sound = misplaced_denies m fault tru
 not_sound faces m (Cell odds) true sound = odds_deny m.chains odds.first odds.second odds.first_id odds.second_id true sound.sound.cells
 not_sound faces m (Face fault) true sound = true.1.1.1 (sound.facing true.0)
 
--- where faces aren't asked for, it denies that the map is sound
-pub not_sound_alone : (m : TheMap) (f : MapFault) → IsTrueOfMap false m f → ¬ IsSound m
-not_sound_alone m f true sound = not_sound false m f true (record { sound = sound; facing = λ asked. absurd (cc) })
-
 -- a fault that is true where faces aren't asked for is true where they are
-pub true_still : (faces : Bool) (m : TheMap) (f : MapFault) → IsTrueOfMap false m f → IsTrueOfMap faces m f
+pub true_still : (faces : Bool) (m : TheMap) (f : MapFault) → IsTrueOfMap m f → IsTrueOfMapFor faces m f
 true_still faces m (Records f) true = absurd true
 true_still faces m (NoRecords lacking) true = absurd true
 true_still faces m (Meet meet) true = true
 true_still faces m (Side node first next) true = true
 true_still faces m (PolygonPoint fault) true = true
 true_still faces m (Cell odds) true = true
-true_still faces m (Face fault) true = absurd (cc)
+true_still faces m (Face fault) true = absurd true
+
+-- and one that is true where they aren't asked for is none of faces
+pub true_alone : (m : TheMap) (f : MapFault) → IsTrueOfMapFor false m f → IsTrueOfMap m f
+true_alone m (Records f) true = true
+true_alone m (NoRecords lacking) true = true
+true_alone m (Meet meet) true = true
+true_alone m (Side node first next) true = true
+true_alone m (PolygonPoint fault) true = true
+true_alone m (Cell odds) true = true
+true_alone m (Face fault) true = absurd (cc)
+
+-- where faces aren't asked for, it denies that the map is sound
+pub not_sound_alone : (m : TheMap) (f : MapFault) → IsTrueOfMap m f → ¬ IsSound m
+not_sound_alone m f true sound = not_sound false m f (true_still false m f true) (record { sound = sound; facing = λ asked. absurd (cc) })
 
 -- a rectangle that is too small doesn't cover what is below it
 small_uncovers : (bounds : ℕ → Rect) (f : Forest) (k : ℕ) → IsTooSmall bounds f k → ¬ CoversBelow bounds f

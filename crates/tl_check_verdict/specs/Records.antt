@@ -1,5 +1,6 @@
 -- What is said of records beside the text of a certificate.
-use Rattle.std.specs.Prelude.{◌≡◌, ◌⊎◌, ℕ, Bool, true, Some, None, Ok, Err, ⊤}
+use Rattle.std.specs.Prelude.{◌≡◌, ◌⊎◌, ℕ, Bool, true, List, Option, Some, None, Ok, Err, ⊤}
+use Rattle.std.specs.Option.{IfSome}
 use Rattle.tl_record.specs.Failures.{one_more}
 use Rattle.tl_record.specs.Records.{Records as AllRecords}
 use Rattle.tl_map_rules.specs.Faults.{IsTrueOf}
@@ -8,11 +9,11 @@ use Rattle.tl_map_rules.specs.Reading.{records_in, lacking_of, IsReadFrom}
 use Rattle.tl_map_county.specs.TheMap.{TheMap}
 use Rattle.tl_check_planar.specs.Searching.{AreBeyond}
 use Rattle.tl_check_verdict.specs.declared.fault.MapFault.{MapFault}
-use Rattle.tl_check_verdict.specs.declared.fault.MapFault.TheVariants.{Records, NoRecords}
+use Rattle.tl_check_verdict.specs.declared.fault.MapFault.TheVariants.{Records, NoRecords, Face}
 use Rattle.tl_check_verdict.specs.declared.verdict.Verdict.TheVariants as verdict
 use Rattle.tl_cert_output.specs.declared.stop.Stop.{Stop}
 use Rattle.tl_cert_output.specs.declared.stop.Stop.TheVariants.{Record, Memory, Device, Budget}
-use Rattle.tl_check_verdict.specs.Truth.{IsTrueOfMap}
+use Rattle.tl_check_verdict.specs.Truth.{IsTrueOfMap, IsTrueOfMapFor}
 use Rattle.tl_check_verdict.specs.Verdicts.{Answer}
 
 -- no line of the records is refused, they have a map, and it is so
@@ -21,12 +22,21 @@ pub record HaveMap (all : AllRecords) (P : TheMap → Type 0) : Type 0 where
   pub is_read : IsReadFrom all map
   pub so : P map
 
--- what a fault says of records: no line is refused and they have no map, for this reason; or none is refused, and there are none of some
--- type that is asked for; or they have a map, and the fault is true of it
-abbrev pub IsTrueOfRecords : (faces : Bool) → AllRecords → MapFault → Type 0
-IsTrueOfRecords faces all (Records fault) = (all.refusal ≡ None) × IsTrueOf (records_in all) fault
-IsTrueOfRecords faces all (NoRecords lacking) = (all.refusal ≡ None) × (lacking ≡ lacking_of all) × (lacks lacking ≡ true)
-IsTrueOfRecords faces all fault = HaveMap all (λ m. IsTrueOfMap faces m fault)
+-- where the bytes of record files are known: the records that are read of them have a map, and it is so
+abbrev pub HaveMapOf : (List ℕ → AllRecords) → Option (List ℕ) → (TheMap → Type 0) → Type 0
+HaveMapOf read text P = IfSome text (λ bytes. HaveMap (read bytes) P)
+
+-- what a fault says of records for which no faces are asked: no line is refused and they have no map, for this reason; or none is
+-- refused, and there are none of some type that is asked for; or they have a map, and the fault is true of it
+abbrev pub IsTrueOfRecords : AllRecords → MapFault → Type 0
+IsTrueOfRecords all (Records fault) = (all.refusal ≡ None) × IsTrueOf (records_in all) fault
+IsTrueOfRecords all (NoRecords lacking) = (all.refusal ≡ None) × (lacking ≡ lacking_of all) × (lacks lacking ≡ true)
+IsTrueOfRecords all fault = HaveMap all (λ m. IsTrueOfMap m fault)
+
+-- what it says of records for which faces are asked or not
+abbrev pub IsTrueOfRecordsFor : (faces : Bool) → AllRecords → MapFault → Type 0
+IsTrueOfRecordsFor faces all (Face fault) = HaveMap all (λ m. IsTrueOfMapFor faces m (Face fault))
+IsTrueOfRecordsFor faces all other = IsTrueOfRecords all other
 
 -- why records aren't decided: this line is the first that is refused, memory was refused, a read failed, or more pairs of
 -- segments of their map than the budget have rectangles that meet, and as many of these as the budget don't conflict

@@ -14,13 +14,13 @@ use Rattle.tl_cert.specs.declared.certificate.Counts.{Counts}
 use Rattle.tl_cert.specs.Certificates.{TheCertificate}
 
 -- how many segments the map's chains have
-abbrev pub segments_of : TheMap → ℕ
-segments_of m = segments_before m.chains (length m.chains)
+abbrev pub segments_in_map : TheMap → ℕ
+segments_in_map m = segments_before m.chains (length m.chains)
 
 -- the counts are the map's
 pub record AreCounts (m : TheMap) (c : Counts) : Type 0 where
   pub chains : c.chains ≡ length m.chains
-  pub segments : c.segments ≡ segments_of m
+  pub segments : c.segments ≡ segments_in_map m
   pub nodes : (points : List Point) → AreNodes m.chains points → c.nodes ≡ length points
   pub polygons : c.polygons ≡ length m.polygons
 
@@ -31,7 +31,7 @@ greatest_depth = 64
 -- the nodes are a tree over the map's segments: each stands in one leaf, once, nothing else does, each rectangle holds all
 -- points of those of the segments below it, and no node is too deep
 pub record IsTree (m : TheMap) (nodes : List TreeNode) : Type 0 where
-  pub fits : Fits (tree_of nodes) (segments_of m) (segment_rect m.chains)
+  pub fits : Fits (tree_of nodes) (segments_in_map m) (segment_rect m.chains)
   pub shallow : depth (tree_of nodes) ≤ greatest_depth
 
 -- a search may be made by the certificate: its counts are the map's, and its tree fits

@@ -1,9 +1,9 @@
 -- What a verdict says, by its kinds.
-use Rattle.std.specs.Prelude.{◌≡◌, ℕ, List, length, Result, Ok, Err, ⊤}
+use Rattle.std.specs.Prelude.{◌≡◌, ℕ, ◌≤◌, List, length, Result, Ok, Err, ⊤}
 use Rattle.tl_geom.specs.declared.point.Point.{Point}
 use Rattle.tl_map_county.specs.TheMap.{TheMap}
 use Rattle.tl_map_county.specs.Nodes.{AreNodes}
-use Rattle.tl_check_planar.specs.Searching.{AreBeyond}
+use Rattle.tl_check_planar.specs.Searching.{meeting_segments, AreBeyond}
 use Rattle.tl_check_sides.specs.Walks.{AreWalks}
 use Rattle.tl_check_verdict.specs.declared.fault.MapFault.{MapFault}
 use Rattle.tl_check_verdict.specs.declared.fault.MapFault.TheVariants.{Records, NoRecords, Meet, Face}
@@ -13,7 +13,8 @@ use Rattle.tl_check_verdict.specs.declared.verdict.Verdict.{Verdict}
 use Rattle.tl_check_verdict.specs.declared.verdict.Verdict.TheVariants as verdict
 use Rattle.tl_cert_output.specs.declared.stop.Stop.{Stop}
 use Rattle.tl_cert_output.specs.declared.stop.Stop.TheVariants.{Record, Memory, Device, Budget}
-use Rattle.tl_check_verdict.specs.Valid.{segments_of}
+use Rattle.tl_check_verdict.specs.Valid.{segments_in_map}
+use Rattle.tl_check_verdict.specs.Truth.{IsOfDarts}
 
 abbrev pub Answer : Type 0
 Answer = Result Verdict Stop
@@ -43,6 +44,10 @@ abbrev pub IfCertFault : Answer → (CertFault → Type 0) → Type 0
 IfCertFault (Ok (verdict.CertFault fault)) P = P fault
 IfCertFault other P = ⊤
 
+-- so that is true, if the answer is a fault of rounds or of walks
+abbrev pub OnDartFault : Answer → Type 0 → Type 0
+OnDartFault answer P = IfCertFault answer (λ fault. IsOfDarts fault → P)
+
 -- so that is true, if the answer comes of the search or behind it: a fault of the map itself, or that the budget is spent. Of faces
 -- that disagree more is said
 abbrev pub OnSearched : Answer → Type 0 → Type 0
@@ -63,10 +68,14 @@ UnlessMeet (Ok (verdict.MapFault fault)) P = P
 UnlessMeet (Ok (verdict.CertFault fault)) P = P
 UnlessMeet (Err stop) P = ⊤
 
+-- at most as many pairs of the map's segments as the budget have rectangles that meet
+abbrev pub IsWithinBudget : ℕ → TheMap → Type 0
+IsWithinBudget budget m = meeting_segments m.chains ≤ budget
+
 -- the report has the map's numbers, and its rings are the length of a list of rings in which each dart stands once
 pub record IsReport (m : TheMap) (r : Report) : Type 0 where
   pub chains : r.chains ≡ length m.chains
-  pub segments : r.segments ≡ segments_of m
+  pub segments : r.segments ≡ segments_in_map m
   pub nodes : (points : List Point) → AreNodes m.chains points → r.nodes ≡ length points
   pub polygons : r.polygons ≡ length m.polygons
   pub landmarks : r.landmarks ≡ length m.landmarks
@@ -77,7 +86,7 @@ pub record IsReport (m : TheMap) (r : Report) : Type 0 where
 -- the report has the map's numbers, and this number of rings
 pub record AreNumbers (m : TheMap) (rings : ℕ) (r : Report) : Type 0 where
   pub chains : r.chains ≡ length m.chains
-  pub segments : r.segments ≡ segments_of m
+  pub segments : r.segments ≡ segments_in_map m
   pub nodes : (points : List Point) → AreNodes m.chains points → r.nodes ≡ length points
   pub polygons : r.polygons ≡ length m.polygons
   pub landmarks : r.landmarks ≡ length m.landmarks

@@ -14,15 +14,15 @@ ghost use Rattle.tl_check_verdict.specs.declared.fault.MapFault.{MapFault};
 ghost use Rattle.tl_check_verdict.specs.declared.fault.CertFault.{CertFault};
 ghost use Rattle.tl_check_verdict.specs.Sound.{IsSoundFor, AreClosed};
 ghost use Rattle.tl_check_verdict.specs.Valid.{IsValid};
-ghost use Rattle.tl_check_verdict.specs.Truth.{IsTrueOfMap, IsTrueOfCert};
+ghost use Rattle.tl_check_verdict.specs.Truth.{IsTrueOfMapFor, IsTrueOfCert};
 ghost use Rattle.tl_check_verdict.specs.Texts.{IsValidText, IsTrueOfText};
-ghost use Rattle.tl_check_verdict.specs.Records.{HaveMap, IsTrueOfRecords, MayStopOn};
+ghost use Rattle.tl_check_verdict.specs.Records.{HaveMap, IsTrueOfRecordsFor, MayStopOn};
 ghost use Rattle.tl_check_verdict.specs.Verdicts.{Answer, OnSound, IfMapFault, IfCertFault};
 ghost use Rattle.tl_check_verdict.specs.Deciding.{SaysSound, PassesOrStops};
 
 /// No fault is true of a map that keeps what is asked of it. As each fault that is answered is true, none is answered of such a map.
 pub fn a_sound_map_has_no_fault()
-    ensures { (faces : Bool) (m : TheMap) (fault : MapFault) → IsTrueOfMap faces m fault → ¬ IsSoundFor faces m }
+    ensures { (faces : Bool) (m : TheMap) (fault : MapFault) → IsTrueOfMapFor faces m fault → ¬ IsSoundFor faces m }
 {}
 
 /// No fault is true of a certificate that is valid for the map. So the answer for a sound map with a valid certificate
@@ -33,7 +33,7 @@ pub fn a_valid_certificate_has_no_fault()
 
 /// No fault is true of records whose map keeps what is asked of it: neither of the records nor of their map.
 pub fn records_of_a_sound_map_have_no_fault()
-    ensures { (faces : Bool) (all : Records) (fault : MapFault) → IsTrueOfRecords faces all fault →
+    ensures { (faces : Bool) (all : Records) (fault : MapFault) → IsTrueOfRecordsFor faces all fault →
         ¬ HaveMap all (IsSoundFor faces) }
 {}
 
@@ -49,7 +49,7 @@ pub fn a_valid_certificate_decides()
     ensures { (faces : Bool) (m : TheMap) (c : TheCertificate) (answer : Answer) → IsValid m c → OnSound answer (IsPlanar m.chains) →
         OnSound answer (SidesAgree m.chains) → OnSound answer (AreClosed m) → OnSound answer (ArePlaced m) →
         OnSound answer (CellsAgree m.chains) → OnSound answer (IsTrue faces → AreFacesTrue m.chains) →
-        IfMapFault answer (IsTrueOfMap faces m) → IfCertFault answer (IsTrueOfCert m c) →
+        IfMapFault answer (IsTrueOfMapFor faces m) → IfCertFault answer (IsTrueOfCert m c) →
         IfOk answer (λ verdict. SaysSound verdict ↔ IsSoundFor faces m) }
 {}
 
@@ -59,7 +59,7 @@ pub fn a_valid_certificate_decides()
 /// said of each answer that keeps its clauses `map_fault`, `cert_fault` and `stops`.
 pub fn a_sound_map_with_a_valid_text_passes()
     ensures { (faces : Bool) (all : Records) (spelt : List ℕ) (budget : ℕ) (answer : Answer) → HaveMap all (IsSoundFor faces) →
-        HaveMap all (λ m. IsValidText m spelt) → IfMapFault answer (IsTrueOfRecords faces all) →
+        HaveMap all (λ m. IsValidText m spelt) → IfMapFault answer (IsTrueOfRecordsFor faces all) →
         IfCertFault answer (λ fault. HaveMap all (λ m. IsTrueOfText m spelt fault)) → IfErr answer (MayStopOn all budget) →
         PassesOrStops (HaveMap all (λ m. AreBeyond m.chains budget)) answer }
 {}

@@ -1,5 +1,5 @@
 -- What is told of a text, put together of what is told of its lines, its records and their map.
-use Rattle.std.proofs.Common.{◌≡◌, ◌≢◌, ◌<◌, ℕ, inl, inr, List, [], ◌∷◌, map, Option, Some, None, Ok, Err, refl, sym, ap, ◌∙◌, subst, arith, Bool, true, false, length, Vec, Global}
+use Rattle.std.proofs.Common.{◌≡◌, ◌≢◌, ◌<◌, ℕ, inl, inr, List, [], ◌∷◌, map, Option, Some, None, refl, sym, ap, ◌∙◌, subst, arith, Bool, true, false, length, Vec, Global}
 use Rattle.std.specs.Prelude.{IfSome, slice_get, ⊤}
 use Rattle.std.proofs.lemmas.Option.{IfSome_then}
 use Rattle.std.specs.Option.{option_map}
@@ -22,25 +22,19 @@ use Rattle.tl_map_rules.specs.Lacking.{lacks, lacking_where}
 use Rattle.tl_map_rules.specs.Reading.{IsReadFrom, lacking_of}
 use Rattle.tl_map_county.specs.TheMap.{TheMap}
 use Rattle.tl_list_records.specs.AllFaults.{AreAllFaults}
-use Rattle.tl_map.specs.Collecting.{IsMapOfRecords, StopsOn}
-use Rattle.tl_map_rules.specs.declared.fault.MapStop.{MapStop}
-use Rattle.tl_map_rules.specs.declared.fault.MapStop.TheVariants as map_stop
-use Rattle.tl_check_verdict.specs.declared.fault.MapFault.{MapFault}
-use Rattle.tl_check_verdict.specs.Stops.{unmapped}
 use Rattle.tl_check_verdict.specs.Records.{HaveMap}
-use Rattle.tl_cert_output.specs.declared.stop.Stop.TheVariants.{Memory as MemoryStop}
 use Rattle.tl_list_text.specs.declared.listing.Listing.{Listing}
 use Rattle.tl_list_text.specs.declared.listing.Listing.TheVariants.{Sound, Refused, Faults}
-use Rattle.tl_cert_output.specs.declared.stop.Stop.{Stop}
-use Rattle.tl_list.specs.declared.reading.BothKept.{BothKept}
+use Rattle.tl_map.specs.declared.collected.CollectedRecords.{CollectedRecords}
+use Rattle.tl_map.specs.Collecting.{HasCollected, IsMapOfRecords}
 use Rattle.tl_list_map.specs.MapListings.{IsListingFor}
 use Rattle.tl_list.specs.Listings.{IsListingOf, told_with}
 use Rattle.tl_list.proofs.Lacked.{told_some, lack_some, begin_with_records}
-use Rattle.tl_list.specs.Keeping.Reading.{Keeps, AreWhole, KeepsAll, IsStopped}
+use Rattle.tl_list.specs.Keeping.Reading.{AreWhole, KeepsAll, IsStopped}
 use Rattle.tl_list.specs.declared.of_records.Findings.{Findings}
 use Rattle.tl_list.specs.declared.noted.NotedLines.{NotedLines}
 use Rattle.tl_list.specs.declared.left.LeftFaults.{LeftFaults}
-use Rattle.tl_list.specs.Findings.{AreFindingsOf, AreFaultsOf, IsMapIfAny, BeginWithRecords, SaysWhy, IsLeft, IsFoundIn}
+use Rattle.tl_list.specs.Findings.{AreOfMap, AreFindingsOf, AreFaultsOf, IsMapIfAny, BeginWithRecords, SaysWhy, IsLeft, IsFoundIn}
 use Rattle.tl_list.specs.Keeping.OfRecords.{IsListingOfRecords, AreFindingsOfRecords, IsListOf, AreTold, AreRead, AreLeftOf}
 use Rattle.tl_map_rules.specs.Faults.{IsTrueOf}
 use Rattle.tl_list_map.proofs.Emptiness.{map_empty, none_held}
@@ -182,18 +176,18 @@ left_text options (Some text) came is = rw is refl
 
 module _ (options : Options) (skips : Bool) (known : Option (List ℕ)) where
   -- what is listed of records that are kept
-  pub kept_told : (came : Option Records) (skipped : ℕ) (both : BothKept) (listed : Findings)
-      → came ≡ option_map (plain_left options) known → KeepsAll came skipped both
-      → ((all : Records) (rs : List Record) → AreWhole all skipped rs → all.complete ≡ options.complete → Keeps rs both → AreFindingsOfRecords options.faces all listed)
+  pub kept_told : (came : Option Records) (skipped : ℕ) (held : CollectedRecords) (listed : Findings)
+      → came ≡ option_map (plain_left options) known → KeepsAll came skipped held
+      → ((all : Records) (rs : List Record) → AreWhole all skipped rs → all.complete ≡ options.complete → HasCollected rs held → AreFindingsOfRecords options.faces all listed)
       → IfSome known (λ text. AreFindingsOfRecords options.faces (records_of (layout_with options) (left_of (layout_with options) text)) listed)
-  kept_told came skipped both listed is keeps told =
+  kept_told came skipped held listed is keeps told =
       known_as (plain_left options) (λ all. AreFindingsOfRecords options.faces (asked_where options.complete all) listed) known came is
       (IfSome_then came keeps.known (λ all whole. told (asked_where options.complete all) keeps.records (asked_whole options.complete all skipped keeps.records whole) refl keeps.keeps))
 
-  pub told_of_some : (came : Option Records) (skipped : ℕ) (both : BothKept) (listed : Findings) → KeepsAll came skipped both
-      → ((all : Records) (rs : List Record) → AreWhole all skipped rs → all.complete ≡ options.complete → Keeps rs both → AreFindingsOfRecords options.faces all listed)
+  pub told_of_some : (came : Option Records) (skipped : ℕ) (held : CollectedRecords) (listed : Findings) → KeepsAll came skipped held
+      → ((all : Records) (rs : List Record) → AreWhole all skipped rs → all.complete ≡ options.complete → HasCollected rs held → AreFindingsOfRecords options.faces all listed)
       → (all : Records) × AreFindingsOfRecords options.faces all listed
-  told_of_some came skipped both listed keeps told =
+  told_of_some came skipped held listed keeps told =
       let all : Records = record { entries = map (λ (r : Record). (0, r)) keeps.records; refusal = None; skipped = skipped; complete = options.complete } in
       (all, told all keeps.records (record { records_are = numbered keeps.records; no_refusal = refl; skipped_lines = refl }) refl keeps.keeps)
     where
@@ -262,18 +256,11 @@ module _ (options : Options) (skips : Bool) (known : Option (List ℕ)) where
 
 -- ---- records that have no map
 
--- their fault is true
-pub fault_of : (rs : List Record) (stop : MapStop) (f : MapFault) → StopsOn rs stop → unmapped stop ≡ Ok f → (fault : RecordFault) × IsTrueOf rs fault
-fault_of rs (map_stop.Fault fault) f stops is = (fault, stops)
-fault_of rs (map_stop.Refused line cause) f stops is = absurd stops
-fault_of rs (map_stop.NoRecords lacking) f stops is = absurd stops
-fault_of rs map_stop.Memory f stops is = absurd (cc)
-fault_of rs map_stop.Device f stops is = absurd stops
+-- one of all faults, where there are some
+pub some_fault : (rs : List Record) (faults : List RecordFault) → AreAllFaults rs faults → faults ≢ [] → (fault : RecordFault) × IsTrueOf rs fault
+some_fault rs [] all some = absurd (some refl)
+some_fault rs (fault ∷ faults) all some = (fault, all.each 0 fault (omega arith))
 
--- or memory was refused
-pub memory_of : (rs : List Record) (stop : MapStop) (other : Stop) → StopsOn rs stop → unmapped stop ≡ Err other → other ≡ MemoryStop
-memory_of rs (map_stop.Fault fault) other stops is = absurd (cc)
-memory_of rs (map_stop.Refused line cause) other stops is = absurd stops
-memory_of rs (map_stop.NoRecords lacking) other stops is = absurd stops
-memory_of rs map_stop.Memory other stops is = cc
-memory_of rs map_stop.Device other stops is = absurd stops
+-- where no map is handed out, nothing is listed beside one
+pub undrawn_of_map : (faces : Bool) (rs : List Record) (lacking : Lacking) (listed : Findings) → AreTold rs lacking listed → AreOfMap faces listed
+undrawn_of_map faces rs lacking listed told = rw told.undrawn tt

@@ -14,9 +14,10 @@ use Rattle.tl_record.specs.Records.{joined_where}
 use Rattle.tl_map_join.specs.Told.{joined_records}
 use Rattle.tl_map_join.proofs.JoinLemmas.{records_joined}
 use Rattle.tl_map.proofs.GatherLemmas.{so_far_first, so_far_more, known_whole}
-use Rattle.tl_list.specs.declared.reading.BothKept.{BothKept}
+use Rattle.tl_map.specs.declared.collected.CollectedRecords.{CollectedRecords}
+use Rattle.tl_map.specs.Collecting.{HasCollected}
 use Rattle.tl_list.specs.declared.reading.Taken.{Taken}
-use Rattle.tl_list.specs.Keeping.Reading.{Keeps, Takes, joined_if, TakesSoFar, IsSoFar, TakesAll, KeepsAll, AreWhole}
+use Rattle.tl_list.specs.Keeping.Reading.{Takes, joined_if, TakesSoFar, IsSoFar, TakesAll, KeepsAll, AreWhole}
 
 pub keeps_none : (joins : Bool) (at_first : Option Records) (taken : Taken) → Takes joins [] taken → TakesSoFar joins at_first at_first taken
 keeps_none joins at_first taken keeps = record { records = []; keeps = keeps; known = so_far_first at_first }
@@ -66,9 +67,9 @@ keeps_all joins at_first now new skipped taken gives so_far = record {
 }
 
 -- what was taken is kept, joined where that is asked
-pub keeps_taken : (joins : Bool) (came : Option Records) (skipped : ℕ) (taken : Taken) (both : BothKept) → ((joins : Bool) (rs : List Record) → Takes joins rs taken → Keeps (joined_if joins rs) both)
-    → TakesAll joins came skipped taken → KeepsAll (option_map (joined_where joins) came) skipped both
-keeps_taken joins came skipped taken both keep all = record {
+pub keeps_taken : (joins : Bool) (came : Option Records) (skipped : ℕ) (taken : Taken) (held : CollectedRecords) → ((joins : Bool) (rs : List Record) → Takes joins rs taken → HasCollected (joined_if joins rs) held)
+    → TakesAll joins came skipped taken → KeepsAll (option_map (joined_where joins) came) skipped held
+keeps_taken joins came skipped taken held keep all = record {
   records = joined_if joins all.records;
   keeps = keep joins all.records all.keeps;
   known = go joins came all.known;

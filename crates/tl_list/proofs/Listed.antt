@@ -17,9 +17,9 @@ use Rattle.tl_map_county.specs.TheMap.{TheMap}
 use Rattle.tl_check_verdict.specs.declared.fault.MapFault.{MapFault}
 use Rattle.tl_check_verdict.specs.declared.fault.MapFault.TheVariants as fault
 use Rattle.tl_check_verdict.specs.Sound.{IsSoundFor}
-use Rattle.tl_check_verdict.specs.Truth.{IsTrueOfMap}
+use Rattle.tl_check_verdict.specs.Truth.{IsTrueOfMapFor}
 use Rattle.tl_check_verdict.specs.Verdicts.{IsReport}
-use Rattle.tl_check_verdict.specs.Records.{HaveMap, IsTrueOfRecords}
+use Rattle.tl_check_verdict.specs.Records.{HaveMap, IsTrueOfRecordsFor}
 use Rattle.tl_check_verdict.proofs.OneMap.{both, weaker}
 use Rattle.tl_check_verdict.proofs.Deciding.{not_sound_records}
 use Rattle.tl_list_text.specs.declared.listing.Listing.{Listing}
@@ -53,7 +53,7 @@ map_fault_true faces all (fault.Cell odds) have = have
 map_fault_true faces all (fault.Face f) have = have
 
 -- a fault that is true alone is true among others
-pub among_others : (faces : Bool) (all : Records) (f : MapFault) → IsTrueOfRecords faces all f → IsTrueAmongFaults faces all f
+pub among_others : (faces : Bool) (all : Records) (f : MapFault) → IsTrueOfRecordsFor faces all f → IsTrueAmongFaults faces all f
 among_others faces all (fault.Records f) true_one = true_one
 among_others faces all (fault.NoRecords lacking) true_one = true_one
 among_others faces all (fault.Meet meet) true_one = true_one
@@ -61,7 +61,7 @@ among_others faces all (fault.Side node first next) true_one = true_one
 among_others faces all (fault.PolygonPoint misplaced) true_one = true_one
 among_others faces all (fault.Cell odds) true_one = true_one
 among_others faces all (fault.Face f) true_one =
-    weaker all (λ m. IsTrueOfMap faces m (fault.Face f)) (λ m. IsTrueAmong faces m (fault.Face f)) (λ m so. ((so.0, (so.1.0.planar, so.1.0.sides)), so.1.1)) true_one
+    weaker all (λ m. IsTrueOfMapFor faces m (fault.Face f)) (λ m. IsTrueAmong faces m (fault.Face f)) (λ m so. ((so.0, (so.1.0.planar, so.1.0.sides)), so.1.1)) true_one
 
 -- and denies that the map keeps what is asked of it
 among_denies_map : (faces : Bool) (all : Records) (f : MapFault) → HaveMap all (λ m. IsTrueAmong faces m f) → ¬ HaveMap all (IsSoundFor faces)

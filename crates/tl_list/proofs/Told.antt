@@ -1,5 +1,5 @@
 -- Each fault that is true of a map is told by the list of all.
-use Rattle.std.proofs.Common.{◌≡◌, ◌≢◌, ℕ, inl, inr, Bool, false, Some, List, [], ◌++◌, map, refl, subst, arith}
+use Rattle.std.proofs.Common.{◌≡◌, ◌≢◌, ℕ, inl, inr, Bool, Some, List, [], ◌++◌, map, refl, subst, arith}
 use Rattle.std.specs.List.{Any, Contains}
 use Rattle.std.proofs.lemmas.List.Elements.{All-contains, Contains-append_left, Contains-append_right}
 use Rattle.tl_geom.specs.declared.point.Point.{Point}
@@ -46,7 +46,7 @@ module _ (m : TheMap) (faults : List MapFault) (touched : ℕ) (all : AreMapFaul
       → d.next ≡ next → side_fault m.chains d ≡ fault.Side node first next
   side_told node first next d at one other = rw (one, other, start_is m.chains first node at) refl
 
-  some_cell : (cells : List CellsAtOdds) → AreAllCellsAtOdds m.chains cells → (odds : CellsAtOdds) → IsTrueOfMap false m (fault.Cell odds) → cells ≢ []
+  some_cell : (cells : List CellsAtOdds) → AreAllCellsAtOdds m.chains cells → (odds : CellsAtOdds) → IsTrueOfMap m (fault.Cell odds) → cells ≢ []
   some_cell cells told odds true_one =
       λ none. odds_deny m.chains odds.first odds.second odds.first_id odds.second_id true_one (cells_agree m.chains (rw none at told))
 
@@ -70,7 +70,7 @@ module _ (m : TheMap) (faults : List MapFault) (touched : ℕ) (all : AreMapFaul
         ),
       )
 
-  point_told : (misplaced : Misplaced) → IsTrueOfMap false m (fault.PolygonPoint misplaced) → IsTold faults touched (fault.PolygonPoint misplaced)
+  point_told : (misplaced : Misplaced) → IsTrueOfMap m (fault.PolygonPoint misplaced) → IsTold faults touched (fault.PolygonPoint misplaced)
   point_told (OnChain key tlid) true_one =
       let at = place_of m (OnChain key tlid) true_one in
       let kind = at.is.kind in
@@ -92,7 +92,7 @@ module _ (m : TheMap) (faults : List MapFault) (touched : ℕ) (all : AreMapFaul
             (record { own = λ e. absurd (omega (arith, kind, e)); other = λ e t. none (all.all_named.complete at.at.other t) })
       ]
 
-  pub told : (f : MapFault) → IsTrueOfMap false m f → IsTold faults touched f
+  pub told : (f : MapFault) → IsTrueOfMap m f → IsTold faults touched f
   told (fault.Records of_records) true_one = absurd true_one
   told (fault.NoRecords lacking) true_one = absurd true_one
   told (fault.Meet meet) true_one =
@@ -106,7 +106,7 @@ module _ (m : TheMap) (faults : List MapFault) (touched : ℕ) (all : AreMapFaul
   told (fault.Cell odds) true_one =
       let some = some_first all.cells (some_cell all.cells all.all_cells odds true_one) in
       named_by IsOfCells faults (fault.Cell some.0) (among_cells _ (held_map fault.Cell all.cells some.0 some.1)) tt
-  told (fault.Face of_faces) true_one = absurd (cc)
+  told (fault.Face of_faces) true_one = absurd true_one
 
 -- ---- where faces may be asked for
 
@@ -130,7 +130,7 @@ module _ (others rest faults : List MapFault) (touched : ℕ) (are : faults ≡ 
   told_more (fault.Face f) told_one = held_more (fault.Face f) told_one
 
 module _ (faces : Bool) (m : TheMap) (faults : List MapFault) (touched : ℕ) (all : AreFaultsFor faces m faults touched) where
-  other_told : (f : MapFault) → IsTrueOfMap false m f → IsTold faults touched f
+  other_told : (f : MapFault) → IsTrueOfMap m f → IsTold faults touched f
   other_told f true_one = told_more all.others (map fault.Face all.told) faults touched all.are f (told m all.others touched all.all_others f true_one)
 
   face_told : (f : FaceFault) → AreLookedAt faces m → IsTrueFaceFault m f → IsTold faults touched (fault.Face f)

@@ -1,5 +1,5 @@
 -- Each fault that is told of a map is true of it.
-use Rattle.std.proofs.Common.{◌≡◌, ℕ, Bool, false, Some, List, map, length, sym, subst, ap, ◌∙◌, inl, inr, arith}
+use Rattle.std.proofs.Common.{◌≡◌, ℕ, Bool, Some, List, map, length, sym, subst, ap, ◌∙◌, inl, inr, arith}
 use Rattle.std.specs.Option.{unwrap_or}
 use Rattle.std.specs.List.{All}
 use Rattle.std.proofs.lemmas.List.Elements.{All-append, All-map}
@@ -25,12 +25,12 @@ start_known chains dart p e = e ∙ ap (λ o. Some (unwrap_or o nowhere)) (sym e
 pub start_is : (chains : List MapChain) (dart : ℕ) (p : Point) → dart_start chains dart ≡ Some p → start_of chains dart ≡ p
 start_is chains dart p e = ap (λ o. unwrap_or o nowhere) e
 
-side_is_true : (m : TheMap) (d : Disagreement) → HaveSidesAtOdds m.chains d.first d.next → IsTrueOfMap false m (side_fault m.chains d)
+side_is_true : (m : TheMap) (d : Disagreement) → HaveSidesAtOdds m.chains d.first d.next → IsTrueOfMap m (side_fault m.chains d)
 side_is_true m d odds = record { at = start_known m.chains d.first odds.is_next.node odds.is_next.a_starts; is_next = odds.is_next; differ = odds.differ }
 
-pub each_is_true : (m : TheMap) (faults : List MapFault) (touched : ℕ) → AreMapFaults m faults touched → All (IsTrueOfMap false m) faults
+pub each_is_true : (m : TheMap) (faults : List MapFault) (touched : ℕ) → AreMapFaults m faults touched → All (IsTrueOfMap m) faults
 each_is_true m faults touched all =
-    let P : MapFault → Type 0 = IsTrueOfMap false m in
+    let P : MapFault → Type 0 = IsTrueOfMap m in
     rw all.are (All-append P _ _ (All-append P _ _ (All-append P _ _
     (All-map P fault.Meet all.meets all.all_meets.true_ones)
     (All-map P (side_fault m.chains) all.sides (λ k d lt. side_is_true m _ (all.all_sides.true_ones k d lt))))
@@ -38,14 +38,14 @@ each_is_true m faults touched all =
     (All-map P fault.PolygonPoint all.points all.all_points.each))
 
 -- so it is among others, where faces may be asked for
-among_still : (faces : Bool) (m : TheMap) (f : MapFault) → IsTrueOfMap false m f → IsTrueAmong faces m f
+among_still : (faces : Bool) (m : TheMap) (f : MapFault) → IsTrueOfMap m f → IsTrueAmong faces m f
 among_still faces m (fault.Records f) true_one = true_one
 among_still faces m (fault.NoRecords lacking) true_one = true_one
 among_still faces m (fault.Meet meet) true_one = true_one
 among_still faces m (fault.Side node first next) true_one = true_one
 among_still faces m (fault.PolygonPoint misplaced) true_one = true_one
 among_still faces m (fault.Cell odds) true_one = true_one
-among_still faces m (fault.Face f) true_one = absurd (cc)
+among_still faces m (fault.Face f) true_one = absurd true_one
 
 -- and each of faces is where these are looked at
 faces_true : (faces : Bool) (m : TheMap) (told : List FaceFault) → AreFacesTold faces m told → All (IsTrueAmong faces m) (map fault.Face told)

@@ -1,5 +1,5 @@
 -- How a list of faults tells one that is true.
-use Rattle.std.specs.Prelude.{◌≡◌, ◌⊎◌, ◌<◌, ℕ, zero, ⊤, Bool, true, false, List}
+use Rattle.std.specs.Prelude.{◌≡◌, ◌⊎◌, ◌<◌, ℕ, zero, ⊤, Bool, true, List}
 use Rattle.std.specs.List.{All, Any, Contains}
 use Rattle.tl_check_inside.specs.declared.misplaced.Misplaced.{Misplaced}
 use Rattle.tl_check_inside.specs.declared.misplaced.Misplaced.TheVariants.{OnChain, Outside, InOther}
@@ -96,20 +96,10 @@ EachFault (listing.Faults faults touched) P = All P faults.items
 -- What a fault among others says of a map: what it says alone; but that faces disagree is said of them wherever they are looked at, whatever
 -- else is wrong.
 abbrev pub IsTrueAmong : (faces : Bool) → TheMap → MapFault → Type 0
-IsTrueAmong faces m (Records fault) = IsTrueOfMap false m (Records fault)
-IsTrueAmong faces m (NoRecords lacking) = IsTrueOfMap false m (NoRecords lacking)
-IsTrueAmong faces m (Meet meet) = IsTrueOfMap false m (Meet meet)
-IsTrueAmong faces m (Side node first next) = IsTrueOfMap false m (Side node first next)
-IsTrueAmong faces m (PolygonPoint fault) = IsTrueOfMap false m (PolygonPoint fault)
-IsTrueAmong faces m (Cell odds) = IsTrueOfMap false m (Cell odds)
 IsTrueAmong faces m (Face fault) = AreLookedAt faces m × (IsTrueFaceFault m fault × ¬ AreFacesTrue m.chains)
+IsTrueAmong faces m other = IsTrueOfMap m other
 
 -- the same of records
 abbrev pub IsTrueAmongFaults : (faces : Bool) → AllRecords → MapFault → Type 0
-IsTrueAmongFaults faces all (Records fault) = IsTrueOfRecords faces all (Records fault)
-IsTrueAmongFaults faces all (NoRecords lacking) = IsTrueOfRecords faces all (NoRecords lacking)
-IsTrueAmongFaults faces all (Meet meet) = HaveMap all (λ m. IsTrueAmong faces m (Meet meet))
-IsTrueAmongFaults faces all (Side node first next) = HaveMap all (λ m. IsTrueAmong faces m (Side node first next))
-IsTrueAmongFaults faces all (PolygonPoint fault) = HaveMap all (λ m. IsTrueAmong faces m (PolygonPoint fault))
-IsTrueAmongFaults faces all (Cell odds) = HaveMap all (λ m. IsTrueAmong faces m (Cell odds))
 IsTrueAmongFaults faces all (Face fault) = HaveMap all (λ m. IsTrueAmong faces m (Face fault))
+IsTrueAmongFaults faces all other = IsTrueOfRecords all other

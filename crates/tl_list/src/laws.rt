@@ -6,7 +6,7 @@ ghost use Rattle.tl_record.specs.Layout.{layout_with};
 ghost use Rattle.tl_record.specs.Records.{records_of};
 ghost use Rattle.tl_check_verdict.specs.declared.fault.MapFault.{MapFault};
 ghost use Rattle.tl_check_verdict.specs.Sound.{IsSoundFor};
-ghost use Rattle.tl_check_verdict.specs.Records.{HaveMap, IsTrueOfRecords};
+ghost use Rattle.tl_check_verdict.specs.Records.{HaveMap, IsTrueOfRecordsFor};
 ghost use Rattle.tl_list_text.specs.declared.listing.Listing.{Listing};
 ghost use Rattle.tl_list.specs.Listings.{IsListingOf};
 ghost use Rattle.tl_list.specs.Telling.{SaysSound, EachFault, Tells, IsTrueAmongFaults};
@@ -35,7 +35,8 @@ pub fn each_fault_that_is_true_is_told()
 
 /// So the one of several faults which `tl_build` names is among them.
 pub fn a_fault_that_is_true_alone_is_true_among_others()
-    ensures { (options : Options) (text : List ℕ) (fault : MapFault) → IsTrueOfRecords options.faces (records_of (layout_with options) text) fault →
+    ensures { (options : Options) (text : List ℕ) (fault : MapFault) →
+        IsTrueOfRecordsFor options.faces (records_of (layout_with options) text) fault →
         IsTrueAmongFaults options.faces (records_of (layout_with options) text) fault }
 {}
 

@@ -3,28 +3,28 @@
 ghost use Rattle.std.specs.Prelude.{◌≡◌, List, true, None, Some, IfOk, IfErr, IfSome, ⊤};
 ghost use Rattle.tl_record.specs.Records.{Records as AllRecords};
 ghost use Rattle.tl_record.specs.declared.record.Record.{Record};
-ghost use Rattle.tl_list_records.specs.Kept.{KeepsRecords};
+ghost use Rattle.tl_list_records.specs.AllFaults.{AreAllFaults};
+ghost use Rattle.tl_map.specs.Collecting.{HasCollected};
 ghost use Rattle.tl_list_map.specs.MapListings.{IsListingFor};
 ghost use Rattle.tl_list.specs.Listings.{IsListingOf};
 ghost use Rattle.tl_cert_output.specs.Stops.{StopsFor, TellsDevice};
 ghost use Rattle.tl_record.specs.Layout.{layout_with};
 ghost use Rattle.tl_list.specs.Findings.{IsFoundIn, AreOfMap};
 ghost use Rattle.tl_list.specs.Noting.{NotesLines};
-ghost use Rattle.tl_list.specs.Keeping.Reading.{Keeps, AreWhole};
+ghost use Rattle.tl_list.specs.Keeping.Reading.{AreWhole};
 ghost use Rattle.tl_list.specs.Keeping.OfRecords.{AreFindingsOfRecords, AreTold};
 
 use crate::left::{Found, found_in};
-use crate::reading::{BothKept, LinesRead, read_all};
+use crate::reading::{LinesRead, read_all};
 use crate::tell::push_records;
 use std::alloc::Global;
 use std::hash::RandomState;
 use tl_cert_output::Stop;
-use tl_check_verdict::fault_of_records;
 use tl_list_map::list_map;
-use tl_list_records::{KeptRecords, all_record_faults};
 use tl_list_text::Listing;
+use tl_map::{CollectedRecords, NoMap};
 use tl_map_county::Map;
-use tl_map_rules::Lacking;
+use tl_map_rules::{Lacking, RecordFault};
 use tl_record::{Options, RecordReader, Source};
 
 /// All that is wrong with a county, and the map that its records draw.
@@ -99,8 +99,8 @@ pub fn list_with_map<R: Source>(
         kept,
     } = read_all(alloc, &mut reader, options.join, skips, notes)?;
     match kept {
-        Some(both) => {
-            let listed = list_kept(alloc, hasher, both, reader.skipped(), options)?;
+        Some(kept) => {
+            let listed = list_kept(alloc, hasher, kept, reader.skipped(), options)?;
             Ok(found_in(alloc, refused, listed, noted))
         }
         None => Ok(Found {
@@ -119,42 +119,35 @@ pub fn list_with_map<R: Source>(
 fn list_kept(
     alloc: Global,
     hasher: RandomState,
-    both: BothKept,
+    kept: CollectedRecords,
     skipped: u64,
     options: Options,
 ) -> Result<Findings, Stop>
-    requires { (rs : List Record) × Keeps rs both }
-    ensures listed { (all : AllRecords) (rs : List Record) → AreWhole all skipped rs → all.complete ≡ options.complete → Keeps rs both →
+    requires { (rs : List Record) × HasCollected rs kept }
+    ensures listed { (all : AllRecords) (rs : List Record) → AreWhole all skipped rs → all.complete ≡ options.complete → HasCollected rs kept →
         IfOk result (AreFindingsOfRecords options.faces all) }
     ensures of_map { IfOk result (AreOfMap options.faces) }
     ensures stops { IfErr result (λ stop. stop ≡ Stop.Memory) }
 {
-    let BothKept { collected, kept } = both;
-    let lacking = collected.lacking(options.complete);
+    let lacking = kept.lacking(options.complete);
     if lacking.is_some() {
-        drop(collected);
-        return list_told(alloc, kept, lacking);
+        let told = kept.faults(alloc)?;
+        return list_told(alloc, &told, lacking);
     }
-    match collected.build(alloc, hasher, skipped) {
-        Ok(map) => {
-            drop(kept);
-            list_drawn(alloc, map, options.faces)
-        }
-        Err(stop) => {
-            fault_of_records(stop)?;
-            list_told(alloc, kept, lacking)
-        }
+    match kept.build(alloc, hasher, skipped) {
+        Ok(map) => list_drawn(alloc, map, options.faces),
+        Err(NoMap::Faults(told)) => list_told(alloc, &told, lacking),
+        Err(NoMap::Memory) => Err(Stop::Memory),
     }
 }
 
-/// All faults of records that have one, or of which there are none of these types, as those of a county.
-fn list_told(alloc: Global, kept: KeptRecords, lacking: Lacking) -> Result<Findings, Stop>
-    ensures listed { (rs : List Record) → KeepsRecords rs kept → IfOk result (AreTold rs lacking) }
+/// These faults of records, of which there are none of these types, as those of a county.
+fn list_told(alloc: Global, told: &[RecordFault], lacking: Lacking) -> Result<Findings, Stop>
+    ensures listed { (rs : List Record) → AreAllFaults rs told.now → IfOk result (AreTold rs lacking) }
     ensures stops { IfErr result (λ stop. stop ≡ Stop.Memory) }
 {
-    let told = all_record_faults(alloc, kept)?;
     let mut faults = Vec::new(alloc);
-    push_records(&mut faults, &told, lacking)?;
+    push_records(&mut faults, told, lacking)?;
     Ok(Findings {
         listing: Listing::Faults { faults, touched: 0 },
         map: None,

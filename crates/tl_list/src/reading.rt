@@ -1,4 +1,4 @@
-//! Reads records once, for what tells their faults and for what draws their map.
+//! Reads records once, and keeps them for their map or their faults.
 
 ghost use Rattle.std.specs.Prelude.{◌≡◌, ⊤, IfOk, IfErr, OnOk, true};
 ghost use Rattle.tl_record.specs.declared.reader.Standing.TheVariants.{Reading};
@@ -10,51 +10,22 @@ ghost use Rattle.tl_cert_output.specs.Stops.{StopsFor, TellsDevice};
 ghost use Rattle.std.specs.Prelude.{List};
 ghost use Rattle.tl_record.specs.declared.record.Record.{Record};
 ghost use Rattle.tl_map_join.specs.Told.{HasTold, joined_records};
-ghost use Rattle.tl_list.specs.Keeping.Reading.{Keeps, ListsFrom, MayTake, MayRead, TakesOne, taken_if};
+ghost use Rattle.tl_map.specs.Collecting.{HasCollected};
+ghost use Rattle.tl_list.specs.Keeping.Reading.{ListsFrom, MayTake, MayRead, TakesOne, taken_if};
 ghost use Rattle.tl_list.specs.Keeping.Noting.{NotesFronts, NotesRecords, NotesOne};
 
 use crate::noted::{NotedLines, front_noted};
 use std::alloc::{AllocError, Global};
 use tl_cert_output::Stop;
-use tl_list_records::KeptRecords;
 use tl_list_records::refusals::list_refusals;
 use tl_map::CollectedRecords;
 use tl_map_join::ToldRecords;
 use tl_record::{NO_RECORD, ReadStop, Record, RecordReader, Refusal, RefusalStop, Source};
 
-/// What is kept of records: what draws their map, and what tells their faults.
-#[derive(Drop)]
-pub struct BothKept {
-    pub collected: CollectedRecords,
-    pub kept: KeptRecords,
-}
-
-impl BothKept {
-    ghost use Rattle.std.specs.Prelude.{◌∷◌, [], ◌++◌, OnOk};
-
-    /// No record.
-    fn new(alloc: Global) -> BothKept
-        ensures { Keeps [] result }
-    {
-        BothKept {
-            collected: CollectedRecords::new(alloc),
-            kept: KeptRecords::new(alloc),
-        }
-    }
-
-    /// Keeps one more record. An error says that memory was refused.
-    fn add(&mut self, next: &Record) -> Result<(), AllocError>
-        ensures { (rs : List Record) → Keeps rs self.old → OnOk result (Keeps (rs ++ next.now ∷ []) self.new) }
-    {
-        self.collected.add(next)?;
-        self.kept.add(next)
-    }
-}
-
-/// Records as they come, kept for both; or all of them until they are joined.
+/// Records as they come, kept; or all of them until they are joined.
 #[derive(Drop)]
 pub enum Taken {
-    Both(BothKept),
+    Kept(CollectedRecords),
     Told(ToldRecords),
 }
 
@@ -69,7 +40,7 @@ impl Taken {
         if joins {
             Taken::Told(ToldRecords::new(alloc))
         } else {
-            Taken::Both(BothKept::new(alloc))
+            Taken::Kept(CollectedRecords::new(alloc))
         }
     }
 
@@ -79,35 +50,35 @@ impl Taken {
             OnOk result (Takes joins (rs ++ next.now ∷ []) self.new) }
     {
         match self {
-            Taken::Both(both) => both.add(next),
+            Taken::Kept(kept) => kept.add(next),
             Taken::Told(told) => told.add(next),
         }
     }
 
-    /// All records kept for both, with each chain that is told twice once, where they are joined.
-    fn keep(self, alloc: Global) -> Result<BothKept, AllocError>
+    /// All records kept, with each chain that is told twice once, where they are joined.
+    fn keep(self, alloc: Global) -> Result<CollectedRecords, AllocError>
         // It has taken some records.
         requires { (joins : Bool) × ((rs : List Record) × Takes joins rs self) }
-        ensures { (joins : Bool) (rs : List Record) → Takes joins rs self → IfOk result (Keeps (joined_if joins rs)) }
+        ensures { (joins : Bool) (rs : List Record) → Takes joins rs self → IfOk result (HasCollected (joined_if joins rs)) }
     {
         match self {
-            Taken::Both(both) => Ok(both),
+            Taken::Kept(kept) => Ok(kept),
             Taken::Told(told) => keep_joined(alloc, told),
         }
     }
 }
 
-/// Records with each chain that is told twice once, kept for both.
-fn keep_joined(alloc: Global, told: ToldRecords) -> Result<BothKept, AllocError>
+/// Records with each chain that is told twice once, kept.
+fn keep_joined(alloc: Global, told: ToldRecords) -> Result<CollectedRecords, AllocError>
     requires { (rs : List Record) × HasTold rs told }
-    ensures { (rs : List Record) → HasTold rs told → IfOk result (Keeps (joined_records rs)) }
+    ensures { (rs : List Record) → HasTold rs told → IfOk result (HasCollected (joined_records rs)) }
 {
     let joined = told.join(alloc)?;
-    let mut both = BothKept::new(alloc);
+    let mut kept = CollectedRecords::new(alloc);
     for next in &joined {
-        both.add(next)?;
+        kept.add(next)?;
     }
-    Ok(both)
+    Ok(kept)
 }
 
 /// Takes one more record, where records are still taken, and notes it with its line's number where that is asked. An error says that memory was
@@ -248,7 +219,7 @@ fn take_all<R: Source>(
 pub struct LinesRead {
     pub refused: Vec<Refusal>,
     pub noted: NotedLines,
-    pub kept: Option<BothKept>,
+    pub kept: Option<CollectedRecords>,
 }
 
 /// Keeps all records that a reader has to give, joined where that is asked, and lists all lines that are refused. Where these aren't skipped,
@@ -277,11 +248,11 @@ pub fn read_all<R: Source>(
     } = take_all(alloc, reader, joins, skips, notes)?;
     match taken {
         Some(taken) => {
-            let both = taken.keep(alloc)?;
+            let kept = taken.keep(alloc)?;
             Ok(LinesRead {
                 refused,
                 noted,
-                kept: Some(both),
+                kept: Some(kept),
             })
         }
         None => Ok(LinesRead {

@@ -1,5 +1,5 @@
 -- A map that has a fault has one that is told, and where one is told it isn't sound.
-use Rattle.std.proofs.Common.{◌≡◌, ◌≢◌, ℕ, ◌<◌, inl, inr, false, List, [], ◌∷◌, ◌++◌, map, refl, sym, subst}
+use Rattle.std.proofs.Common.{◌≡◌, ◌≢◌, ℕ, ◌<◌, inl, inr, List, [], ◌∷◌, ◌++◌, map, refl, sym, subst}
 use Rattle.std.proofs.Common.{◌∙◌, arith}
 use Rattle.std.specs.List.{Any, Contains}
 use Rattle.tl_map_county.specs.TheMap.{TheMap, MapChain}
@@ -69,7 +69,7 @@ odds_deny chains a b id_a id_b odds agree = elim odds.odd [
   | inr start ↦ start.1 ((agree a b id_a id_b odds.a_has odds.b_has).1 start.0)
 ]
 
-no_fault : (m : TheMap) (f : MapFault) → HasNone m → ¬ IsTrueOfMap false m f
+no_fault : (m : TheMap) (f : MapFault) → HasNone m → ¬ IsTrueOfMap m f
 no_fault m (fault.Records told) none true_one = absurd true_one
 no_fault m (fault.NoRecords lacking) none true_one = absurd true_one
 no_fault m (fault.Meet meet) none true_one = none_named _ (none.meets.complete meet.s meet.t meet.at true_one.ordered true_one.told.meet)
@@ -77,9 +77,9 @@ no_fault m (fault.Side node first next) none true_one =
     none_named _ (none.sides.complete first next (record { is_next = true_one.is_next; differ = true_one.differ }))
 no_fault m (fault.PolygonPoint misplaced) none true_one = none_held misplaced (let at = place_of m misplaced true_one in none.points.every at.at misplaced (record { own = λ e h. h; other = λ e h. h }) at.is)
 no_fault m (fault.Cell odds) none true_one = odds_deny m.chains odds.first odds.second odds.first_id odds.second_id true_one (cells_agree m.chains none.cells)
-no_fault m (fault.Face told) none true_one = absurd (cc)
+no_fault m (fault.Face told) none true_one = absurd true_one
 
 -- where a fault is true of the map, the list of all isn't empty
-pub one_is_told : (m : TheMap) (faults : List MapFault) (touched : ℕ) (f : MapFault) → AreMapFaults m faults touched → IsTrueOfMap false m f
+pub one_is_told : (m : TheMap) (faults : List MapFault) (touched : ℕ) (f : MapFault) → AreMapFaults m faults touched → IsTrueOfMap m f
     → faults ≢ []
 one_is_told m faults touched f all true_one = λ none. no_fault m f (has_none m faults touched all none) true_one

@@ -22,8 +22,8 @@ use Rattle.tl_check_faces.specs.Crossings.Headings.{AreProper}
 use Rattle.tl_check_faces.proofs.Parted.{tell_turned, off_both}
 use Rattle.tl_check_remaining.specs.declared.remaining.PlanarPart.{PlanarPart}
 use Rattle.tl_check_remaining.specs.Parts.{IsPlanarPart}
-use Rattle.tl_check_counts.specs.Counts.{AreCountsAt}
-use Rattle.tl_check_counts.proofs.Known.{one_known}
+use Rattle.tl_check_points.specs.Counts.{AreCountsAt}
+use Rattle.tl_check_points.proofs.Known.{one_known}
 use Rattle.tl_list_points.specs.Keeping.Joined.{AreJoined, IsApart, IsSifted, turned}
 use Rattle.tl_list_nodes.specs.Keeping.Listed.{AreListed}
 

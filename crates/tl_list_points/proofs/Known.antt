@@ -13,7 +13,7 @@ use Rattle.tl_check_inside.specs.declared.strips.Site.{Site}
 use Rattle.tl_check_inside.specs.Places.{IsOffChains, IsHeldBy}
 use Rattle.tl_check_inside.specs.Keeping.Strips.{IsSiteOf, numbers}
 use Rattle.tl_check_inside.specs.Keeping.Tallies.{TellCounts}
-use Rattle.tl_check_counts.specs.Counts.{AreCountsAt}
+use Rattle.tl_check_points.specs.Counts.{AreCountsAt}
 use Rattle.tl_tree_index.specs.declared.index.Memory.{Memory}
 use Rattle.tl_check_inside.specs.Suspects.{AreSuspects}
 use Rattle.tl_check_inside.specs.declared.misplaced.Misplaced.{Misplaced}

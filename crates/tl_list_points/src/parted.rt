@@ -7,15 +7,15 @@ ghost use Rattle.tl_check_planar.specs.Rectangles.{segment_rect};
 ghost use Rattle.tl_check_inside.specs.Keeping.Probing.{ChainsAreInReach};
 ghost use Rattle.tl_check_inside.specs.Places.{IsOffChains};
 ghost use Rattle.tl_check_remaining.specs.Parts.{IsPlanarPart};
-ghost use Rattle.tl_check_counts.specs.Counts.{AreCountsAt};
+ghost use Rattle.tl_check_points.specs.Counts.{AreCountsAt};
 ghost use Rattle.tl_list_points.specs.Keeping.Joined.{AreJoined, turned};
 
 use crate::misplaced::look_about;
 use crate::room::Room;
 use std::alloc::Global;
-use tl_check_counts::{PointCounts, count_at};
 use tl_check_inside::{Flanks, Site, look_at_points};
 use tl_check_planar::Segments;
+use tl_check_points::{PointCounts, count_at};
 use tl_check_remaining::PlanarPart;
 use tl_map_county::Map;
 use tl_tree::FlatTree;

@@ -21,7 +21,7 @@ use Rattle.tl_map_rules.specs.declared.fault.RecordFault.TheVariants as fault
 use Rattle.tl_map_rules.specs.MapOf.{sides_in, polygons_in, landmarks_in, links_in, keys, same_key}
 use Rattle.tl_map_rules.specs.Faults.{IsTrueOf, StandsTwice, Names}
 use Rattle.tl_map_rules.proofs.CountLemmas.{one_counted}
-use Rattle.tl_list_records.specs.declared.collect.NamedSide.{NamedSide}
+use Rattle.tl_list_records.specs.declared.kept.NamedSide.{NamedSide}
 use Rattle.tl_list_records.specs.declared.numbers.Numbered.TheVariants.{LinkWithoutLandmark}
 use Rattle.tl_list_records.specs.AllFaults.{fault_place}
 use Rattle.tl_list_records.specs.Kept.{named, names_of}
@@ -132,13 +132,14 @@ names_have s k names = elim names [
 ]
 
 -- M9 is told
-pub told_unknown_sides : (rs : List Record) (codes : List ℕ) (names : List NamedSide) (ks : List PolyKey) (old new : List RecordFault) → names ≡ flat_map names_of (sides_in rs) → IsPermutation (keys (polygons_in rs)) ks → Tells (IsMissing side_fault (λ n. n.key) names ks) old new → AreTold rs codes old → AreTold rs (9 ∷ codes) new
-told_unknown_sides rs codes names ks old new are moved tells before =
+pub told_unknown_sides : (rs : List Record) (codes : List ℕ) (entries : List SidesEntry) (names : List NamedSide) (ks : List PolyKey) (old new : List RecordFault) → IsPermutation (sides_in rs) entries → names ≡ flat_map names_of entries → IsPermutation (keys (polygons_in rs)) ks → Tells (IsMissing side_fault (λ n. n.key) names ks) old new → AreTold rs codes old → AreTold rs (9 ∷ codes) new
+told_unknown_sides rs codes entries names ks old new sorted are moved tells before =
     told_more rs codes 9 (IsMissing side_fault (λ (n : NamedSide). n.key) names ks) old new
     (λ f m.
-    let named = has_flat names_of (sides_in rs) m.item (rw are at m.among) in
+    let named = has_flat names_of entries m.item (rw are at m.among) in
     let is = names_are named.1 m.item named.4 in
-    subst (IsTrueOf rs) (sym m.is) ((named.0, named.1, named.2, named.3, is), λ has. m.unknown (Contains-permutation (keys (polygons_in rs)) ks m.item.key moved has)))
+    let there : Contains (sides_in rs) named.1 = Contains-permutation entries (sides_in rs) named.1 (IsPermutation-sym (sides_in rs) entries sorted) (named.0, named.2, named.3) in
+    subst (IsTrueOf rs) (sym m.is) ((there.0, named.1, there.1, there.2, is), λ has. m.unknown (Contains-permutation (keys (polygons_in rs)) ks m.item.key moved has)))
     (λ f holds code.
     let t = (fault_place f).1 in
     let k : PolyKey = record { cenid = (fault_place f).2; polyid = (fault_place f).3 } in
@@ -148,7 +149,7 @@ told_unknown_sides rs codes names ks old new are moved tells before =
     record {
       item = n;
       is = is;
-      among = rw are (flat_has names_of (sides_in rs) true.0.1 n (true.0.0, true.0.2, true.0.3) (subst (λ u. Contains (names_of true.0.1) (record { tlid = u; key = k })) true.0.4.0 (names_have true.0.1 k true.0.4.1)));
+      among = rw are (flat_has names_of entries true.0.1 n (Contains-permutation (sides_in rs) entries true.0.1 sorted (true.0.0, true.0.2, true.0.3)) (subst (λ u. Contains (names_of true.0.1) (record { tlid = u; key = k })) true.0.4.0 (names_have true.0.1 k true.0.4.1)));
       unknown = λ has. true.1 (Contains-permutation ks (keys (polygons_in rs)) k (IsPermutation-sym (keys (polygons_in rs)) ks moved) has);
     })
     tells before

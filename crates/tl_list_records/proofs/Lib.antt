@@ -1,4 +1,3 @@
-pub mod KeptLemmas
 pub mod ToldLemmas
 pub mod NumberLemmas
 pub mod OrderLemmas

@@ -1,4 +1,4 @@
-use Rattle.std.proofs.Common.{◌≡◌, ℕ, ◌<◌, Bool, true, false, cond, List, [], ◌∷◌, length, map, sum_by, Contains, refl, sym, arith}
+use Rattle.std.proofs.Common.{◌≡◌, ℕ, zero, suc, ◌<◌, ◌≤◌, Bool, true, false, cond, List, [], ◌∷◌, length, map, sum_by, Contains, refl, sym, arith}
 use Rattle.std.specs.Prelude.{min}
 use Rattle.std.specs.Bool.{Decides}
 use Rattle.std.specs.List.{filter_map}
@@ -7,6 +7,7 @@ use Rattle.std.proofs.lemmas.Bool.{true≢false}
 use Rattle.std.proofs.lemmas.List.Elements.{All-weaker, All-contains}
 use Rattle.std.proofs.lemmas.List.{length-map, get_or-map}
 use Rattle.std.proofs.lemmas.List.Sums.{sum_by-cons}
+use Rattle.std.proofs.lemmas.List.Sorted.{IsPermutation-map, IsPermutation-trans, length_permutation}
 use Rattle.tl_record.specs.declared.record.Record.{Record}
 use Rattle.tl_record.specs.declared.record.Record.TheVariants.{Chain, Shape, Sides, PolyPoint, Landmark, AreaLink}
 use Rattle.tl_record_key.specs.declared.key.PolyKey.{PolyKey}
@@ -17,33 +18,32 @@ use Rattle.tl_map_rules.specs.declared.fault.RecordFault.{RecordFault}
 use Rattle.tl_map_rules.specs.declared.fault.RecordFault.TheVariants.{DuplicateChain, ShapeWithoutChain, ShapeSequence, ShapeGap, ChainWithoutSides, SidesWithoutChain, DuplicateSides, DuplicatePolygon, SideWithoutPolygon, LinkWithoutLandmark, LinkWithoutPolygon, DegenerateChain, TooMany}
 use Rattle.tl_map_rules.specs.ChainsOf.{shape_count, chain_count, is_any_chain}
 use Rattle.tl_map_rules.specs.MapOf.{sides_in, polygons_in, keys}
-use Rattle.tl_map_rules.specs.Faults.{IsTrueOf, IsTooMany, AreJoined}
+use Rattle.tl_map_rules.specs.Faults.{IsTrueOf, IsTooMany, AreJoined, HaveNoChainFault}
 use Rattle.tl_map_rules.specs.declared.entry.LinkEntry.{LinkEntry}
-use Rattle.tl_list_records.specs.declared.collect.NamedSide.{NamedSide}
+use Rattle.tl_map_rules.specs.declared.entry.SidesEntry.{SidesEntry}
+use Rattle.tl_list_records.specs.declared.kept.NamedSide.{NamedSide}
 use Rattle.tl_list_records.specs.Keeping.Areas.{AreAreas}
 use Rattle.tl_list_records.specs.declared.shape.ShapeSummary.{ShapeSummary}
 use Rattle.tl_list_records.specs.AllFaults.{fault_place, AreAllFaults}
-use Rattle.tl_list_records.specs.Kept.{chain_at, shape_at}
+use Rattle.tl_list_records.specs.Kept.{chain_at, shape_at, HasChains}
 use Rattle.tl_list_records.specs.Keeping.Told.{Tells, AreTold, AreChainsTold, AreOrdered}
-use Rattle.tl_list_records.specs.Keeping.Numbers.{StandAsOften, chains_with, sides_with, with_sides}
+use Rattle.tl_list_records.specs.Keeping.Numbers.{StandAsOften, chains_with, sides_with}
 use Rattle.tl_list_records.specs.Keeping.Runs.{AreInOrder, AreShapes}
 use Rattle.tl_list_records.specs.Keeping.Chains.{IsOnePointFault, steps_with}
-use Rattle.tl_list_records.specs.Keeping.Parts.{KeepsChains, KeepsAreas, AreSorted, AreChainCounts, all_codes}
+use Rattle.tl_list_records.specs.Keeping.Parts.{KeepsAreas, AreSegmentsTold, AreCountsTold, chain_codes, all_codes}
 use Rattle.tl_list_records.proofs.CountedLemmas.{chain_tlids, shape_tlids, side_tlids}
 use Rattle.tl_list_records.proofs.RunLemmas.{nothing}
 use Rattle.tl_list_records.proofs.PointLemmas.{told_degenerate, segments_told}
 
--- what is told of chains, shapes and sides that are sorted
-pub told_sorted : (rs : List Record) (chains : List ChainEntry) (shapes : List ShapeSummary) (sides tlids stlids : List ℕ) (joined : Bool) (segments : ℕ) (one two three : List RecordFault) → AreSorted rs chains shapes sides → AreInOrder shapes → tlids ≡ map (λ c. c.tlid) chains → stlids ≡ map (λ s. s.tlid) shapes → (StandAsOften (chains_with rs) tlids → StandAsOften (shape_count rs) stlids → AreShapes rs shapes → AreChainsTold rs joined one) → ((codes : List ℕ) → StandAsOften (chains_with rs) tlids → StandAsOften (sides_with rs) sides → AreTold rs codes one → AreTold rs (with_sides codes) two) → Tells (IsOnePointFault chains shapes (length chains)) two three → segments ≡ cond joined (min (sum_by (steps_with shapes) chains) 18446744073709551615) 0 → AreChainCounts rs segments three
-told_sorted rs chains shapes sides tlids stlids joined segments one two three sorted order tlids_are stlids_are chains_told sides_told points segments_are =
+-- what is told of chains and shapes that are sorted
+pub told_sorted : (rs : List Record) (chains : List ChainEntry) (shapes : List ShapeSummary) (tlids stlids : List ℕ) (joined : Bool) (segments : ℕ) (one two : List RecordFault) → HasChains rs chains shapes → AreInOrder shapes → tlids ≡ map (λ c. c.tlid) chains → stlids ≡ map (λ s. s.tlid) shapes → (StandAsOften (chains_with rs) tlids → StandAsOften (shape_count rs) stlids → AreShapes rs shapes → AreChainsTold rs joined one) → Tells (IsOnePointFault chains shapes (length chains)) one two → segments ≡ cond joined (min (sum_by (steps_with shapes) chains) 18446744073709551615) 0 → AreSegmentsTold rs segments two
+told_sorted rs chains shapes tlids stlids joined segments one two sorted order tlids_are stlids_are chains_told points segments_are =
     let are : AreShapes rs shapes = record { moved = sorted.of_shapes; order = order } in
     let often : StandAsOften (chains_with rs) tlids = rw tlids_are (chain_tlids rs (filter_map chain_at rs) chains refl sorted.of_chains) in
     let shape_often : StandAsOften (shape_count rs) stlids = rw stlids_are (shape_tlids rs (filter_map shape_at rs) shapes refl sorted.of_shapes) in
-    let side_often : StandAsOften (sides_with rs) sides = side_tlids rs (map (λ s. s.tlid) (sides_in rs)) sides refl sorted.of_sides in
     let first = chains_told often shape_often are in
-    let second = sides_told (4 ∷ 3 ∷ 2 ∷ 1 ∷ []) often side_often first.told in
     record {
-      told = told_degenerate rs (with_sides (4 ∷ 3 ∷ 2 ∷ 1 ∷ [])) chains shapes two three sorted.of_chains are points second;
+      told = told_degenerate rs (4 ∷ 3 ∷ 2 ∷ 1 ∷ []) chains shapes one two sorted.of_chains are points first.told;
       too_many = λ many. upto joined refl first.are_joined are segments_are many;
       few = λ many. back joined refl first.are_joined are segments_are many;
     }
@@ -62,10 +62,10 @@ coded (DuplicateChain t) = (12, omega arith, refl)
 coded (ShapeWithoutChain t) = (11, omega arith, refl)
 coded (ShapeSequence t) = (10, omega arith, refl)
 coded (ShapeGap t) = (9, omega arith, refl)
-coded (ChainWithoutSides t) = (8, omega arith, refl)
-coded (SidesWithoutChain t) = (7, omega arith, refl)
-coded (DuplicateSides t) = (6, omega arith, refl)
-coded (DegenerateChain t) = (5, omega arith, refl)
+coded (ChainWithoutSides t) = (7, omega arith, refl)
+coded (SidesWithoutChain t) = (6, omega arith, refl)
+coded (DuplicateSides t) = (5, omega arith, refl)
+coded (DegenerateChain t) = (8, omega arith, refl)
 coded (DuplicatePolygon k) = (4, omega arith, refl)
 coded (SideWithoutPolygon t k) = (3, omega arith, refl)
 coded (LinkWithoutLandmark n) = (2, omega arith, refl)
@@ -104,19 +104,76 @@ shape_order shapes order i j d le lt =
     let within : j < length shapes = omega (arith, lt, length-map shapes tlid) in
     omega (arith, (order i j nothing le within).by_tlid, get_or-map tlid shapes i nothing d (omega arith), get_or-map tlid shapes j nothing d within)
 
--- lists that are kept, once they are sorted
-pub kept_sorted : (rs : List Record) (chains0 chains : List ChainEntry) (shapes0 shapes : List ShapeSummary) (sides0 sides : List ℕ) → KeepsChains rs chains0 shapes0 sides0 → IsPermutation chains0 chains → IsPermutation shapes0 shapes → IsPermutation sides0 sides → AreSorted rs chains shapes sides
-kept_sorted rs chains0 chains shapes0 shapes sides0 sides keeps a b c = record {
-  of_chains = rw keeps.of_chains at a;
-  of_shapes = rw keeps.of_shapes at b;
-  of_sides = rw keeps.of_sides at c;
+-- chains and shapes in another order
+pub chains_moved : (rs : List Record) (chains0 chains : List ChainEntry) (shapes0 shapes : List ShapeSummary) → HasChains rs chains0 shapes0 → IsPermutation chains0 chains → IsPermutation shapes0 shapes → HasChains rs chains shapes
+chains_moved rs chains0 chains shapes0 shapes has a b = record {
+  of_chains = IsPermutation-trans (filter_map chain_at rs) chains0 chains has.of_chains a;
+  of_shapes = IsPermutation-trans (filter_map shape_at rs) shapes0 shapes has.of_shapes b;
 }
 
+-- the TLIDs of sides in another order
+pub sides_often : (rs : List Record) (entries : List SidesEntry) (sides0 sides : List ℕ) → IsPermutation (sides_in rs) entries → sides0 ≡ map (λ s. s.tlid) entries → IsPermutation sides0 sides → StandAsOften (sides_with rs) sides
+sides_often rs entries sides0 sides moved is sorted =
+    let tlid = λ (s : SidesEntry). s.tlid in
+    side_tlids rs (map tlid (sides_in rs)) sides refl (IsPermutation-trans (map tlid (sides_in rs)) (map tlid entries) sides (IsPermutation-map tlid (sides_in rs) entries moved) (rw is at sorted))
+
+-- keys and LANDs, once they are sorted
 pub kept_areas : (rs : List Record) (polygons0 polygons : List PolyKey) (names : List NamedSide) (landmarks0 landmarks : List ℕ) (links : List LinkEntry) (lands : List ℕ) → KeepsAreas rs polygons0 names landmarks0 links → IsPermutation polygons0 polygons → IsPermutation landmarks0 landmarks → IsPermutation (map (λ l. l.land) links) lands → AreAreas rs polygons names landmarks links lands
 kept_areas rs polygons0 polygons names landmarks0 landmarks links lands keeps a b c = record {
+  entries = keeps.entries;
+  moved = keeps.moved;
   of_polygons = rw keeps.of_polygons at a;
   of_sides = keeps.of_sides;
   of_landmarks = rw keeps.of_landmarks at b;
   of_links = keeps.of_links;
   of_lands = rw keeps.of_links at c;
 }
+
+-- how many chains there are
+pub counts_told : (rs : List Record) (chains : List ChainEntry) (shapes : List ShapeSummary) (count segments : ℕ) (faults : List RecordFault) → HasChains rs chains shapes → count ≡ length chains → AreSegmentsTold rs segments faults → AreCountsTold rs count segments faults
+counts_told rs chains shapes count segments faults has long told =
+    let same : count ≡ chain_count rs = omega (arith, long, length_permutation (filter_map chain_at rs) chains has.of_chains, chains_long rs) in
+    record { segments_told = told; too_many = λ many. omega (arith, many, same); few = λ many. omega (arith, many, same) }
+
+-- of chains that have no fault none is told
+pub told_without_chains : (rs : List Record) → HaveNoChainFault rs → AreCountsTold rs 0 0 []
+told_without_chains rs free = record {
+  segments_told = record {
+    told = record { each = λ k d lt. absurd (omega arith); every = λ f holds among. absurd (never f holds among) };
+    too_many = λ many. absurd (omega (arith, many));
+    few = λ many. absurd (free.few_segments many);
+  };
+  too_many = λ many. absurd (omega (arith, many));
+  few = λ many. absurd (free.few_chains many);
+}
+  where
+    none : (n : ℕ) → 5 ≤ n → n ≤ 11 → ¬ Contains chain_codes n
+    none n low high (zero, lt, at) = omega (arith, low, high, at)
+    none n low high (suc zero, lt, at) = omega (arith, low, at)
+    none n low high (suc (suc zero), lt, at) = omega (arith, low, at)
+    none n low high (suc (suc (suc zero)), lt, at) = omega (arith, low, at)
+    none n low high (suc (suc (suc (suc zero))), lt, at) = omega (arith, low, at)
+    none n low high (suc (suc (suc (suc (suc k)))), lt, at) = omega arith
+
+    thirteen : ¬ Contains chain_codes 13
+    thirteen (zero, lt, at) = omega (arith, at)
+    thirteen (suc zero, lt, at) = omega (arith, at)
+    thirteen (suc (suc zero), lt, at) = omega (arith, at)
+    thirteen (suc (suc (suc zero)), lt, at) = omega (arith, at)
+    thirteen (suc (suc (suc (suc zero))), lt, at) = omega (arith, at)
+    thirteen (suc (suc (suc (suc (suc k)))), lt, at) = omega arith
+
+    never : (f : RecordFault) → IsTrueOf rs f → ¬ Contains chain_codes (fault_place f).0
+    never (DuplicateChain t) holds among = free.once t holds
+    never (ShapeWithoutChain t) holds among = free.no_stray t holds
+    never (ShapeSequence t) holds among = free.in_sequence t holds
+    never (ShapeGap t) holds among = free.no_gap t holds
+    never (DegenerateChain t) holds among = free.not_degenerate t holds
+    never (ChainWithoutSides t) holds among = none 5 (omega arith) (omega arith) among
+    never (SidesWithoutChain t) holds among = none 6 (omega arith) (omega arith) among
+    never (DuplicateSides t) holds among = none 7 (omega arith) (omega arith) among
+    never (DuplicatePolygon k) holds among = none 8 (omega arith) (omega arith) among
+    never (SideWithoutPolygon t k) holds among = none 9 (omega arith) (omega arith) among
+    never (LinkWithoutLandmark n) holds among = none 10 (omega arith) (omega arith) among
+    never (LinkWithoutPolygon k n) holds among = none 11 (omega arith) (omega arith) among
+    never (TooMany what) holds among = thirteen among

@@ -22,7 +22,7 @@ use Rattle.tl_list_records.specs.Keeping.Told.{Tells, AreTold}
 use Rattle.tl_list_records.specs.Keeping.Runs.{AreShapes, run_fault, IsRunFault, Precedes, AreInOrder, run_of, join, seen_in_run, count_up, in_sequence}
 use Rattle.tl_list_records.proofs.CountedLemmas.{count_yes, count_no, count-map, items_counted}
 use Rattle.tl_list_records.proofs.SequenceLemmas.{times, once_each, count_up_from_once}
-use Rattle.tl_list_records.proofs.TraceLemmas.{join_seen, seen_closed}
+use Rattle.tl_list_records.proofs.TraceLemmas.{join_seen}
 use Rattle.tl_list_records.specs.AllFaults.{fault_place}
 use Rattle.tl_list_records.proofs.ToldLemmas.{told_also, told_more}
 use Rattle.tl_list_records.proofs.OrderLemmas.{sequence_there, gap_there as gap_there_at}
@@ -167,7 +167,7 @@ seen_run rs shapes t are up =
 
 -- a TLID's shapes have the fault that its records have
 pub gap_run : (rs : List Record) (shapes : List ShapeSummary) (t : ℕ) → AreShapes rs shapes → in_sequence (run_of shapes t) ≡ true → (seen_in_run (run_of shapes t)).gap ≡ has_gap (pairs_of rs t)
-gap_run rs shapes t are up = ap (λ (s : Seen). s.gap) (seen_run rs shapes t are up ∙ seen_closed (pairs_of rs t))
+gap_run rs shapes t are up = ap (λ (s : Seen). s.gap) (seen_run rs shapes t are up)
 
 -- a TLID that isn't numbered has shapes
 shapes_there : (rs : List Record) (t : ℕ) → ¬ IsNumbered rs t → 1 ≤ shape_count rs t

@@ -1,5 +1,5 @@
 use Rattle.std.proofs.Common.{◌≡◌, ℕ, suc, ◌+◌, ◌-◌, ◌≤◌, Bool, true, false, cond, ◌&&◌, ◌||◌, inl, inr, Option, Some, None, List, [], ◌∷◌, ◌++◌, length, refl, sym, ap, ◌∙◌, arith}
-use Rattle.std.specs.Prelude.{fold, is_some, IfSome, min}
+use Rattle.std.specs.Prelude.{is_some, IfSome, min}
 use Rattle.std.proofs.lemmas.Bool.{cases_Bool}
 use Rattle.std.proofs.lemmas.List.Sums.{fold-append}
 use Rattle.tl_geom.specs.declared.point.Point.{Point}
@@ -8,14 +8,10 @@ use Rattle.tl_map_rules.specs.ChainsOf.{same_point, used, some_used, has_gap, po
 use Rattle.tl_map_rules.specs.declared.entry.ChainEntry.{ChainEntry}
 use Rattle.tl_list_records.specs.declared.shape.Trace.{Trace}
 use Rattle.tl_list_records.specs.declared.shape.Seen.{Seen}
-use Rattle.tl_list_records.specs.Shapes.{more_steps, traced, start, see, seen_in}
+use Rattle.tl_list_records.specs.Shapes.{more_steps, traced, traces, seen_in, seen_by, fill_of}
 use Rattle.tl_list_records.specs.Keeping.Runs.{join_traces, join, chain_steps}
 use Rattle.tl_map_rules.specs.Keeping.Pairs.{some_unused, dedup_after}
 use Rattle.tl_map_rules.proofs.PairLemmas.{used-append, some_unused-append, has_gap-append, dedup_from-is}
-
--- the trace with more points
-abbrev pub traces : Option Trace → List Point → Option Trace
-traces o ps = fold (λ (t : Option Trace) (p : Point). Some (traced t p)) o ps
 
 -- the last of points without repeats
 last_of : Point → List Point → Point
@@ -87,25 +83,6 @@ traces_join (Some a) (q ∷ qs) h =
       | inr other ↦ traces_is a (q ∷ qs) h ∙ ap Some (trace_is _ _ refl (last_other a.last q qs other) (steps_other a.steps _ _ (same_point q a.last) other (count_other a.last q qs other))) ∙ sym right
     ]
 
-used_from_gap : (xs : List (Option Point)) → has_gap xs ≡ true → some_used xs ≡ true
-used_from_gap [] h = absurd (let f : false ≡ true = h in cc)
-used_from_gap (None ∷ xs) h = h
-used_from_gap (Some p ∷ xs) h = refl
-
-gap_first : (g h u x : Bool) → (h ≡ true → u ≡ true) → ((g || h) || u) ≡ ((g || u) || (x && u))
-gap_first true h u x e = refl
-gap_first false true u x e = rw (e refl) refl
-gap_first false false true x e = refl
-gap_first false false false true e = refl
-gap_first false false false false e = refl
-
-gap_next : (g h u x : Bool) → (((g || x) || h) || (x && u)) ≡ ((g || h) || (x && true))
-gap_next true h u x = refl
-gap_next false true u true = refl
-gap_next false true u false = refl
-gap_next false false u true = refl
-gap_next false false u false = refl
-
 gap_turned : (a b c : Bool) → ((a || b) || c) ≡ ((a || c) || b)
 gap_turned true b c = refl
 gap_turned false true true = refl
@@ -113,27 +90,8 @@ gap_turned false true false = refl
 gap_turned false false true = refl
 gap_turned false false false = refl
 
-or_none : (g x : Bool) → g ≡ ((g || false) || (x && false))
-or_none true x = refl
-or_none false true = refl
-or_none false false = refl
-
-or_false : (g : Bool) → g ≡ (g || false)
-or_false true = refl
-or_false false = refl
-
-or_true : (g : Bool) → true ≡ (g || true)
-or_true true = refl
-or_true false = refl
-
 seen_is : (r s : Seen) → r.trace ≡ s.trace → r.gap ≡ s.gap → r.unused ≡ s.unused → r ≡ s
 seen_is r s t g u = λ i. record { trace = t i; gap = g i; unused = u i }
-
--- what is seen of pairs in closed form
-pub see_all : (s : Seen) (pairs : List (Option Point)) → fold see s pairs ≡ record { trace = traces s.trace (used pairs); gap = (s.gap || has_gap pairs) || (s.unused && some_used pairs); unused = s.unused || some_unused pairs }
-see_all s [] = seen_is s _ refl (or_none s.gap s.unused) (or_false s.unused)
-see_all s (None ∷ pairs) = see_all (see s None) pairs ∙ seen_is _ _ refl (gap_first s.gap (has_gap pairs) (some_used pairs) s.unused (used_from_gap pairs)) (or_true s.unused)
-see_all s (Some p ∷ pairs) = see_all (see s (Some p)) pairs ∙ seen_is _ _ refl (gap_next s.gap (has_gap pairs) (some_used pairs) s.unused) refl
 
 -- is a point used, told by the trace
 traced_some : (ps : List (Option Point)) → is_some (traces None (used ps)) ≡ some_used ps
@@ -141,8 +99,20 @@ traced_some [] = refl
 traced_some (None ∷ ps) = traced_some ps
 traced_some (Some p ∷ ps) = rw (traces_is (record { first = p; last = p; steps = 0 }) (used ps) (omega arith)) refl
 
-pub seen_closed : (pairs : List (Option Point)) → seen_in pairs ≡ record { trace = traces None (used pairs); gap = has_gap pairs; unused = some_unused pairs }
-seen_closed pairs = see_all start pairs ∙ seen_is _ _ refl (sym (or_false (has_gap pairs))) refl
+-- where a used pair comes after an unused one, one is unused
+unused_from_gap : (xs : List (Option Point)) → has_gap xs ≡ true → some_unused xs ≡ true
+unused_from_gap [] h = absurd (let f : false ≡ true = h in cc)
+unused_from_gap (None ∷ xs) h = refl
+unused_from_gap (Some p ∷ xs) h = unused_from_gap xs h
+
+-- what is seen of pairs is told by their used points and by how they are filled
+pub seen_filled : (pairs : List (Option Point)) → seen_by (used pairs) (fill_of pairs) ≡ seen_in pairs
+seen_filled pairs = go (has_gap pairs) (some_unused pairs) refl refl
+  where
+    go : (g u : Bool) → has_gap pairs ≡ g → some_unused pairs ≡ u → seen_by (used pairs) (fill_of pairs) ≡ seen_in pairs
+    go true u gap unused = rw (gap, unused_from_gap pairs gap) refl
+    go false true gap unused = rw (gap, unused) refl
+    go false false gap unused = rw (gap, unused) refl
 
 -- what is seen of pairs behind others
 pub join_seen : (ps qs : List (Option Point)) → join (seen_in ps) (seen_in qs) ≡ seen_in (ps ++ qs)
@@ -151,7 +121,7 @@ join_seen ps qs =
     sym (traces_join (traces None (used ps)) (used qs) (capped (used ps))) ∙ sym (fold-append (λ (t : Option Trace) (p : Point). Some (traced t p)) None (used ps) (used qs)) ∙ ap (traces None) (sym (used-append ps qs)) in
     let gap : ((has_gap ps || has_gap qs) || (some_unused ps && is_some (traces None (used qs)))) ≡ has_gap (ps ++ qs) =
     ap (λ b. (has_gap ps || has_gap qs) || (some_unused ps && b)) (traced_some qs) ∙ gap_turned (has_gap ps) (has_gap qs) (some_unused ps && some_used qs) ∙ sym (has_gap-append ps qs) in
-    (λ i. join (seen_closed ps i) (seen_closed qs i)) ∙ seen_is _ _ trace gap (sym (some_unused-append ps qs)) ∙ sym (seen_closed (ps ++ qs))
+    seen_is _ _ trace gap (sym (some_unused-append ps qs))
 
 abbrev steps_in : Option Trace → ℕ
 steps_in None = 0
@@ -165,4 +135,4 @@ steps_are c pairs =
     let joined : join_traces (Some f) (traces None (used pairs)) ≡ traces (Some f) (used pairs) = sym (traces_join (Some f) (used pairs) (omega arith)) in
     let all : Some (traced (join_traces (Some f) (traces None (used pairs))) c.to) ≡ Some (record { first = c.from; last = last_of c.from rest; steps = more_steps 0 (step_count c.from rest) }) =
     ap (λ t. Some (traced t c.to)) joined ∙ sym (fold-append (λ (t : Option Trace) (p : Point). Some (traced t p)) (Some f) (used pairs) (c.to ∷ [])) ∙ traces_is f rest (omega arith) in
-    ap (chain_steps c) (seen_closed pairs) ∙ ap steps_in all ∙ omega (arith, ap length (dedup_from-is c.from rest))
+    ap steps_in all ∙ omega (arith, ap length (dedup_from-is c.from rest))

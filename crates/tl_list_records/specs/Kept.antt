@@ -1,15 +1,17 @@
--- What is kept of each record, in file order.
-use Rattle.std.specs.Prelude.{◌≡◌, ℕ, Option, Some, None, List, [], ◌∷◌, ◌++◌, map}
+-- What is kept of records.
+use Rattle.std.specs.Prelude.{◌≡◌, ℕ, ◌==◌, Option, Some, None, List, [], ◌∷◌, ◌++◌, map, count_by}
 use Rattle.std.specs.List.{filter_map, flat_map}
+use Rattle.std.specs.List.Sorted.{IsPermutation}
 use Rattle.tl_record_key.specs.declared.key.PolyKey.{PolyKey}
 use Rattle.tl_record.specs.declared.record.Record.{Record}
 use Rattle.tl_record.specs.declared.record.Record.TheVariants.{Chain, Shape}
 use Rattle.tl_map_rules.specs.declared.entry.ChainEntry.{ChainEntry}
 use Rattle.tl_map_rules.specs.declared.entry.SidesEntry.{SidesEntry}
+use Rattle.tl_map_rules.specs.ChainsOf.{is_chain}
 use Rattle.tl_map_rules.specs.MapOf.{sides_in, polygons_in, landmarks_in, links_in, keys}
 use Rattle.tl_list_records.specs.declared.shape.ShapeSummary.{ShapeSummary}
-use Rattle.tl_list_records.specs.declared.collect.NamedSide.{NamedSide}
-use Rattle.tl_list_records.specs.declared.collect.KeptRecords.{KeptRecords}
+use Rattle.tl_list_records.specs.declared.kept.NamedSide.{NamedSide}
+use Rattle.tl_list_records.specs.declared.kept.KeptAreas.{KeptAreas}
 use Rattle.tl_list_records.specs.Shapes.{seen_in}
 
 -- what a type 1 record says
@@ -31,12 +33,21 @@ named t (Some k) = record { tlid = t; key = k } ∷ []
 abbrev pub names_of : SidesEntry → List NamedSide
 names_of s = named s.tlid s.left ++ named s.tlid s.right
 
--- the type 1 and type 2 records, and of the others the numbers and keys
-pub record KeepsRecords (rs : List Record) (k : KeptRecords) : Type 0 where
-  pub chains : k.chains.items ≡ filter_map chain_at rs
-  pub shapes : k.shapes.items ≡ filter_map shape_at rs
-  pub sides : k.sides.items ≡ map (λ s. s.tlid) (sides_in rs)
-  pub names : k.names.items ≡ flat_map names_of (sides_in rs)
+-- the type 1 and type 2 records, in any order
+pub record HasChains (rs : List Record) (chains : List ChainEntry) (shapes : List ShapeSummary) : Type 0 where
+  pub of_chains : IsPermutation (filter_map chain_at rs) chains
+  pub of_shapes : IsPermutation (filter_map shape_at rs) shapes
+
+-- the TLIDs of the type 1 records, in any order: each as often as one of them has it
+abbrev pub AreChainTlids : List Record → List ℕ → Type 0
+AreChainTlids rs tlids = (t : ℕ) → count_by (λ x. x == t) tlids ≡ count_by (is_chain t) rs
+
+-- of the records of the other types the numbers and keys; of the type I records in any order
+pub record HasAreas (rs : List Record) (k : KeptAreas) : Type 0 where
+  pub entries : List SidesEntry
+  pub moved : IsPermutation (sides_in rs) entries
+  pub sides : k.sides.items ≡ map (λ s. s.tlid) entries
+  pub names : k.names.items ≡ flat_map names_of entries
   pub polygons : k.polygons.items ≡ keys (polygons_in rs)
   pub landmarks : k.landmarks.items ≡ map (λ e. e.land) (landmarks_in rs)
   pub links : k.links.items ≡ links_in rs

@@ -1,19 +1,20 @@
-//! All faults of the kept records.
+//! All faults of records.
 
-ghost use Rattle.std.specs.Prelude.{◌≡◌, ℕ, List, [], IfOk, map};
+ghost use Rattle.std.specs.Prelude.{◌≡◌, ℕ, List, [], OnOk, IfOk, map};
 ghost use Rattle.std.specs.List.Sorted.{IsNonDecreasing, IsNonDecreasingBy};
 ghost use Rattle.tl_record.specs.declared.record.Record.{Record};
 ghost use Rattle.tl_map_rules.specs.declared.entry.ChainEntry.{ChainEntry};
+ghost use Rattle.tl_map_rules.specs.Faults.{HaveNoChainFault};
 ghost use Rattle.tl_list_records.specs.AllFaults.{AreAllFaults};
-ghost use Rattle.tl_list_records.specs.Kept.{KeepsRecords};
+ghost use Rattle.tl_list_records.specs.Kept.{HasChains, HasAreas, AreChainTlids};
 ghost use Rattle.tl_list_records.specs.Keeping.Told.{AreTold};
 ghost use Rattle.tl_list_records.specs.Keeping.Runs.{AreInOrder};
-ghost use Rattle.tl_list_records.specs.Keeping.Parts.{KeepsChains, AreSorted, AreChainCounts};
-ghost use Rattle.tl_list_records.specs.Keeping.Parts.{KeepsAreas, AreAreaCounts};
+ghost use Rattle.tl_list_records.specs.Keeping.Parts.{AreSegmentsTold, AreChainsListed, AreCountsTold};
+ghost use Rattle.tl_list_records.specs.Keeping.Parts.{KeepsAreas, AreAreaCounts, all_codes};
 
 use crate::areas::{lands_of_links, push_areas};
 use crate::chains::{count_segments, push_points};
-use crate::collect::{KeptRecords, NamedSide};
+use crate::kept::{KeptAreas, NamedSide};
 use crate::keys::sort_keys;
 use crate::limits::{RecordCounts, count_distinct, push_too_many};
 use crate::numbers::sort_numbers;
@@ -25,27 +26,31 @@ use std::alloc::{AllocError, Global};
 use tl_map_rules::{ChainEntry, LinkEntry, RecordFault};
 use tl_record::PolyKey;
 
-/// Tells what sorted lists of chains, shapes and sides tell, where no fault is told yet. Gives how many segments there
-/// are, and none where the chains are not joined.
+/// How many chains and segments records have. Of chains that are known to be few enough there are none.
+#[derive(Clone, Copy)]
+struct ChainCounts {
+    chains: usize,
+    segments: u64,
+}
+
+/// Tells what sorted lists of chains and shapes tell, where no fault is told yet. Gives how many segments there are, and none
+/// where the chains are not joined.
 fn push_sorted(
     faults: &mut Vec<RecordFault>,
     chains: &[ChainEntry],
     shapes: &[ShapeSummary],
-    sides: &[u64],
     chain_tlids: &[u64],
     shape_tlids: &[u64],
 ) -> Result<u64, AllocError>
     requires none { faults.old.items ≡ [] }
     requires chains { IsNonDecreasingBy (λ (c : ChainEntry). c.tlid) chains.now }
     requires shapes { AreInOrder shapes.now }
-    requires sides { IsNonDecreasing sides.now }
     requires chain_tlids { chain_tlids.now ≡ map (λ c. c.tlid) chains.now }
     requires shape_tlids { shape_tlids.now ≡ map (λ s. s.tlid) shapes.now }
-    ensures { (rs : List Record) → AreSorted rs chains.now shapes.now sides.now →
-        IfOk result (λ segments. AreChainCounts rs segments faults.new.items) }
+    ensures { (rs : List Record) → HasChains rs chains.now shapes.now →
+        IfOk result (λ segments. AreSegmentsTold rs segments faults.new.items) }
 {
     let joined = push_chains(faults, chain_tlids, shape_tlids, shapes)?;
-    push_sides(faults, chain_tlids, sides)?;
     push_points(faults, chains, shapes)?;
     // Of chains that are not joined the segments are not asked for.
     Ok(if joined {
@@ -55,24 +60,24 @@ fn push_sorted(
     })
 }
 
-/// The same with lists in any order.
+/// The same with lists in any order. Gives the sorted TLIDs of the chains, too.
 fn push_of_chains(
     alloc: Global,
     faults: &mut Vec<RecordFault>,
     mut chains: Vec<ChainEntry>,
     mut shapes: Vec<ShapeSummary>,
-    mut sides: Vec<u64>,
-) -> Result<u64, AllocError>
+) -> Result<(Vec<u64>, u64), AllocError>
     requires { faults.old.items ≡ [] }
-    ensures { (rs : List Record) → KeepsChains rs chains.items shapes.items sides.items →
-        IfOk result (λ segments. AreChainCounts rs segments faults.new.items) }
+    ensures ordered { IfOk result (λ told. IsNonDecreasing told.0.items) }
+    ensures told { (rs : List Record) → HasChains rs chains.items shapes.items →
+        IfOk result (λ told. AreChainsListed rs told.0.items told.1 faults.new.items) }
 {
     sort_chains(alloc, &mut chains)?;
     sort_shapes(alloc, &mut shapes)?;
-    sort_numbers(&mut sides);
-    let chain_tlids = tlids_of_chains(alloc, &chains)?;
+    let tlids = tlids_of_chains(alloc, &chains)?;
     let shape_tlids = tlids_of_shapes(alloc, &shapes)?;
-    push_sorted(faults, &chains, &shapes, &sides, &chain_tlids, &shape_tlids)
+    let segments = push_sorted(faults, &chains, &shapes, &tlids, &shape_tlids)?;
+    Ok((tlids, segments))
 }
 
 /// Tells what keys and LANDs tell. Gives how many landmarks there are.
@@ -94,31 +99,77 @@ fn push_of_areas(
     Ok(count_distinct(&mut landmarks))
 }
 
-/// All faults that are true of the records that were kept, by their codes and then by their numbers, none twice. An
-/// error says that memory was refused.
-pub fn all_record_faults(alloc: Global, kept: KeptRecords) -> Result<Vec<RecordFault>, AllocError>
-    ensures { (rs : List Record) → KeepsRecords rs kept → IfOk result (λ faults. AreAllFaults rs faults.items) }
+/// Tells all faults but those of chains and shapes, by the sorted TLIDs of the chains.
+fn push_behind_chains(
+    alloc: Global,
+    faults: &mut Vec<RecordFault>,
+    tlids: &[u64],
+    counts: ChainCounts,
+    kept: KeptAreas,
+) -> Result<(), AllocError>
+    requires { IsNonDecreasing tlids.now }
+    ensures { (rs : List Record) → AreChainTlids rs tlids.now → HasAreas rs kept →
+        AreCountsTold rs counts.chains counts.segments faults.old.items → OnOk result (AreTold rs all_codes faults.new.items) }
 {
-    let KeptRecords {
-        chains,
-        shapes,
-        sides,
+    let KeptAreas {
+        mut sides,
         names,
         polygons,
         landmarks,
         links,
     } = kept;
-    let mut faults = Vec::new(alloc);
-    let (chain_count, polygon_count) = (chains.len(), polygons.len());
-    let segments = push_of_chains(alloc, &mut faults, chains, shapes, sides)?;
-    let landmarks = push_of_areas(alloc, &mut faults, polygons, &names, landmarks, &links)?;
+    let polygon_count = polygons.len();
+    sort_numbers(&mut sides);
+    push_sides(faults, tlids, &sides)?;
+    let landmarks = push_of_areas(alloc, faults, polygons, &names, landmarks, &links)?;
     let counts = RecordCounts {
-        chains: chain_count,
-        segments,
+        chains: counts.chains,
+        segments: counts.segments,
         polygons: polygon_count,
         landmarks,
     };
-    push_too_many(&mut faults, counts)?;
+    push_too_many(faults, counts)
+}
+
+/// All faults that are true of the records whose chains and shapes these are, and whose others are kept, by their codes and then
+/// by their numbers, none twice. An error says that memory was refused.
+pub fn all_record_faults(
+    alloc: Global,
+    chains: Vec<ChainEntry>,
+    shapes: Vec<ShapeSummary>,
+    kept: KeptAreas,
+) -> Result<Vec<RecordFault>, AllocError>
+    ensures { (rs : List Record) → HasChains rs chains.items shapes.items → HasAreas rs kept →
+        IfOk result (λ faults. AreAllFaults rs faults.items) }
+{
+    let mut faults = Vec::new(alloc);
+    let count = chains.len();
+    let (tlids, segments) = push_of_chains(alloc, &mut faults, chains, shapes)?;
+    let counts = ChainCounts {
+        chains: count,
+        segments,
+    };
+    push_behind_chains(alloc, &mut faults, &tlids, counts, kept)?;
+    order_faults(&mut faults);
+    Ok(faults)
+}
+
+/// The same where the chains have no fault, by their TLIDs, which are sorted.
+pub fn faults_behind_chains(
+    alloc: Global,
+    tlids: &[u64],
+    kept: KeptAreas,
+) -> Result<Vec<RecordFault>, AllocError>
+    requires { IsNonDecreasing tlids.now }
+    ensures { (rs : List Record) → HaveNoChainFault rs → AreChainTlids rs tlids.now → HasAreas rs kept →
+        IfOk result (λ faults. AreAllFaults rs faults.items) }
+{
+    let mut faults = Vec::new(alloc);
+    let counts = ChainCounts {
+        chains: 0,
+        segments: 0,
+    };
+    push_behind_chains(alloc, &mut faults, tlids, counts, kept)?;
     order_faults(&mut faults);
     Ok(faults)
 }

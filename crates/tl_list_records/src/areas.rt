@@ -1,13 +1,13 @@
 //! Faults that polygons, sides, landmarks and links tell.
 
-ghost use Rattle.std.specs.Prelude.{◌≡◌, ℕ, List, OnOk, IfOk, map};
+ghost use Rattle.std.specs.Prelude.{ℕ, List, OnOk, IfOk, map};
 ghost use Rattle.std.specs.List.Sorted.{IsPermutation, IsNonDecreasing};
 ghost use Rattle.tl_record.specs.declared.record.Record.{Record};
 ghost use Rattle.tl_list_records.specs.Keeping.Told.{AreTold};
 ghost use Rattle.tl_list_records.specs.Keeping.Keys.{AreByKey};
 ghost use Rattle.tl_list_records.specs.Keeping.Areas.{AreAreas, with_areas};
 
-use crate::collect::NamedSide;
+use crate::kept::NamedSide;
 use crate::keys::{push_repeated_keys, push_unknown_links, push_unknown_sides};
 use crate::numbers::{Numbered, push_missing, sort_numbers};
 use std::alloc::{AllocError, Global};

@@ -8,7 +8,7 @@ ghost use Rattle.tl_list_records.specs.Keeping.Told.{Tells};
 ghost use Rattle.tl_list_records.specs.Keeping.Numbers.{StandsNext, IsMissing};
 ghost use Rattle.tl_list_records.specs.Keeping.Keys.{parts, AreByKey, side_fault, link_fault};
 
-use crate::collect::NamedSide;
+use crate::kept::NamedSide;
 use std::alloc::AllocError;
 use tl_map_rules::{LinkEntry, RecordFault};
 use tl_record::PolyKey;

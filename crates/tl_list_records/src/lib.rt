@@ -1,15 +1,15 @@
 //! Every fault of a county's records at once.
 //!
-//! `tl_map` reads records up to a fault and names that one. Here all are named that are true of the records, in the
-//! order of their codes and then of their numbers, none twice: [`all_record_faults`]. Records are kept as they come,
-//! in [`KeptRecords`], which has of each what tells faults, and no more. The lists of what is kept are sorted once,
-//! and gone through side by side; of what each tells the faults are put in order in the end.
+//! All are named that are true of the records, in the order of their codes and then of their numbers, none twice:
+//! [`all_record_faults`]. Where the chains are known to have no fault, [`faults_behind_chains`] names the others. Both take
+//! lists of what the records say: these are sorted once, and gone through side by side; of what each tells the faults are
+//! put in order in the end.
 #![tactic(auto)]
 
 mod all;
 mod areas;
 mod chains;
-mod collect;
+mod kept;
 mod keys;
 pub mod laws;
 mod limits;
@@ -20,5 +20,7 @@ mod runs;
 mod shape;
 mod tlids;
 
-pub use all::all_record_faults;
-pub use collect::KeptRecords;
+pub use all::{all_record_faults, faults_behind_chains};
+pub use kept::{KeptAreas, NamedSide};
+pub use shape::{ShapeSummary, summaries_of};
+pub use tlids::sort_chains;

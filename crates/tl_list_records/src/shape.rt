@@ -1,11 +1,12 @@
 //! What of a type 2 record tells faults.
 
-ghost use Rattle.std.specs.Prelude.{◌≡◌};
-ghost use Rattle.tl_list_records.specs.Shapes.{start, see, seen_in, traced};
+ghost use Rattle.std.specs.Prelude.{◌≡◌, IfOk, All, map};
+ghost use Rattle.tl_list_records.specs.Shapes.{seen_by, traced, IsInside, summary_in};
 
+use std::alloc::{AllocError, Global};
 use tl_geom::Point;
 use tl_map_county::{Keyed, Ranked};
-use tl_record::PAIRS;
+use tl_map_rules::{Fill, ShapeEntry};
 
 /// The used points of pairs: the first, the last, and how many differ from the one before.
 #[derive(Clone, Copy)]
@@ -59,33 +60,41 @@ pub const NOTHING_SEEN: Seen = Seen {
     unused: false,
 };
 
-/// What is seen of the pairs of a record.
-pub fn seen_of(pairs: &[Option<Point>; PAIRS]) -> Seen
-    ensures { result ≡ seen_in pairs.now }
+/// What is seen of the used points of pairs that are filled like this.
+fn seen_by(points: &[Point], fill: Fill) -> Seen
+    ensures { result ≡ seen_by points.now fill }
 {
-    let mut seen = NOTHING_SEEN;
-    for pair in pairs {
-        seen = with_pair(seen, *pair);
+    let mut trace = None;
+    for point in points {
+        trace = Some(with_point(trace, *point));
     }
-    seen
+    let (gap, unused) = match fill {
+        Fill::Full => (false, false),
+        Fill::Ended => (false, true),
+        Fill::Gap => (true, true),
+    };
+    Seen { trace, gap, unused }
 }
 
-/// What is seen with one more pair.
-fn with_pair(seen: Seen, pair: Option<Point>) -> Seen
-    ensures { result ≡ see seen pair }
+/// What of type 2 records tells faults, by the list of their used points.
+pub fn summaries_of(
+    alloc: Global,
+    shapes: &[ShapeEntry],
+    pool: &[Point],
+) -> Result<Vec<ShapeSummary>, AllocError>
+    requires { All (IsInside pool.now) shapes.now }
+    ensures { IfOk result (λ made. made.items ≡ map (summary_in pool.now) shapes.now) }
 {
-    match pair {
-        None => Seen {
-            trace: seen.trace,
-            gap: seen.gap,
-            unused: true,
-        },
-        Some(point) => Seen {
-            trace: Some(with_point(seen.trace, point)),
-            gap: seen.gap || seen.unused,
-            unused: seen.unused,
-        },
+    let mut made = Vec::with_capacity(alloc, shapes.len())?;
+    for shape in shapes {
+        let points = &pool[shape.first..shape.first + usize::from(shape.used)];
+        made.push(ShapeSummary {
+            tlid: shape.tlid,
+            seen: seen_by(points, shape.fill),
+            rtsq: shape.rtsq,
+        })?;
     }
+    Ok(made)
 }
 
 /// The used points with one more.

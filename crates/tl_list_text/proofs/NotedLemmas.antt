@@ -9,17 +9,17 @@ use Rattle.tl_list_text.specs.declared.noted.Beside.{Beside}
 use Rattle.tl_list_text.specs.declared.noted.Row.{Row}
 use Rattle.tl_list_text.specs.declared.noted.ShortRecord.{ShortRecord}
 use Rattle.tl_list_text.specs.declared.noted.ShortRecord.TheVariants as short
-use Rattle.tl_list_text.specs.Noted.{record_in, sides_with, IsHeld, GoesOn, Grows, entry_in, IsRow, without_keys, without_cells}
+use Rattle.tl_list_text.specs.Noted.{record_in, sides_with, IsHeld, Extends, Grows, entry_in, IsRow, without_keys, without_cells}
 
 -- ---- what stood there stays
 
-at_still : {A : Type 0} (old new : List A) (i : ℕ) (d : A) → GoesOn old new → i < length old → get_or new i d ≡ get_or old i d
+at_still : {A : Type 0} (old new : List A) (i : ℕ) (d : A) → Extends old new → i < length old → get_or new i d ≡ get_or old i d
 at_still old new i d more within = ap (λ l. get_or l i d) more.1 ∙ get_or_append_left old more.0 d i within
 
-within_still : {A : Type 0} (old new : List A) (i : ℕ) → GoesOn old new → i ≤ length old → i ≤ length new
+within_still : {A : Type 0} (old new : List A) (i : ℕ) → Extends old new → i ≤ length old → i ≤ length new
 within_still old new i more within = omega (arith, within, ap length more.1, length-append old more.0)
 
-part_still : {A : Type 0} (old new : List A) (first used : ℕ) → GoesOn old new → first + used ≤ length old → take used (drop first new) ≡ take used (drop first old)
+part_still : {A : Type 0} (old new : List A) (first used : ℕ) → Extends old new → first + used ≤ length old → take used (drop first new) ≡ take used (drop first old)
 part_still old new first used more within =
     ap (λ l. take used (drop first l)) more.1 ∙ ap (take used) (drop-append-le first old more.0 (omega (arith, within)))
     ∙ take-append-le used (drop first old) more.0 (omega (arith, within, length-drop first old))

@@ -59,14 +59,14 @@ IsHeld beside (short.Landmark land point) = ⊤
 IsHeld beside (short.AreaLink key land) = ⊤
 
 -- a list goes on behind what it was
-abbrev pub GoesOn : {A : Type 0} → (old new : List A) → Type 0
-GoesOn {A} old new = (more : List A) × (new ≡ old ++ more)
+abbrev pub Extends : {A : Type 0} → (old new : List A) → Type 0
+Extends {A} old new = (more : List A) × (new ≡ old ++ more)
 
 -- more may stand beside the rows, behind what stood there
 pub record Grows (old new : Beside) : Type 0 where
-  pub pairs : GoesOn old.pairs.items new.pairs.items
-  pub keys : GoesOn old.keys.items new.keys.items
-  pub cells : GoesOn old.cells.items new.cells.items
+  pub pairs : Extends old.pairs.items new.pairs.items
+  pub keys : Extends old.keys.items new.keys.items
+  pub cells : Extends old.cells.items new.cells.items
 
 -- the record of a row, with its line's number
 abbrev pub entry_in : Beside → Row → ℕ × Record

@@ -17,7 +17,8 @@ use Rattle.tl_map_rules.specs.ChainsOf.{is_chain, shape_count, pairs_up_to, pair
 use Rattle.tl_map_county.specs.Chains.{CompleteChain, ChainList, tlids, segment_count, IsProper}
 use Rattle.tl_map_rules.specs.Faults.{IsStray, IsDegenerate, AreJoined, HaveNoChainFault, IsFaultOfChains}
 use Rattle.tl_map_rules.specs.Reading.{IfFault}
-use Rattle.tl_map.specs.Keeping.Entries.{by_chain, AreChainEntries, entry_points, AreShapeEntries, chains_with, AreRising, has_tlid, shapes_with, ArePlaced, joined}
+use Rattle.tl_list_records.specs.Shapes.{entry_points}
+use Rattle.tl_map.specs.Keeping.Entries.{by_chain, AreChainEntries, AreShapeEntries, chains_with, AreRising, has_tlid, shapes_with, ArePlaced, joined}
 use Rattle.tl_map.specs.Keeping.Rows.{AreJoinedBy, StopsJoin}
 use Rattle.tl_map.specs.Keeping.Built.{AreSound, AreBuilt, StopsBuilding}
 use Rattle.tl_map_rules.proofs.CountLemmas.{none_counted, one_counted, sum_by-same, rising_keys_from_pairs}

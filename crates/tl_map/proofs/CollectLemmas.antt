@@ -1,21 +1,28 @@
-use Rattle.std.proofs.Common.{◌≡◌, ℕ, ◌+◌, ◌<◌, ◌≤◌, Bool, true, false, cond, ◌&&◌, ◌||◌, Option, Some, None, List, [], ◌∷◌, ◌++◌, length, take, drop, get_or, sum_by, Contains, refl, sym, ap, ◌∙◌, arith}
+use Rattle.std.proofs.Common.{◌≡◌, ℕ, zero, suc, ◌+◌, ◌<◌, ◌≤◌, Bool, true, false, cond, ◌&&◌, ◌||◌, Option, Some, None, List, [], ◌∷◌, ◌++◌, length, take, drop, get_or, sum_by, map, All, Contains, refl, sym, ap, ◌∙◌, arith}
+use Rattle.std.specs.List.{filter_map}
 use Rattle.std.specs.List.Sorted.{IsPermutation}
-use Rattle.std.proofs.lemmas.List.{append-nil, append_assoc, take_more, drop-append-le, take-append-le, drop_at, take_all, length-append, length-drop}
-use Rattle.std.proofs.lemmas.List.Elements.{All-push, All-weaker, Contains-append_left, Contains-push}
-use Rattle.std.proofs.lemmas.List.Sorted.{sum_by-IsPermutation, All-permutation}
+use Rattle.std.proofs.lemmas.List.{append-nil, append_assoc, map-append, take_more, drop-append-le, take-append-le, drop_at, take_all, length-append, length-drop}
+use Rattle.std.proofs.lemmas.List.Elements.{All-push, All-weaker, Contains-append_left, Contains-push, filter_map-append}
+use Rattle.std.proofs.lemmas.List.Sorted.{sum_by-IsPermutation, All-permutation, IsPermutation-map, IsPermutation-refl}
 use Rattle.std.proofs.lemmas.List.Sums.{sum_by_push, sum_by-cons}
 use Rattle.tl_geom.specs.declared.point.Point.{Point}
 use Rattle.tl_record.specs.declared.record.Record.{Record}
-use Rattle.tl_record.specs.declared.record.Record.TheVariants.{Chain, Shape}
+use Rattle.tl_record.specs.declared.record.Record.TheVariants.{Chain, Shape, Sides, PolyPoint, Landmark, AreaLink}
+use Rattle.tl_map_rules.specs.declared.fault.MapStop.{MapStop}
+use Rattle.tl_map_rules.specs.declared.fault.MapStop.TheVariants.{Refused, Device, Memory, Fault, NoRecords}
+use Rattle.tl_map_rules.specs.Reading.{IfFault}
 use Rattle.tl_map.specs.declared.collect.Collected.{Collected}
-use Rattle.tl_map.specs.Keeping.Collected.{Collects}
+use Rattle.tl_map.specs.Keeping.Collected.{Collects, LeavesChains}
+use Rattle.tl_list_records.specs.Kept.{chain_at, shape_at}
+use Rattle.tl_list_records.proofs.TraceLemmas.{seen_filled}
 use Rattle.tl_map_rules.specs.declared.entry.ChainEntry.{ChainEntry}
 use Rattle.tl_map_rules.specs.declared.entry.ShapeEntry.{ShapeEntry}
-use Rattle.std.specs.Prelude.{if◌then◌else◌}
+use Rattle.std.specs.Prelude.{if◌then◌else◌, Result, Ok, Err, OnOk, IfErr}
 use Rattle.tl_map_rules.specs.declared.entry.Fill.{Fill}
 use Rattle.tl_map_rules.specs.declared.entry.Fill.TheVariants.{Full, Ended, Gap}
 use Rattle.tl_map_rules.specs.ChainsOf.{is_any_chain, chain_count, used, has_gap}
-use Rattle.tl_map.specs.Keeping.Entries.{fill_of, by_chain, by_shape, AreChainEntries, IsShapeEntry, AreShapeEntries}
+use Rattle.tl_list_records.specs.Shapes.{fill_of, seen_in, seen_by, entry_points, IsInside, summary_in}
+use Rattle.tl_map.specs.Keeping.Entries.{by_chain, by_shape, AreChainEntries, IsShapeEntry, AreShapeEntries}
 use Rattle.tl_map_rules.proofs.CountLemmas.{sum_by-same}
 use Rattle.tl_map_rules.specs.Keeping.Pairs.{some_unused}
 use Rattle.tl_map_rules.proofs.PairLemmas.{used-append, some_unused-append, has_gap-append}
@@ -94,31 +101,38 @@ chain_count_is rs entries h = sum_by-same _ _ same rs ∙ sym (h.sums (λ t from
     same (Shape u k pairs) = refl
     same other = refl
 
--- one chain more is counted
-pub chain_count-chain : (rs : List Record) (t : ℕ) (from to : Point) → chain_count (rs ++ Chain t from to ∷ []) ≡ chain_count rs + 1
-chain_count-chain rs t from to = sum_by_push (λ r. cond (is_any_chain r) 1 0) rs (Chain t from to)
+-- a record before others
+record_before : (rs : List Record) (r : Record) (entries : List ChainEntry) → AreChainEntries rs entries → All (λ (c : ChainEntry). Contains (r ∷ rs) (Chain c.tlid c.from c.to)) entries
+record_before rs r entries h = All-weaker (λ (c : ChainEntry). Contains rs (Chain c.tlid c.from c.to)) (λ (c : ChainEntry). Contains (r ∷ rs) (Chain c.tlid c.from c.to)) (λ c found. (suc found.0, omega (arith, found.1), found.2)) entries h.each
 
-pub chain_count-shape : (rs : List Record) (t n : ℕ) (pairs : List (Option Point)) → chain_count (rs ++ Shape t n pairs ∷ []) ≡ chain_count rs
-chain_count-shape rs t n pairs = let more = sum_by_push (λ r. cond (is_any_chain r) 1 0) rs (Shape t n pairs) in omega (arith, more)
+-- the type 1 records stand for themselves
+pub chain_entries : (rs : List Record) → AreChainEntries rs (filter_map chain_at rs)
+chain_entries [] = record { sums = λ f. refl; each = λ k d lt. absurd (omega arith) }
+chain_entries (r ∷ rs) = go r (chain_entries rs)
+  where
+    other : (r : Record) → ((f : ℕ → Point → Point → ℕ) → by_chain f r ≡ 0) → AreChainEntries rs (filter_map chain_at rs) → AreChainEntries (r ∷ rs) (filter_map chain_at rs)
+    other r none rest = record {
+      sums = λ f. let right = sum_by-cons (by_chain f) r rs in omega (arith, right, none f, rest.sums f);
+      each = record_before rs r (filter_map chain_at rs) rest;
+    }
 
--- a type 1 record more, kept
-pub AreChainEntries-push : (rs : List Record) (entries : List ChainEntry) (t : ℕ) (from to : Point) → AreChainEntries rs entries → AreChainEntries (rs ++ Chain t from to ∷ []) (entries ++ record { tlid = t; from = from; to = to } ∷ [])
-AreChainEntries-push rs entries t from to h = record {
-  sums = λ f.
-      let left = sum_by_push (λ (c : ChainEntry). f c.tlid c.from c.to) entries (record { tlid = t; from = from; to = to }) in
-      let right = sum_by_push (by_chain f) rs (Chain t from to) in
-      omega (arith, left, right, h.sums f);
-  each = All-push (λ (c : ChainEntry). Contains (rs ++ Chain t from to ∷ []) (Chain c.tlid c.from c.to)) entries (record { tlid = t; from = from; to = to })
-      (All-weaker (λ (c : ChainEntry). Contains rs (Chain c.tlid c.from c.to)) _ (λ c found. Contains-append_left rs (Chain t from to ∷ []) (Chain c.tlid c.from c.to) found) entries h.each)
-      (Contains-push rs (Chain t from to));
-}
-
--- a type 2 record more has no chain entry
-pub AreChainEntries-shape : (rs : List Record) (entries : List ChainEntry) (t n : ℕ) (pairs : List (Option Point)) → AreChainEntries rs entries → AreChainEntries (rs ++ Shape t n pairs ∷ []) entries
-AreChainEntries-shape rs entries t n pairs h = record {
-  sums = λ f. let right = sum_by_push (by_chain f) rs (Shape t n pairs) in omega (arith, right, h.sums f);
-  each = All-weaker (λ (c : ChainEntry). Contains rs (Chain c.tlid c.from c.to)) (λ (c : ChainEntry). Contains (rs ++ Shape t n pairs ∷ []) (Chain c.tlid c.from c.to)) (λ c found. Contains-append_left rs (Shape t n pairs ∷ []) (Chain c.tlid c.from c.to) found) entries h.each;
-}
+    go : (r : Record) → AreChainEntries rs (filter_map chain_at rs) → AreChainEntries (r ∷ rs) (filter_map chain_at (r ∷ rs))
+    go (Chain t from to) rest = record {
+      sums = λ f.
+          let left = sum_by-cons (λ (c : ChainEntry). f c.tlid c.from c.to) (record { tlid = t; from = from; to = to }) (filter_map chain_at rs) in
+          let right = sum_by-cons (by_chain f) (Chain t from to) rs in
+          omega (arith, left, right, rest.sums f);
+      each = all (record_before rs (Chain t from to) (filter_map chain_at rs) rest);
+    }
+      where
+        all : All (λ (c : ChainEntry). Contains (Chain t from to ∷ rs) (Chain c.tlid c.from c.to)) (filter_map chain_at rs) → All (λ (c : ChainEntry). Contains (Chain t from to ∷ rs) (Chain c.tlid c.from c.to)) (filter_map chain_at (Chain t from to ∷ rs))
+        all later zero d lt = (0, omega arith, refl)
+        all later (suc k) d lt = later k d (omega arith)
+    go (Shape t n pairs) rest = other (Shape t n pairs) (λ f. refl) rest
+    go (Sides t s e l r) rest = other (Sides t s e l r) (λ f. refl) rest
+    go (PolyPoint k p) rest = other (PolyPoint k p) (λ f. refl) rest
+    go (Landmark n p) rest = other (Landmark n p) (λ f. refl) rest
+    go (AreaLink k n) rest = other (AreaLink k n) (λ f. refl) rest
 
 -- a record of another type has no entry
 abbrev pub IsOther : Record → Type 0
@@ -126,28 +140,17 @@ IsOther (Chain t from to) = ⊥
 IsOther (Shape t n pairs) = ⊥
 IsOther other = Unit {0}
 
-none_by_chain : (f : ℕ → Point → Point → ℕ) (r : Record) → IsOther r → by_chain f r ≡ 0
-none_by_chain f (Chain t from to) other = absurd other
-none_by_chain f r other = refl
-
 none_by_shape : (f : ℕ → ℕ → ℕ) (r : Record) → IsOther r → by_shape f r ≡ 0
 none_by_shape f (Shape t n pairs) other = absurd other
 none_by_shape f r other = refl
 
-no_chain : (r : Record) → IsOther r → is_any_chain r ≡ false
-no_chain (Chain t from to) other = absurd other
-no_chain r other = refl
-
-pub chain_count-other : (rs : List Record) (r : Record) → IsOther r → chain_count (rs ++ r ∷ []) ≡ chain_count rs
-chain_count-other rs r other =
-    let more : chain_count (rs ++ r ∷ []) ≡ chain_count rs + cond {A = ℕ} (is_any_chain r) 1 0 = sum_by_push (λ r. cond (is_any_chain r) 1 0) rs r in
-    more ∙ rw (no_chain r other) (omega arith)
-
-pub AreChainEntries-other : (rs : List Record) (entries : List ChainEntry) (r : Record) → IsOther r → AreChainEntries rs entries → AreChainEntries (rs ++ r ∷ []) entries
-AreChainEntries-other rs entries r other h = record {
-  sums = λ f. let right = sum_by_push (by_chain f) rs r in let none = none_by_chain f r other in omega (arith, right, none, h.sums f);
-  each = All-weaker (λ (c : ChainEntry). Contains rs (Chain c.tlid c.from c.to)) (λ (c : ChainEntry). Contains (rs ++ r ∷ []) (Chain c.tlid c.from c.to)) (λ c found. Contains-append_left rs (r ∷ []) (Chain c.tlid c.from c.to) found) entries h.each;
-}
+none_kept : (r : Record) → IsOther r → (filter_map chain_at (r ∷ []) ≡ []) × (filter_map shape_at (r ∷ []) ≡ [])
+none_kept (Chain t from to) other = absurd other
+none_kept (Shape t n pairs) other = absurd other
+none_kept (Sides t s e l r) other = (refl, refl)
+none_kept (PolyPoint k p) other = (refl, refl)
+none_kept (Landmark n p) other = (refl, refl)
+none_kept (AreaLink k n) other = (refl, refl)
 
 -- an entry stands for its record among more records and points
 IsShapeEntry-append : (rs more : List Record) (pool points : List Point) (s : ShapeEntry) → IsShapeEntry rs pool s → IsShapeEntry (rs ++ more) (pool ++ points) s
@@ -200,22 +203,78 @@ AreChainEntries-permutation rs xs ys moved h = record {
   each = All-permutation (λ (c : ChainEntry). Contains rs (Chain c.tlid c.from c.to)) xs ys moved h.each;
 }
 
+-- the type 1 records stand for themselves in any order
+pub sorted_entries : (rs : List Record) (old new : List ChainEntry) → old ≡ filter_map chain_at rs → IsPermutation old new → AreChainEntries rs new
+sorted_entries rs old new is moved = AreChainEntries-permutation rs old new moved (rw is (chain_entries rs))
+
 pub AreShapeEntries-permutation : (rs : List Record) (pool : List Point) (xs ys : List ShapeEntry) → IsPermutation xs ys → AreShapeEntries rs pool xs → AreShapeEntries rs pool ys
 AreShapeEntries-permutation rs pool xs ys moved h = record {
   sums = λ f. sum_by-IsPermutation (λ (s : ShapeEntry). f s.tlid s.rtsq) xs ys moved ∙ h.sums f;
   each = All-permutation (IsShapeEntry rs pool) xs ys moved h.each;
 }
 
--- past the limit, one more chain is past it too
-pub many_more : (rs : List Record) (entries : List ChainEntry) (too_many : Bool) (limit t : ℕ) (from to : Point) → (too_many ≡ false → AreChainEntries rs entries) → (too_many ≡ true → limit < chain_count rs) → limit ≤ length entries → limit < chain_count (rs ++ Chain t from to ∷ [])
-many_more rs entries true limit t from to kept many full = omega (arith, many refl, chain_count-chain rs t from to)
-many_more rs entries false limit t from to kept many full = omega (arith, chain_count_is rs entries (kept refl), chain_count-chain rs t from to)
+-- what is kept of entries doesn't hang on the points behind theirs
+summaries_same : (old more : List Point) (entries : List ShapeEntry) → All (IsInside old) entries → map (summary_in (old ++ more)) entries ≡ map (summary_in old) entries
+summaries_same old more [] inside = refl
+summaries_same old more (s ∷ entries) inside =
+    let within : IsInside old s = inside 0 s (omega arith) in
+    let points : entry_points (old ++ more) s ≡ entry_points old s = ap (take s.used) (drop-append-le s.first old more (omega (arith, within))) ∙ take-append-le s.used (drop s.first old) more (omega (arith, within, length-drop s.first old)) in
+    let rest = summaries_same old more entries (λ k d lt. inside (suc k) d (omega arith)) in
+    λ i. record { tlid = s.tlid; seen = seen_by (points i) s.fill; rtsq = s.rtsq } ∷ rest i
+
+-- what is kept of one entry more
+pub summaries_push : (old pool : List Point) (entries : List ShapeEntry) (t n first count : ℕ) (fill : Fill) (pairs : List (Option Point)) → pool ≡ old ++ used pairs → first ≡ length old → count ≡ length (used pairs) → fill ≡ fill_of pairs → All (IsInside old) entries → map (summary_in pool) (entries ++ record { tlid = t; first = first; rtsq = n; used = count; fill = fill } ∷ []) ≡ map (summary_in old) entries ++ filter_map shape_at (Shape t n pairs ∷ [])
+summaries_push old pool entries t n first count fill pairs is at many filled inside =
+    let e : ShapeEntry = record { tlid = t; first = first; rtsq = n; used = count; fill = fill } in
+    let points : entry_points (old ++ used pairs) e ≡ used pairs = ap (take count) (drop_at old (used pairs) first (sym at)) ∙ take_all count (used pairs) (omega (arith, many)) in
+    let seen : seen_by (entry_points (old ++ used pairs) e) fill ≡ seen_in pairs = (λ i. seen_by (points i) (filled i)) ∙ seen_filled pairs in
+    rw is (map-append (summary_in (old ++ used pairs)) entries (e ∷ []) ∙ (λ i. summaries_same old (used pairs) entries inside i ++ record { tlid = t; seen = seen i; rtsq = n } ∷ []))
+
+-- one record more is kept
+pub collects_more : (rs : List Record) (r : Record) (c new : Collected) → Collects rs c → new.chains.items ≡ c.chains.items ++ filter_map chain_at (r ∷ []) → AreShapeEntries (rs ++ r ∷ []) new.pool.items new.shapes.items → map (summary_in new.pool.items) new.shapes.items ≡ map (summary_in c.pool.items) c.shapes.items ++ filter_map shape_at (r ∷ []) → Collects (rs ++ r ∷ []) new
+collects_more rs r c new h chains shapes summaries = record {
+  chains = chains ∙ ap (λ xs. xs ++ filter_map chain_at (r ∷ [])) h.chains ∙ sym (filter_map-append chain_at rs (r ∷ []));
+  shapes = shapes;
+  summaries = summaries ∙ ap (λ xs. xs ++ filter_map shape_at (r ∷ [])) h.summaries ∙ sym (filter_map-append shape_at rs (r ∷ []));
+}
+
+-- both hold of what is made
+pub both_made : {T E P Q R : Type 0} (r : Result T E) → (P → Q → R) → OnOk r P → OnOk r Q → OnOk r R
+both_made (Ok x) f p q = f p q
+both_made (Err e) f p q = tt
+
+-- nothing more
+pub same : {X : Type 0} (xs : List X) → xs ≡ xs ++ []
+same xs = sym (append-nil xs)
 
 -- a record of another type more changes nothing
 pub Collects-other : (rs : List Record) (r : Record) (c : Collected) → IsOther r → Collects rs c → Collects (rs ++ r ∷ []) c
-Collects-other rs r c other h = record {
-  chains = λ e. AreChainEntries-other rs c.chains.items r other (h.chains e);
-  many = λ e. omega (arith, h.many e, chain_count-other rs r other);
-  room = h.room;
-  shapes = AreShapeEntries-other rs c.pool.items c.shapes.items r other h.shapes;
+Collects-other rs r c other h =
+    let none = none_kept r other in
+    collects_more rs r c c h (rw none.0 (same c.chains.items)) (AreShapeEntries-other rs c.pool.items c.shapes.items r other h.shapes) (rw none.1 (same (map (summary_in c.pool.items) c.shapes.items)))
+
+-- entries lie within the list of points
+pub all_inside : (rs : List Record) (pool : List Point) (entries : List ShapeEntry) → AreShapeEntries rs pool entries → All (IsInside pool) entries
+all_inside rs pool entries h = All-weaker (IsShapeEntry rs pool) (IsInside pool) (λ s entry. entry.inside) entries h.each
+
+-- what is kept tells all faults, in any order
+pub leaves_moved : (rs : List Record) (old new : Collected) → Collects rs old → IsPermutation old.chains.items new.chains.items → IsPermutation old.shapes.items new.shapes.items → new.pool.items ≡ old.pool.items → LeavesChains rs new
+leaves_moved rs old new h chains shapes pool = record {
+  chains = record {
+    of_chains = rw h.chains at chains;
+    of_shapes = rw (pool, ← h.summaries) (IsPermutation-map (summary_in old.pool.items) old.shapes.items new.shapes.items shapes);
+  };
+  inside = rw pool (All-permutation (IsInside old.pool.items) old.shapes.items new.shapes.items shapes (all_inside rs old.pool.items old.shapes.items h.shapes));
 }
+
+pub leaves_all : (rs : List Record) (c : Collected) → Collects rs c → LeavesChains rs c
+leaves_all rs c h = leaves_moved rs c c h (IsPermutation-refl c.chains.items) (IsPermutation-refl c.shapes.items) refl
+
+-- it is left where a fault is why there are no chains
+pub where_left : {T P : Type 0} (r : Result T MapStop) → P → IfErr r (IfFault (λ fault. P))
+where_left (Ok made) p = tt
+where_left (Err Device) p = tt
+where_left (Err Memory) p = tt
+where_left (Err (Refused line cause)) p = tt
+where_left (Err (Fault fault)) p = p
+where_left (Err (NoRecords lacking)) p = tt

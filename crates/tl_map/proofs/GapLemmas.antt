@@ -10,7 +10,8 @@ use Rattle.tl_map_rules.specs.declared.entry.ShapeEntry.{ShapeEntry}
 use Rattle.tl_map_rules.specs.declared.entry.Fill.TheVariants.{Full, Ended, Gap}
 use Rattle.tl_map_rules.specs.ChainsOf.{is_shape, is_shape_at, shape_count, pairs_at, pairs_up_to, pairs_of, used, some_used, has_gap}
 use Rattle.tl_map_rules.specs.Faults.{IsNumbered}
-use Rattle.tl_map.specs.Keeping.Entries.{fill_of, by_shape, entry_points, IsInside, IsShapeEntry, AreShapeEntries, has_tlid, shapes_with, shapes_at, AreInOrder, ArePlaced, AreNumbered, late_by, late_after, ended_by, ended_after}
+use Rattle.tl_list_records.specs.Shapes.{fill_of, entry_points, IsInside}
+use Rattle.tl_map.specs.Keeping.Entries.{by_shape, IsShapeEntry, AreShapeEntries, has_tlid, shapes_with, shapes_at, AreInOrder, ArePlaced, AreNumbered, late_by, late_after, ended_by, ended_after}
 use Rattle.tl_map_rules.proofs.CountLemmas.{sum_by-same, one_counted}
 use Rattle.tl_map.proofs.SequenceLemmas.{numbered_from_placed, count_more, none_before}
 use Rattle.tl_map_rules.specs.Keeping.Pairs.{some_unused}

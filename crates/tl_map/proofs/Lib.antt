@@ -21,3 +21,4 @@ pub mod OnceLemmas
 pub mod KeptLemmas
 pub mod ReadLemmas
 pub mod JoinedLemmas
+pub mod LeftLemmas

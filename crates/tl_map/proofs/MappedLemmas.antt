@@ -1,9 +1,5 @@
-use Rattle.std.proofs.Common.{◌≡◌, ℕ, zero, suc, ◌+◌, ◌<◌, ◌≤◌, Bool, true, false, cond, eqb, inl, inr, Option, Result, Ok, Err, List, [], ◌∷◌, length, drop, map, get_or, count_by, All, Contains, refl, ap, ◌∙◌, arith}
-use Rattle.std.specs.Prelude.{Any, MatchResult}
-use Rattle.std.specs.declared.hash.RandomState.{RandomState}
-use Rattle.indexmap.specs.IndexMap.{IndexMap, keys as index_keys_of}
-use Rattle.tl_geom.specs.declared.point.Point.{Point}
-use Rattle.tl_map_county.specs.TheMap.{TheMap}
+use Rattle.std.proofs.Common.{◌≡◌, ℕ, zero, suc, ◌+◌, ◌<◌, ◌≤◌, Bool, true, false, cond, eqb, inl, inr, Option, List, [], ◌∷◌, length, drop, map, get_or, count_by, All, Contains, refl, ap, ◌∙◌, arith}
+use Rattle.std.specs.Prelude.{Any}
 use Rattle.std.proofs.lemmas.Bool.{ne_eqb, eqb-true}
 use Rattle.std.proofs.lemmas.List.{get_or_default, length-map, get_or-map}
 use Rattle.std.proofs.lemmas.List.Sums.{sum_by-cons}
@@ -29,13 +25,12 @@ use Rattle.tl_map.specs.Keeping.Areas.{KeepsAreas}
 use Rattle.tl_map.specs.Keeping.Built.{AreBuilt, StopsBuilding}
 use Rattle.tl_map.specs.Keeping.Index.{Numbers, StopsIndex}
 use Rattle.tl_map.specs.Keeping.Sided.{sided_by, NamesKnown, sides_tlids, ArePaired, StopsPairing, StopsSides}
-use Rattle.tl_map_county.specs.Rows.{landmarks_in as rows_in, sided, polygon_in}
+use Rattle.tl_map_county.specs.Rows.{landmarks_in as rows_in, sided}
 use Rattle.tl_map.specs.Keeping.Landmarks.{landmark_from, AreLinked, StopsLinking}
-use Rattle.tl_map.specs.Keeping.Mapped.{AreMapped, ArePairedChains, AreIndexedSides, StopsIndexedSides, IsLinkedMap}
+use Rattle.tl_map.specs.Keeping.Mapped.{AreMapped, AreLinkedAreas}
 use Rattle.tl_map_rules.proofs.CountLemmas.{none_counted}
 use Rattle.tl_map_rules.proofs.KnownLemmas.{far, chain_known}
 use Rattle.tl_map_county.proofs.RowLemmas.{length-landmarks_in}
-use Rattle.tl_map.proofs.IndexLemmas.{keys_are, index_keys, polygons_entries}
 
 chain_there : (rs : List Record) (chains : List CompleteChain) (t : ℕ) → AreChainsOf rs chains → HasChain rs t → Contains (tlids chains) t
 chain_there rs chains t are has = are.complete t has.0 has.1 has.2
@@ -146,13 +141,6 @@ stops_sides rs polygons ts old new stop is same paired why = elim why [
       rw side.2 ((there.0, any.1, there.1, there.2, any.4), λ has. side.4 (rw is has))
 ]
 
--- why polygons aren't indexed with the sides is true of the records
-pub stops_indexed : (rs : List Record) (skipped : ℕ) (chains : ChainList) (polygons : List Polygon) (paired : List SidesEntry) (stop : MapStop) → polygons ≡ polygons_in rs → ArePairedChains rs skipped chains paired → StopsIndexedSides polygons paired stop → StopsBuilding rs stop
-stops_indexed rs skipped chains polygons paired stop is are why = elim why [
-  | inl index ↦ stops_index rs polygons stop is index
-  | inr sides ↦ stops_sides rs polygons (tlids chains.chains) (sides_in rs) paired stop is refl are.pairs sides
-]
-
 -- why landmarks aren't linked is true of the records
 pub stops_linked : (rs : List Record) (polygons : List Polygon) (entries : List LandmarkEntry) (links : List LinkEntry) (stop : MapStop) → polygons ≡ polygons_in rs → entries ≡ landmarks_in rs → links ≡ links_in rs → StopsLinking (keys polygons) entries links stop → StopsBuilding rs stop
 stops_linked rs polygons entries links stop p e l why = elim why [
@@ -185,16 +173,10 @@ mapped_all rs skipped chains areas new sides found l built keeps paired numbers 
       no_fault = no_fault rs skipped chains new found l built paired_in numbers_in known_in few_in linked_in;
     }
 
--- the map is that of the records, or why there is none is true of them
-pub linked_all : (rs : List Record) (skipped : ℕ) (chains : ChainList) (areas : AreaRecords) (paired : List SidesEntry) (index : IndexMap PolyKey Point RandomState) (sides : List ChainSides) (r : Result TheMap MapStop) → KeepsAreas rs areas → ArePairedChains rs skipped chains paired → AreIndexedSides areas.polygons.items paired index sides → length areas.polygons.items ≤ most_polygons → MatchResult r (IsLinkedMap chains sides index areas.landmarks.items areas.links.items) (StopsLinking (index_keys_of index) areas.landmarks.items areas.links.items) → MatchResult r (AreMapped rs skipped) (StopsBuilding rs)
-linked_all rs skipped chains areas paired index sides (Ok m) keeps are indexed few made =
-    let numbers = index_keys areas.polygons.items index indexed.entries indexed.unique in
-    let linked = rw (keys_are areas.polygons.items index indexed.entries) at made.linked in
-    let polygons = ap (map polygon_in) indexed.entries ∙ polygons_entries areas.polygons.items in
-    let paired_of : ArePaired (tlids chains.chains) areas.sides paired = rw keeps.sides are.pairs in
-    rw (made.is, polygons) (mapped_all rs skipped chains areas paired sides _ made.landmarks are.built keeps paired_of numbers indexed.known indexed.resolved few linked)
-linked_all rs skipped chains areas paired index sides (Err stop) keeps are indexed few why =
-    stops_linked rs areas.polygons.items areas.landmarks.items areas.links.items stop keeps.polygons keeps.landmarks keeps.links (rw (keys_are areas.polygons.items index indexed.entries) at why)
+-- the map of chains and of what is linked is that of the records
+pub linked_all : (rs : List Record) (skipped : ℕ) (chains : ChainList) (areas : AreaRecords) (sides : List ChainSides) (l : LinkedLandmarks) → AreBuilt rs skipped chains → KeepsAreas rs areas → length areas.polygons.items ≤ most_polygons → AreLinkedAreas chains areas sides l → AreMapped rs skipped (record { chains = sided chains.chains sides; polygons = areas.polygons.items; landmarks = rows_in l.linked.items l.points.items l.rows.items; skipped = chains.skipped })
+linked_all rs skipped chains areas sides l built keeps few made =
+    mapped_all rs skipped chains areas made.paired sides made.found l built keeps made.pairs made.numbers made.known made.resolved few made.linked
 
 -- as many sides as chains, and no more landmarks than the limit
 pub as_many : (rs : List Record) (skipped : ℕ) (chains : ChainList) (old new : List SidesEntry) (sides : List ChainSides) (ks : List PolyKey) → AreBuilt rs skipped chains → ArePaired (tlids chains.chains) old new → sides ≡ map (sided_by ks) new → length sides ≡ length chains.chains

@@ -4,7 +4,7 @@ use Rattle.std.proofs.lemmas.List.{append-nil, append_assoc, at_drop_more, at_dr
 use Rattle.std.proofs.lemmas.List.Sums.{sum_by_push}
 use Rattle.tl_map_rules.specs.declared.entry.ChainEntry.{ChainEntry}
 use Rattle.tl_map_rules.specs.declared.entry.ShapeEntry.{ShapeEntry}
-use Rattle.tl_map.specs.Keeping.Entries.{entry_points}
+use Rattle.tl_list_records.specs.Shapes.{entry_points}
 use Rattle.tl_geom.specs.declared.point.Point.{Point}
 use Rattle.tl_map_county.specs.declared.chains.ChainRow.{ChainRow}
 use Rattle.tl_map_county.specs.declared.limits.TheConstants.{SEGMENT_LIMIT}

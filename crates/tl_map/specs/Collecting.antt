@@ -1,11 +1,12 @@
 -- Records that were collected, and the map that is built of them.
-use Rattle.std.specs.Prelude.{◌≡◌, ℕ, ⊤, List}
+use Rattle.std.specs.Prelude.{◌≡◌, ◌≢◌, ℕ, ⊤, List, []}
 use Rattle.tl_record.specs.declared.record.Record.{Record}
 use Rattle.tl_map_county.specs.TheMap.{TheMap}
-use Rattle.tl_map_rules.specs.declared.fault.MapStop.{MapStop}
-use Rattle.tl_map_rules.specs.declared.fault.MapStop.TheVariants.{Refused, Device, Memory, Fault, NoRecords}
-use Rattle.tl_map_rules.specs.Faults.{IsTrueOf, HaveNoFault}
+use Rattle.tl_map_rules.specs.Faults.{HaveNoFault}
 use Rattle.tl_map_rules.specs.MapOf.{IsMapOf}
+use Rattle.tl_list_records.specs.AllFaults.{AreAllFaults}
+use Rattle.tl_map.specs.declared.no_map.NoMap.{NoMap}
+use Rattle.tl_map.specs.declared.no_map.NoMap.TheVariants.{Memory, Faults}
 use Rattle.tl_map.specs.declared.collected.CollectedRecords.{CollectedRecords}
 use Rattle.tl_map.specs.Keeping.Collected.{Collects}
 use Rattle.tl_map.specs.Keeping.Areas.{KeepsAreas}
@@ -21,10 +22,7 @@ pub record IsMapOfRecords (rs : List Record) (skipped : ℕ) (m : TheMap) : Type
   pub map : IsMapOf rs m
   pub skipped_lines : m.skipped ≡ skipped
 
--- why records have no map: memory was refused, or they have the fault
-abbrev pub StopsOn : List Record → MapStop → Type 0
-StopsOn rs Device = ⊥
+-- why records have no map: memory was refused, or these are all of their faults, and there are some
+abbrev pub StopsOn : List Record → NoMap → Type 0
 StopsOn rs Memory = ⊤
-StopsOn rs (Refused line cause) = ⊥
-StopsOn rs (Fault fault) = IsTrueOf rs fault
-StopsOn rs (NoRecords lacking) = ⊥
+StopsOn rs (Faults faults) = AreAllFaults rs faults.items × (faults.items ≢ [])

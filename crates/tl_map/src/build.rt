@@ -1,6 +1,6 @@
 //! Chains from the collected records.
 
-ghost use Rattle.std.specs.Prelude.{◌≡◌, ◌≤◌, List, IfSome, IfErr, MatchOption, MatchResult, length};
+ghost use Rattle.std.specs.Prelude.{List, IfSome, IfErr, MatchOption, MatchResult};
 ghost use Rattle.std.specs.List.Sorted.{IsNonDecreasingBy};
 ghost use Rattle.tl_geom.specs.declared.point.Point.{Point};
 ghost use Rattle.tl_record.specs.declared.record.Record.{Record};
@@ -8,15 +8,16 @@ ghost use Rattle.tl_map_rules.specs.declared.entry.ChainEntry.{ChainEntry};
 ghost use Rattle.tl_map_rules.specs.Faults.{IsTrueOf, IsFaultOfChains};
 ghost use Rattle.tl_map_rules.specs.Reading.{IfFault};
 ghost use Rattle.tl_map.specs.Keeping.Entries.{AreChainEntries, AreShapeEntries, AreInOrder};
-ghost use Rattle.tl_map.specs.Keeping.Collected.{Collects};
+ghost use Rattle.tl_map.specs.Keeping.Collected.{Collects, LeavesChains};
 ghost use Rattle.tl_map.specs.Keeping.Built.{AreSound, AreBuilt, StopsBuilding};
 
 use crate::collect::Collected;
 use crate::join::join;
 use crate::passes::{gap_tlid, misnumbered_tlid, repeated_tlid, stray_tlid};
-use crate::sort::{sort_chains, sort_shapes};
+use crate::sort::sort_shapes;
 use std::alloc::Global;
-use tl_map_county::{Chains, release};
+use tl_list_records::sort_chains;
+use tl_map_county::{CHAIN_LIMIT, Chains};
 use tl_map_rules::{ChainEntry, Limited, MapStop, RecordFault, ShapeEntry};
 
 /// A fault of sorted chains and shapes that shows before they are joined.
@@ -42,30 +43,31 @@ fn first_fault(chains: &[ChainEntry], shapes: &[ShapeEntry]) -> Option<RecordFau
     None
 }
 
-/// The chains of the records.
-pub fn build_chains(alloc: Global, collected: Collected, skipped: u64) -> Result<Chains, MapStop>
+/// The chains of the records, which are sorted where they are kept.
+pub fn build_chains(
+    alloc: Global,
+    collected: &mut Collected,
+    skipped: u64,
+) -> Result<Chains, MapStop>
     // It has collected some records.
-    requires { (rs : List Record) × Collects rs collected }
-    ensures built { (rs : List Record) → Collects rs collected → MatchResult result (AreBuilt rs skipped) (StopsBuilding rs) }
+    requires { (rs : List Record) × Collects rs collected.old }
+    ensures built { (rs : List Record) → Collects rs collected.old → MatchResult result (AreBuilt rs skipped) (StopsBuilding rs) }
     ensures of_chains { IfErr result (IfFault IsFaultOfChains) }
+    ensures left { (rs : List Record) → Collects rs collected.old → IfErr result (IfFault (λ fault. LeavesChains rs collected.new)) }
 {
-    if collected.too_many {
+    if collected.chains.len() > CHAIN_LIMIT as usize {
         return Err(MapStop::Fault(RecordFault::TooMany(Limited::Chains)));
     }
-    let Collected {
-        mut chains,
-        mut shapes,
-        pool,
-        too_many: _,
-    } = collected;
-    sort_chains(alloc, &mut chains)?;
-    sort_shapes(alloc, &mut shapes)?;
-    if let Some(fault) = first_fault(&chains, &shapes) {
+    sort_chains(alloc, &mut collected.chains)?;
+    sort_shapes(alloc, &mut collected.shapes)?;
+    if let Some(fault) = first_fault(&collected.chains, &collected.shapes) {
         return Err(MapStop::Fault(fault));
     }
-    let joined = join(alloc, &chains, &shapes, &pool, skipped);
-    release(chains);
-    release(shapes);
-    release(pool);
-    joined
+    join(
+        alloc,
+        &collected.chains,
+        &collected.shapes,
+        &collected.pool,
+        skipped,
+    )
 }

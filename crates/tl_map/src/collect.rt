@@ -1,16 +1,19 @@
 //! Keeps records until all of them are read.
 
-ghost use Rattle.std.specs.Prelude.{◌≡◌, ◌+◌, ◌<◌, ◌≤◌, ◌∷◌, [], ◌++◌, List, OnOk, IfOk, length, if◌then◌else◌};
+ghost use Rattle.std.specs.Prelude.{◌≡◌, ◌∷◌, [], ◌++◌, List, OnOk, IfOk, All, map, if◌then◌else◌};
+ghost use Rattle.std.specs.List.{filter_map};
 ghost use Rattle.tl_geom.specs.declared.point.Point.{Point};
 ghost use Rattle.tl_record.specs.declared.record.Record.{Record};
 ghost use Rattle.tl_record.specs.declared.record.Record.TheVariants.{Shape};
 ghost use Rattle.tl_map_rules.specs.declared.entry.Fill.TheVariants.{Full, Ended, Gap};
 ghost use Rattle.tl_map_rules.specs.ChainsOf.{used};
-ghost use Rattle.tl_map.specs.Keeping.Entries.{fill_of, AreShapeEntries};
+ghost use Rattle.tl_list_records.specs.Kept.{shape_at};
+ghost use Rattle.tl_list_records.specs.Shapes.{fill_of, summary_in, IsInside};
+ghost use Rattle.tl_map.specs.Keeping.Entries.{AreShapeEntries};
 
 use std::alloc::{AllocError, Global};
 use tl_geom::Point;
-use tl_map_county::CHAIN_LIMIT;
+use tl_map_county::release;
 use tl_map_rules::{ChainEntry, Fill, ShapeEntry};
 use tl_record::{PAIRS, Record};
 
@@ -21,8 +24,6 @@ pub struct Collected {
     pub shapes: Vec<ShapeEntry>,
     /// The used points of all shapes.
     pub pool: Vec<Point>,
-    /// There are more type 1 records than the limit. The chains are then not all kept.
-    pub too_many: bool,
 }
 
 impl Collected {
@@ -38,7 +39,6 @@ impl Collected {
             chains: Vec::new(alloc),
             shapes: Vec::new(alloc),
             pool: Vec::new(alloc),
-            too_many: false,
         }
     }
 
@@ -49,15 +49,11 @@ impl Collected {
     {
         match next {
             Record::Chain { tlid, from, to } => {
-                if self.chains.len() < CHAIN_LIMIT as usize {
-                    self.chains.push(ChainEntry {
-                        tlid: *tlid,
-                        from: *from,
-                        to: *to,
-                    })?;
-                } else {
-                    self.too_many = true;
-                }
+                self.chains.push(ChainEntry {
+                    tlid: *tlid,
+                    from: *from,
+                    to: *to,
+                })?;
                 Ok(())
             }
             Record::Shape { tlid, rtsq, pairs } => {
@@ -70,6 +66,18 @@ impl Collected {
             | Record::AreaLink { .. } => Ok(()),
         }
     }
+
+    /// Frees the records.
+    pub fn release(self) {
+        let Collected {
+            chains,
+            shapes,
+            pool,
+        } = self;
+        release(chains);
+        release(shapes);
+        release(pool);
+    }
 }
 
 /// Keeps a type 2 record.
@@ -80,8 +88,11 @@ fn add_shape(
     rtsq: u16,
     pairs: &[Option<Point>; PAIRS],
 ) -> Result<(), AllocError>
-    ensures { (rs : List Record) → AreShapeEntries rs pool.old.items shapes.old.items →
+    ensures entries { (rs : List Record) → AreShapeEntries rs pool.old.items shapes.old.items →
         OnOk result (AreShapeEntries (rs ++ Shape tlid rtsq pairs.now ∷ []) pool.new.items shapes.new.items) }
+    ensures summaries { All (IsInside pool.old.items) shapes.old.items →
+        OnOk result (map (summary_in pool.new.items) shapes.new.items
+        ≡ map (summary_in pool.old.items) shapes.old.items ++ filter_map shape_at (Shape tlid rtsq pairs.now ∷ [])) }
 {
     let first = pool.len();
     let fill = append_used(pool, pairs)?;

@@ -4,10 +4,12 @@ use crate::areas::AreaRecords;
 use crate::build_map::build_map;
 use crate::collect::Collected;
 use crate::lacking::lacking_where;
+use crate::left::faults_of;
+use crate::no_map::NoMap;
 use std::alloc::{AllocError, Global};
 use std::hash::RandomState;
 use tl_map_county::Map;
-use tl_map_rules::{Lacking, MapStop};
+use tl_map_rules::{Lacking, RecordFault};
 use tl_record::Record;
 
 /// The records of a county up to some place, and what is kept of them until the map is built.
@@ -24,6 +26,7 @@ impl CollectedRecords {
     ghost use Rattle.std.specs.Prelude.{◌≡◌, ◌∷◌, [], ◌++◌, List, OnOk, IfOk, IfErr};
     ghost use Rattle.tl_record.specs.declared.record.Record.{Record};
     ghost use Rattle.tl_map_rules.specs.Lacking.{lacking_where};
+    ghost use Rattle.tl_list_records.specs.AllFaults.{AreAllFaults};
     ghost use Rattle.tl_map.specs.Collecting.{HasCollected, IsMapOfRecords, StopsOn};
 
     /// No record.
@@ -53,14 +56,22 @@ impl CollectedRecords {
     }
 
     /// The map of the records, of whose text so many lines were passed over. `hasher` is that of [`crate::read_map`].
-    pub fn build(self, alloc: Global, hasher: RandomState, skipped: u64) -> Result<Map, MapStop>
+    pub fn build(self, alloc: Global, hasher: RandomState, skipped: u64) -> Result<Map, NoMap>
         // It has collected some records.
         requires { (rs : List Record) × HasCollected rs self }
         // The map is theirs, and no fault is true of them.
         ensures map { (rs : List Record) → HasCollected rs self → IfOk result (IsMapOfRecords rs skipped) }
-        // Memory was refused, or a fault is true of them.
+        // Memory was refused, or these are all of their faults, and there are some.
         ensures stops { (rs : List Record) → HasCollected rs self → IfErr result (StopsOn rs) }
     {
         build_map(alloc, hasher, self.lines, self.areas, skipped)
+    }
+
+    /// All faults of the records, by their codes and then by their numbers. An error says that memory was refused.
+    pub fn faults(self, alloc: Global) -> Result<Vec<RecordFault>, AllocError>
+        requires { (rs : List Record) × HasCollected rs self }
+        ensures { (rs : List Record) → HasCollected rs self → IfOk result (λ faults. AreAllFaults rs faults.items) }
+    {
+        faults_of(alloc, self.lines, self.areas)
     }
 }

@@ -29,5 +29,5 @@ pub fn lacking_where(asked: bool, collected: &Collected, areas: &AreaRecords) ->
 fn has_no_chain(collected: &Collected) -> bool
     ensures { (rs : List Record) → Collects rs collected.now → result ≡ (chain_count rs == 0) }
 {
-    !collected.too_many && collected.chains.len() == 0
+    collected.chains.len() == 0
 }

@@ -20,6 +20,8 @@ mod join;
 mod kept;
 mod lacking;
 mod landmarks;
+mod left;
+mod no_map;
 mod passes;
 mod polygons;
 mod read;
@@ -27,6 +29,7 @@ mod sides;
 mod sort;
 
 pub use collected::CollectedRecords;
+pub use no_map::NoMap;
 pub use read::{read_chains, read_chains_with, read_map, read_map_with};
 pub use tl_map_county::{
     CHAIN_LIMIT, Chain, Chains, LANDMARK_LIMIT, Landmark, Map, POLYGON_LIMIT, Polygon,

@@ -5,7 +5,7 @@ ghost use Rattle.std.specs.Option.{option_map};
 ghost use Rattle.tl_record.specs.declared.record.Record.{Record};
 ghost use Rattle.tl_record.specs.declared.reader.Standing.TheVariants.{Reading};
 ghost use Rattle.tl_record.specs.Layout.{tiger_2006, layout_with};
-ghost use Rattle.tl_record.specs.Records.{records_of, joined_where};
+ghost use Rattle.tl_record.specs.Records.{lines_read, records_of, joined_where};
 ghost use Rattle.tl_record.specs.Reader.{source_of, skipped_of, standing_of, outcome};
 ghost use Rattle.tl_map_rules.specs.Reading.{AreReadFrom, IsReadFrom, StopsReading, IfFault, TellsDevice};
 ghost use Rattle.tl_map_rules.specs.Faults.{IsFaultOfChains};
@@ -17,6 +17,7 @@ use crate::build::build_chains;
 use crate::build_map::build_map;
 use crate::collect::Collected;
 use crate::lacking::lacking_where;
+use crate::no_map::first_told;
 use std::alloc::{AllocError, Global};
 use std::hash::RandomState;
 use tl_map_county::{Chains, Map};
@@ -165,10 +166,10 @@ fn collect_chains<R: Source>(
 pub fn read_chains<R: Source>(alloc: Global, records: &mut R) -> Result<Chains, MapStop>
     // Where the bytes are known: the chains of their records, where no line is refused and no fault is true.
     ensures chains { IfOk result (λ c. IfSome (R.remaining records.old)
-        (λ text. AreReadFrom (records_of tiger_2006 text) c)) }
+        (λ text. AreReadFrom (lines_read tiger_2006 text) c)) }
     // The first refused line, or where there is none, a fault that is true.
     ensures stops { IfErr result (λ stop. IfSome (R.remaining records.old)
-        (λ text. StopsReading (records_of tiger_2006 text) stop)) }
+        (λ text. StopsReading (lines_read tiger_2006 text) stop)) }
     // A fault that is answered is one of the chains.
     ensures of_chains { IfErr result (IfFault IsFaultOfChains) }
     // `Device` is answered where a read failed in this call, and nowhere else.
@@ -191,8 +192,10 @@ pub fn read_chains_with<R: Source>(
     ensures failures { TellsDevice (R.failure_count records.old) (R.failure_count records.new) result }
 {
     let mut reader = RecordReader::with(records, options);
-    let collected = collect_chains(alloc, &mut reader, options.join)?;
-    build_chains(alloc, collected, reader.skipped())
+    let mut collected = collect_chains(alloc, &mut reader, options.join)?;
+    let built = build_chains(alloc, &mut collected, reader.skipped());
+    collected.release();
+    built
 }
 
 /// Reads the map of a county from the text of its record files, by the columns of [`Options`]'s default.
@@ -207,10 +210,10 @@ pub fn read_map<R: Source>(
     // Where the bytes are known: the map of their records, where no line is refused and no fault is true. It is the same
     // whatever the keys are.
     ensures map { IfOk result (λ m. IfSome (R.remaining records.old)
-        (λ text. IsReadFrom (records_of tiger_2006 text) m)) }
+        (λ text. IsReadFrom (lines_read tiger_2006 text) m)) }
     // The first refused line, or where there is none, a fault that is true.
     ensures stops { IfErr result (λ stop. IfSome (R.remaining records.old)
-        (λ text. StopsReading (records_of tiger_2006 text) stop)) }
+        (λ text. StopsReading (lines_read tiger_2006 text) stop)) }
     // `Device` is answered where a read failed in this call, and nowhere else.
     ensures failures { TellsDevice (R.failure_count records.old) (R.failure_count records.new) result }
 {
@@ -237,5 +240,5 @@ pub fn read_map_with<R: Source>(
     if lacking.is_some() {
         return Err(MapStop::NoRecords(lacking));
     }
-    build_map(alloc, hasher, collected, areas, reader.skipped())
+    first_told(build_map(alloc, hasher, collected, areas, reader.skipped()))
 }

@@ -3,7 +3,7 @@
 ghost use Rattle.std.specs.Prelude.{◌≡◌, ◌<◌, ◌≤◌, ◌^◌, ◌==◌, List, length, IfOk, OnOk, IfErr, MatchOption};
 ghost use Rattle.std.specs.Prelude.{MatchResult, map};
 ghost use Rattle.std.specs.Prelude.{count_by, All};
-ghost use Rattle.std.specs.List.Sorted.{IsNonDecreasingBy, IsStrictlyIncreasing};
+ghost use Rattle.std.specs.List.Sorted.{IsNonDecreasingBy, IsStrictlyIncreasing, IsPermutation};
 ghost use Rattle.tl_map_rules.specs.declared.entry.SidesEntry.{SidesEntry};
 ghost use Rattle.tl_map_county.specs.Chains.{tlids};
 ghost use Rattle.tl_map_county.specs.Kept.{HasNumber};
@@ -120,22 +120,19 @@ fn unpaired(chains: &Chains, sides: &KeptSides) -> Option<RecordFault>
     None
 }
 
-/// The type I record of each chain, in the order of the chains, which rise by TLID.
-pub fn pair_sides(
-    alloc: Global,
-    chains: &Chains,
-    mut sides: KeptSides,
-) -> Result<KeptSides, MapStop>
+/// Sorts type I records, so that they are those of the chains, which rise by TLID, in their order.
+pub fn pair_sides(alloc: Global, chains: &Chains, sides: &mut KeptSides) -> Result<(), MapStop>
     requires { IsStrictlyIncreasing (tlids chains.now.chains) }
-    ensures { MatchResult result (λ made. ArePaired (tlids chains.now.chains) sides made)
-        (StopsPairing (tlids chains.now.chains) sides) }
+    ensures paired { MatchResult result (λ done. ArePaired (tlids chains.now.chains) sides.old sides.new)
+        (StopsPairing (tlids chains.now.chains) sides.old) }
+    ensures moved { IsPermutation sides.old sides.new }
 {
     sides.sort_by_tlid(alloc)?;
-    if let Some(tlid) = repeated_sides(&sides) {
+    if let Some(tlid) = repeated_sides(sides) {
         return Err(MapStop::Fault(RecordFault::DuplicateSides { tlid }));
     }
-    if let Some(fault) = unpaired(chains, &sides) {
+    if let Some(fault) = unpaired(chains, sides) {
         return Err(MapStop::Fault(fault));
     }
-    Ok(sides)
+    Ok(())
 }

@@ -10,7 +10,7 @@ use Rattle.tl_map_county.specs.TheMap.{TheMap}
 use Rattle.tl_check_verdict.specs.declared.fault.MapFault.{MapFault as TheMapFault}
 use Rattle.tl_check_verdict.specs.declared.fault.MapFault.TheVariants.{Records, NoRecords, Meet, Side, PolygonPoint, Cell, Face}
 use Rattle.tl_check_verdict.specs.declared.verdict.Verdict.TheVariants.{MapFault}
-use Rattle.tl_check_verdict.specs.Truth.{IsTrueOfMap}
+use Rattle.tl_check_verdict.specs.Truth.{IsTrueOfMapFor}
 use Rattle.tl_check_verdict.proofs.Recording.{true_of_records}
 use Rattle.tigertopo_files.specs.Files.{Under}
 use Rattle.tigertopo_files.specs.Log.{Log}
@@ -26,7 +26,7 @@ use Rattle.tigertopo_program.specs.Borders.{BorderAnswers, IsBorderAnswerOf, Wan
 -- ---- what is answered of a map, with no file read before
 
 -- a fault, and no file is made
-pub border_faulty : (u : Under) (l : Log) (k : Bool) (wanted : Wanted) (faces : Bool) (m : TheMap) (fault : TheMapFault) → IsTrueOfMap faces m fault
+pub border_faulty : (u : Under) (l : Log) (k : Bool) (wanted : Wanted) (faces : Bool) (m : TheMap) (fault : TheMapFault) → IsTrueOfMapFor faces m fault
     → Does (record { before = u; after = u; log = l; logged = l; knows = k }) [] (Some wanted.name) (IsBorderAnswerOf (record { before = u; after = u; log = l; logged = l; knows = k }) wanted faces m) StopsNever
     (Ok (Verdict (MapFault fault)))
 border_faulty u l k wanted faces m fault true = record {

@@ -15,7 +15,7 @@ use Rattle.tl_check_verdict.specs.declared.fault.MapFault.TheVariants.{Records, 
 use Rattle.tl_check_verdict.specs.declared.verdict.Report.{Report}
 use Rattle.tl_check_verdict.specs.declared.verdict.Verdict.TheVariants.{MapFault}
 use Rattle.tl_check_verdict.specs.Sound.{IsSoundFor}
-use Rattle.tl_check_verdict.specs.Truth.{IsTrueOfMap}
+use Rattle.tl_check_verdict.specs.Truth.{IsTrueOfMapFor}
 use Rattle.tl_check_verdict.specs.Valid.{IsValid}
 use Rattle.tl_check_verdict.specs.Verdicts.{IsReport, AreNumbers}
 use Rattle.tl_build.specs.Auditing.{IsMemoryStop}
@@ -59,7 +59,7 @@ is_built w name faces m c report certifies sound valid version numbers kept = re
 
 module _ (u : Under) (l : Log) (k : Bool) (name : List ℕ) (faces : Bool) (m : TheMap) where
   -- a fault, and no file is made
-  pub build_faulty : (fault : TheMapFault) → IsTrueOfMap faces m fault
+  pub build_faulty : (fault : TheMapFault) → IsTrueOfMapFor faces m fault
       → Does (record { before = u; after = u; log = l; logged = l; knows = k }) [] (Some name) (IsBuildOf (record { before = u; after = u; log = l; logged = l; knows = k }) name faces m) StopsNever (Ok (Verdict (MapFault fault)))
   build_faulty fault true = record {
     answered = inr (fault, true, (λ other apart. refl), refl);

@@ -14,8 +14,8 @@ use Rattle.tl_check_verdict.specs.declared.verdict.Verdict.{Verdict}
 use Rattle.tl_check_verdict.specs.declared.verdict.Verdict.TheVariants.{Sound, MapFault, CertFault}
 use Rattle.tl_check_verdict.specs.Sound.{IsSoundFor}
 use Rattle.tl_check_verdict.specs.Truth.{IsOfDarts}
-use Rattle.tl_check_verdict.specs.Texts.{IsValidText, IsTrueOfText, TextAllowsSearch}
-use Rattle.tl_check_verdict.specs.Records.{HaveMap, IsTrueOfRecords, MayStopOn, TellsEither}
+use Rattle.tl_check_verdict.specs.Texts.{IsValidWhereKnown, IsTrueOfText, TextAllowsSearch}
+use Rattle.tl_check_verdict.specs.Records.{HaveMap, IsTrueOfRecordsFor, MayStopOn, TellsEither}
 use Rattle.tl_check_verdict.specs.Verdicts.{OnSound, OnSoundButFaces, IfSound, IfMapFault, IfCertFault, UnlessMeet, IsReport, OnSearched}
 use Rattle.tl_check_verdict.proofs.OneMap.{both, weaker}
 use Rattle.tigertopo_files.specs.Reading.{TellsReads}
@@ -33,11 +33,9 @@ tells_both other r0 r c0 c (Err Device) rz cz (inr cert) = let one = cert.0 in l
 
 -- the claims of a sound map
 sound_map : (all : Records) (faces : Bool) (budget : ℕ) (spelt : Option (List ℕ)) (report : Report) → HaveMap all (IsSoundFor faces)
-    → HaveMap all (λ m. meeting_segments m.chains ≤ budget) → IfSome spelt (λ text. HaveMap all (λ m. IsValidText m text))
+    → HaveMap all (λ m. meeting_segments m.chains ≤ budget) → HaveMap all (IsValidWhereKnown spelt)
     → HaveMap all (λ m. IsReport m report) → HaveMap all (IsDecided faces report budget spelt)
-sound_map all faces budget None report sound within valid reported =
-    weaker all _ _ (λ m so. record { sound = so.0; reported = so.1.0; within = so.1.1; valid = tt }) (both all _ _ sound (both all _ _ reported within))
-sound_map all faces budget (Some text) report sound within valid reported =
+sound_map all faces budget spelt report sound within valid reported =
     weaker all _ _ (λ m so. record { sound = so.0.0; reported = so.1.0; within = so.1.1; valid = so.0.1 })
     (both all _ _ (both all _ _ sound valid) (both all _ _ reported within))
 
@@ -45,7 +43,7 @@ sound_map all faces budget (Some text) report sound within valid reported =
 decided : (options : Options) (budget : ℕ) (known spelt : Option (List ℕ)) (report : Report)
     → IfSome known (λ text. HaveMap (records_of (layout_with options) text) (IsSoundFor options.faces))
     → IfSome known (λ text. HaveMap (records_of (layout_with options) text) (λ m. meeting_segments m.chains ≤ budget))
-    → IfSome known (λ text. IfSome spelt (λ certificate. HaveMap (records_of (layout_with options) text) (λ m. IsValidText m certificate)))
+    → IfSome known (λ text. HaveMap (records_of (layout_with options) text) (IsValidWhereKnown spelt))
     → IfSome known (λ text. HaveMap (records_of (layout_with options) text) (λ m. IsReport m report))
     → IfSome known (λ text. HaveMap (records_of (layout_with options) text) (IsDecided options.faces report budget spelt))
 decided options budget None spelt report sound within valid reported = tt
@@ -56,9 +54,9 @@ module _ (options : Options) (budget : ℕ) (known spelt : Option (List ℕ)) wh
   pub checked : (r : Result Verdict Stop)
       → OnSound r (IfSome known (λ text. HaveMap (records_of (layout_with options) text) (IsSoundFor options.faces)))
       → OnSoundButFaces r (IfSome known (λ text. HaveMap (records_of (layout_with options) text) (λ m. meeting_segments m.chains ≤ budget)))
-      → OnSoundButFaces r (IfSome known (λ text. IfSome spelt (λ certificate. HaveMap (records_of (layout_with options) text) (λ m. IsValidText m certificate))))
+      → OnSoundButFaces r (IfSome known (λ text. HaveMap (records_of (layout_with options) text) (IsValidWhereKnown spelt)))
       → IfSound r (λ report. IfSome known (λ text. HaveMap (records_of (layout_with options) text) (λ m. IsReport m report)))
-      → IfMapFault r (λ fault. IfSome known (λ text. IsTrueOfRecords options.faces (records_of (layout_with options) text) fault))
+      → IfMapFault r (λ fault. IfSome known (λ text. IsTrueOfRecordsFor options.faces (records_of (layout_with options) text) fault))
       → OnSearched r (MayBeSearched (layout_with options) known spelt)
       → IfCertFault r (λ fault. IfSome known (λ text. HaveMap (records_of (layout_with options) text) (λ m. IfSome spelt (λ certificate. IsTrueOfText m certificate fault))))
       → IfCertFault r (λ fault. IsOfDarts fault → IfSome known (λ text. HaveMap (records_of (layout_with options) text) (λ m. IsPlanar m.chains)))

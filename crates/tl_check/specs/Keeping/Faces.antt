@@ -1,5 +1,5 @@
 -- How an answer in which faces take part follows from one in which they don't.
-use Rattle.std.specs.Prelude.{◌≡◌, Bool, Ok, Err, Option, Some, None, ⊤}
+use Rattle.std.specs.Prelude.{◌≡◌, Bool, Ok, Err, IsOkAnd, Option, Some, None, ⊤}
 use Rattle.tl_map_county.specs.TheMap.{TheMap}
 use Rattle.tl_check_verdict.specs.declared.fault.MapFault.{MapFault}
 use Rattle.tl_check_verdict.specs.declared.fault.MapFault.TheVariants.{Records, NoRecords, Meet, Side, PolygonPoint, Cell, Face}
@@ -7,9 +7,8 @@ use Rattle.tl_check_verdict.specs.declared.verdict.Report.{Report}
 use Rattle.tl_check_faces.specs.declared.fault.FaceFault.{FaceFault}
 use Rattle.tl_check_verdict.specs.declared.verdict.Verdict.{Verdict}
 use Rattle.tl_check_verdict.specs.declared.verdict.Verdict.TheVariants as verdict
-use Rattle.tl_cert_output.specs.declared.stop.Stop.TheVariants.{Memory}
 use Rattle.tl_check_verdict.specs.Sound.{IsSoundFor}
-use Rattle.tl_check_verdict.specs.Truth.{IsTrueOfMap}
+use Rattle.tl_check_verdict.specs.Truth.{IsTrueOfMapFor}
 use Rattle.tl_check_verdict.specs.Verdicts.{Answer}
 
 -- the fault is of faces
@@ -22,16 +21,15 @@ IsOfFaces (PolygonPoint fault) = ⊥
 IsOfFaces (Cell odds) = ⊥
 IsOfFaces (Face fault) = ⊤
 
--- the answer where a map is sound: that it is, also as to faces where they are asked for; or faces that disagree; or memory was refused
-abbrev pub IsFacing : Bool → TheMap → Report → Answer → Type 0
-IsFacing faces m report (Ok (verdict.Sound told)) = (told ≡ report) × IsSoundFor faces m
-IsFacing faces m report (Ok (verdict.MapFault fault)) = IsOfFaces fault × IsTrueOfMap faces m fault
-IsFacing faces m report (Ok (verdict.CertFault fault)) = ⊥
-IsFacing faces m report (Err why) = why ≡ Memory
+-- what is decided where a map is sound: that it is, also as to faces where they are asked for; or faces that disagree
+abbrev pub IsFacing : Bool → TheMap → Report → Verdict → Type 0
+IsFacing faces m report (verdict.Sound told) = (told ≡ report) × IsSoundFor faces m
+IsFacing faces m report (verdict.MapFault fault) = IsOfFaces fault × IsTrueOfMapFor faces m fault
+IsFacing faces m report (verdict.CertFault fault) = ⊥
 
 -- an answer where this was decided without faces: the same, unless it is that the map is sound
 abbrev pub IsWithFaces : Bool → TheMap → Answer → Answer → Type 0
-IsWithFaces faces m (Ok (verdict.Sound report)) answer = IsFacing faces m report answer
+IsWithFaces faces m (Ok (verdict.Sound report)) answer = IsOkAnd answer (IsFacing faces m report)
 IsWithFaces faces m (Ok (verdict.MapFault fault)) answer = answer ≡ Ok (verdict.MapFault fault)
 IsWithFaces faces m (Ok (verdict.CertFault fault)) answer = answer ≡ Ok (verdict.CertFault fault)
 IsWithFaces faces m (Err why) answer = answer ≡ Err why

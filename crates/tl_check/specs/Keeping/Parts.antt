@@ -1,6 +1,5 @@
 -- What was found of a certificate's rounds and walks so far, behind counts that are the map's and a tree that was taken.
-use Rattle.std.specs.Prelude.{◌≡◌, ℕ, ◌≤◌, List, [], ◌++◌, length, Vec, Option, Result, Ok, Err, ⊤, false}
-use Rattle.std.specs.Global.{Global}
+use Rattle.std.specs.Prelude.{◌≡◌, ℕ, ◌≤◌, List, [], ◌++◌, length, Result, Ok, Err, ⊤}
 use Rattle.tl_map_county.specs.TheMap.{TheMap}
 use Rattle.tl_tree_index.specs.declared.node.TreeNode.{TreeNode}
 use Rattle.tl_check_planar.specs.Planar.{IsPlanar}
@@ -19,8 +18,8 @@ use Rattle.tl_check.specs.declared.state.State.{State}
 use Rattle.tl_check.specs.declared.state.State.TheVariants as state
 use Rattle.tl_check.specs.declared.state.Halt.{Halt}
 use Rattle.tl_check.specs.declared.state.Halt.TheVariants as halt
-use Rattle.tl_check.specs.declared.known.Known.{Known}
-use Rattle.tl_check.specs.Keeping.Known.{AreToldSuspects, IsKnown}
+use Rattle.tl_check.specs.declared.search.LeftOpen.{LeftOpen}
+use Rattle.tl_check.specs.Keeping.Searching.{IsLeftOpen}
 use Rattle.tl_check_verdict.specs.declared.fault.CertFault.{CertFault}
 use Rattle.tl_check_verdict.specs.declared.fault.MapFault.TheVariants.{Meet}
 use Rattle.tl_check_verdict.specs.Valid.{AreCounts, IsTree, AllowsSearch, IsValid}
@@ -49,61 +48,61 @@ pub record IsFounded (m : TheMap) (c : TheCertificate) : Type 0 where
   pub planar : IsPlanar m.chains
   pub cells : CellsAgree m.chains
 
--- so far the rounds have no fault, there are no walks yet, and these suspects were told, if any were
-pub record AreRoundsSoFar (m : TheMap) (c : TheCertificate) (rounds : Rounds) (suspects : Option (Vec ℕ Global)) : Type 0 where
+-- so far the rounds have no fault, there are no walks yet, and no more than this is left open
+pub record AreRoundsSoFar (m : TheMap) (c : TheCertificate) (rounds : Rounds) (left : LeftOpen) : Type 0 where
   pub founded : IsFounded m c
   pub no_walks : c.walks ≡ []
   pub sized : AreSized m.chains rounds
   pub taken : HaveTaken m.chains c.rounds rounds
-  pub told : AreToldSuspects m suspects
+  pub no_more : IsLeftOpen m left
 
--- the rounds are the map's, sides agree, so far the walks have no fault, and behind them this is known
-pub record AreWalksSoFar (m : TheMap) (c : TheCertificate) (walks : Walks) (known : Known) : Type 0 where
+-- the rounds are the map's, sides agree, so far the walks have no fault, and no more than this is left open
+pub record AreWalksSoFar (m : TheMap) (c : TheCertificate) (walks : Walks) (left : LeftOpen) : Type 0 where
   pub founded : IsFounded m c
   pub rounds : AreRounds m.chains c.rounds
   pub sides : SidesAgree m.chains
   pub ready : AreReady m.chains walks
   pub walked : HaveWalked m.chains c.walks walks
-  pub behind : IsKnown m c.walks known
+  pub no_more : IsLeftOpen m left
 
 -- what a state says of the parts that were taken, which are those of c
 abbrev pub Holds : TheMap → TheCertificate → State → Type 0
-Holds m c (state.Rounding rounds suspects) = AreRoundsSoFar m c rounds suspects
-Holds m c (state.Walking walks known) = AreWalksSoFar m c walks known
+Holds m c (state.Rounding rounds left) = AreRoundsSoFar m c rounds left
+Holds m c (state.Walking walks left) = AreWalksSoFar m c walks left
 Holds m c (state.Unrounded fault) = IsRoundFault m.chains c.rounds fault
 Holds m c (state.Wrong fault) = (d : TheCertificate) → Continues c d → IsTrueOfCert m d fault
 
 -- further rounds may be taken
 abbrev pub TakesRounds : State → Type 0
-TakesRounds (state.Rounding rounds suspects) = ⊤
-TakesRounds (state.Walking walks known) = ⊥
+TakesRounds (state.Rounding rounds left) = ⊤
+TakesRounds (state.Walking walks left) = ⊥
 TakesRounds (state.Unrounded fault) = ⊥
 TakesRounds (state.Wrong fault) = ⊤
 
 -- walks may be taken
 abbrev pub TakesWalks : State → Type 0
-TakesWalks (state.Rounding rounds suspects) = ⊥
-TakesWalks (state.Walking walks known) = ⊤
+TakesWalks (state.Rounding rounds left) = ⊥
+TakesWalks (state.Walking walks left) = ⊤
 TakesWalks (state.Unrounded fault) = ⊤
 TakesWalks (state.Wrong fault) = ⊤
 
 -- unless the parts are wrong, the search was made, and at most n pairs of segments have rectangles that meet
 abbrev pub IsSearched : TheMap → ℕ → State → Type 0
-IsSearched m n (state.Rounding rounds suspects) = meeting_segments m.chains ≤ n
-IsSearched m n (state.Walking walks known) = meeting_segments m.chains ≤ n
+IsSearched m n (state.Rounding rounds left) = meeting_segments m.chains ≤ n
+IsSearched m n (state.Walking walks left) = meeting_segments m.chains ≤ n
 IsSearched m n (state.Unrounded fault) = meeting_segments m.chains ≤ n
 IsSearched m n (state.Wrong fault) = ⊤
 
 -- unless the parts are wrong in another way than by rounds or walks, the search was made, and the chains are planar
 abbrev pub IsBehindSearch : TheMap → State → Type 0
-IsBehindSearch m (state.Rounding rounds suspects) = IsPlanar m.chains
-IsBehindSearch m (state.Walking walks known) = IsPlanar m.chains
+IsBehindSearch m (state.Rounding rounds left) = IsPlanar m.chains
+IsBehindSearch m (state.Walking walks left) = IsPlanar m.chains
 IsBehindSearch m (state.Unrounded fault) = IsPlanar m.chains
 IsBehindSearch m (state.Wrong fault) = IsOfDarts fault → IsPlanar m.chains
 
 -- why no further part is looked at
 abbrev pub MayHalt : TheMap → ℕ → Halt → Type 0
-MayHalt m budget (halt.Fault fault) = IsTrueOfMap false m fault
+MayHalt m budget (halt.Fault fault) = IsTrueOfMap m fault
 MayHalt m budget halt.Memory = ⊤
 MayHalt m budget halt.Budget = AreBeyond m.chains budget
 
@@ -122,7 +121,7 @@ UnlessMet halt.Budget P = ⊤
 
 -- the same behind the search
 abbrev pub MayEnd : TheMap → Halt → Type 0
-MayEnd m (halt.Fault fault) = IsTrueOfMap false m fault
+MayEnd m (halt.Fault fault) = IsTrueOfMap m fault
 MayEnd m halt.Memory = ⊤
 MayEnd m halt.Budget = ⊥
 
@@ -143,14 +142,14 @@ abbrev pub Leads : TheMap → (TheCertificate → TheCertificate) → State → 
 Leads m step old (Ok next) = IsLed m step TakesWalks old next
 Leads m step old (Err halt) = IsHalted m old halt
 
--- what the parts of valid certificates show, with that many walks, behind which this is known
-pub record IsWalked (m : TheMap) (c : TheCertificate) (count : ℕ) (known : Known) : Type 0 where
+-- what the parts of valid certificates show, with that many walks, where no more than this is left open
+pub record IsWalked (m : TheMap) (c : TheCertificate) (count : ℕ) (left : LeftOpen) : Type 0 where
   pub valid : IsValid m c
   pub planar : IsPlanar m.chains
   pub sides : SidesAgree m.chains
   pub cells : CellsAgree m.chains
   pub counted : count ≡ length c.walks
-  pub behind : IsKnown m c.walks known
+  pub no_more : IsLeftOpen m left
 
 -- what valid certificates show, with that many walks
 pub record IsShown (m : TheMap) (c : TheCertificate) (rings : ℕ) : Type 0 where
@@ -162,8 +161,8 @@ pub record IsShown (m : TheMap) (c : TheCertificate) (rings : ℕ) : Type 0 wher
   pub counted : rings ≡ length c.walks
 
 -- the walks have ended: what the state held is shown of so many walks, or its certificates have a fault
-pub record IsEnded (m : TheMap) (old : State) (count : ℕ) (known : Known) : Type 0 where
-  pub walked : (c : TheCertificate) → Holds m c old → IsWalked m c count known
+pub record IsEnded (m : TheMap) (old : State) (count : ℕ) (left : LeftOpen) : Type 0 where
+  pub walked : (c : TheCertificate) → Holds m c old → IsWalked m c count left
   pub searched : (n : ℕ) → IsSearched m n old → meeting_segments m.chains ≤ n
 
 pub record IsFaulty (m : TheMap) (old : State) (wrong : CertFault) : Type 0 where

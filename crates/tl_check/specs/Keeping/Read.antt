@@ -1,19 +1,17 @@
 -- What an answer says of a map, by a certificate in memory or its text, and of the map that was read of records.
-use Rattle.std.specs.Prelude.{◌≡◌, ℕ, ◌≤◌, Bool, List, Option, Result, Ok, Err, IfErr}
-use Rattle.std.specs.Option.{IfSome}
+use Rattle.std.specs.Prelude.{◌≡◌, ℕ, Bool, List, Option, Result, Ok, Err, IfErr}
 use Rattle.tl_map_rules.specs.declared.fault.MapStop.{MapStop}
 use Rattle.tl_map_county.specs.TheMap.{TheMap}
 use Rattle.tl_map_county.specs.declared.map.Map.{Map}
 use Rattle.tl_check_planar.specs.Planar.{IsPlanar}
-use Rattle.tl_check_planar.specs.Searching.{meeting_segments}
 use Rattle.tl_cert.specs.Certificates.{TheCertificate}
 use Rattle.tl_check_verdict.specs.declared.fault.CertFault.{CertFault}
 use Rattle.tl_cert_output.specs.declared.stop.Stop.{Stop}
 use Rattle.tl_check_verdict.specs.Sound.{IsSoundFor}
 use Rattle.tl_check_verdict.specs.Valid.{AllowsSearch, IsValid}
-use Rattle.tl_check_verdict.specs.Truth.{IsTrueOfMap, IsTrueOfCert, IsOfDarts}
-use Rattle.tl_check_verdict.specs.Verdicts.{Answer, OnSound, OnSoundButFaces, IfSound, IfMapFault, IfCertFault, UnlessMeet, OnSearched, IsReport, MayStop}
-use Rattle.tl_check_verdict.specs.Texts.{IsTrueOfText, IsValidText, TextAllowsSearch, MayStopReading}
+use Rattle.tl_check_verdict.specs.Truth.{IsTrueOfMapFor, IsTrueOfCert}
+use Rattle.tl_check_verdict.specs.Verdicts.{Answer, OnSound, OnSoundButFaces, IfSound, IfMapFault, IfCertFault, OnDartFault, UnlessMeet, OnSearched, IsReport, IsWithinBudget, MayStop}
+use Rattle.tl_check_verdict.specs.Texts.{IsTrueWhereKnown, IsValidWhereKnown, AllowsSearchWhereKnown, IsPlanarWhereAllowed, MayStopReading}
 use Rattle.tl_cert_output.specs.Stops.{TellsDevice}
 use Rattle.tl_check.specs.Keeping.Answers.{refusal_of}
 
@@ -23,11 +21,11 @@ pub record IsDecision (m : TheMap) (faces : Bool) (budget : ℕ) (valid : Type 0
     (why : Stop → Type 0) (answer : Answer) : Type 0 where
   pub sound : OnSound answer (IsSoundFor faces m)
   pub is_valid : OnSoundButFaces answer valid
-  pub within : OnSoundButFaces answer (meeting_segments m.chains ≤ budget)
+  pub within : OnSoundButFaces answer (IsWithinBudget budget m)
   pub report : IfSound answer (IsReport m)
-  pub map_fault : IfMapFault answer (IsTrueOfMap faces m)
+  pub map_fault : IfMapFault answer (IsTrueOfMapFor faces m)
   pub cert_fault : IfCertFault answer faulty
-  pub behind : IfCertFault answer (λ fault. IsOfDarts fault → IsPlanar m.chains)
+  pub behind : OnDartFault answer (IsPlanar m.chains)
   pub meets : UnlessMeet answer met
   pub searched : OnSearched answer allows
   pub stops : IfErr answer why
@@ -40,8 +38,8 @@ IsOfCert m faces budget c answer =
 -- what it says of a map and the text of a certificate
 abbrev pub IsOfSpelt : TheMap → Bool → ℕ → Option (List ℕ) → Answer → Type 0
 IsOfSpelt m faces budget text answer =
-    IsDecision m faces budget (IfSome text (IsValidText m)) (λ fault. IfSome text (λ spelt. IsTrueOfText m spelt fault))
-    (IfSome text (TextAllowsSearch m)) (IfSome text (λ spelt. TextAllowsSearch m spelt → IsPlanar m.chains)) (MayStopReading m budget) answer
+    IsDecision m faces budget (IsValidWhereKnown text m) (IsTrueWhereKnown text m) (AllowsSearchWhereKnown text m) (IsPlanarWhereAllowed text m)
+    (MayStopReading m budget) answer
 
 -- the same where so many reads failed before and behind
 pub record IsOfText (m : TheMap) (faces : Bool) (budget : ℕ) (text : Option (List ℕ)) (old new : ℕ) (answer : Answer) : Type 0 where

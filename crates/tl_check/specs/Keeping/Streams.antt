@@ -1,9 +1,7 @@
 -- What is kept of a certificate that is checked as its parts come, and what its answer says.
-use Rattle.std.specs.Prelude.{◌≡◌, ℕ, ◌<◌, ◌≤◌, ◌^◌, List, length, Option, Result, Ok, Err, ⊤, false}
+use Rattle.std.specs.Prelude.{◌≡◌, ℕ, ◌<◌, ◌≤◌, List, length, Option, Result, Ok, Err, ⊤}
 use Rattle.std.specs.Option.{IfSome}
 use Rattle.tl_map_county.specs.TheMap.{TheMap}
-use Rattle.tl_tree_index.specs.declared.node.TreeNode.{TreeNode}
-use Rattle.tl_tree_index.specs.Preorder.{IsPreorder}
 use Rattle.tl_check_planar.specs.Planar.{IsPlanar}
 use Rattle.tl_check_planar.specs.Searching.{meeting_segments, AreBeyond}
 use Rattle.tl_check_sides.specs.Sides.{SidesAgree}
@@ -79,7 +77,7 @@ pub record IsSoundBy (m : TheMap) (text : Option (List ℕ)) (r : Report) : Type
 -- what an answer says of a map and the text of a certificate
 abbrev pub Decides : TheMap → ℕ → Option (List ℕ) → Answer → Type 0
 Decides m budget text (Ok (verdict.Sound report)) = IsSoundBy m text report
-Decides m budget text (Ok (verdict.MapFault fault)) = IsTrueOfMap false m fault
+Decides m budget text (Ok (verdict.MapFault fault)) = IsTrueOfMap m fault
 Decides m budget text (Ok (verdict.CertFault fault)) = IfSome text (λ t. IsTrueOfText m t fault)
 Decides m budget text (Err (Record line cause)) = ⊥
 Decides m budget text (Err Memory) = ⊤
@@ -89,7 +87,7 @@ Decides m budget text (Err Budget) = AreBeyond m.chains budget
 -- what is concluded of a map and a whole certificate
 abbrev pub Concludes : TheMap → TheCertificate → Answer → Type 0
 Concludes m c (Ok (verdict.Sound report)) = (rings : ℕ) × IsShown m c rings × AreNumbers m rings report
-Concludes m c (Ok (verdict.MapFault fault)) = IsTrueOfMap false m fault
+Concludes m c (Ok (verdict.MapFault fault)) = IsTrueOfMap m fault
 Concludes m c (Ok (verdict.CertFault fault)) = IsTrueOfCert m c fault
 Concludes m c (Err (Record line cause)) = ⊥
 Concludes m c (Err Memory) = ⊤
@@ -106,7 +104,7 @@ pub record IsSoundByCert (m : TheMap) (c : TheCertificate) (budget : ℕ) (r : R
 -- what an answer says of a map and a certificate in memory
 abbrev pub Shows : TheMap → TheCertificate → ℕ → Answer → Type 0
 Shows m c budget (Ok (verdict.Sound report)) = IsSoundByCert m c budget report
-Shows m c budget (Ok (verdict.MapFault fault)) = IsTrueOfMap false m fault × AllowsSearch m c
+Shows m c budget (Ok (verdict.MapFault fault)) = IsTrueOfMap m fault × AllowsSearch m c
 Shows m c budget (Ok (verdict.CertFault fault)) = IsTrueOfCert m c fault × (IsOfDarts fault → IsPlanar m.chains)
 Shows m c budget (Err (Record line cause)) = ⊥
 Shows m c budget (Err Memory) = ⊤
@@ -115,11 +113,8 @@ Shows m c budget (Err Budget) = AreBeyond m.chains budget × AllowsSearch m c
 
 -- The reader stands behind a tree, and the state holds of the parts so far: the search was made if it may be, chains are
 -- planar where one may be made by the text, and no read has failed.
-pub record IsBehindTree {R : Type 0} (remaining : R → Option (List ℕ)) (failures : R → ℕ) (m : TheMap) (budget : ℕ) (first now : CertReader R) (nodes : List TreeNode) (state : State) : Type 0 where
+pub record IsBehindTree {R : Type 0} (remaining : R → Option (List ℕ)) (failures : R → ℕ) (m : TheMap) (budget : ℕ) (first now : CertReader R) (state : State) : Type 0 where
   pub stands : Stands remaining m first now state
-  pub tree : stands.cert.tree ≡ nodes
-  pub preorder : IsPreorder nodes
-  pub few : length nodes < 2 ^ 32
   pub searched : IsSearched m budget state
   pub behind : IsBehindSearch m state
   pub allowed : AllowsSearch m stands.cert → IfSome (unread remaining first) (TextAllowsSearch m)

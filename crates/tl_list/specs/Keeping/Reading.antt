@@ -14,16 +14,10 @@ use Rattle.tl_list_records.specs.Refusals.Listing.{BeginsWith, ListsAll}
 use Rattle.tl_list.specs.Findings.{HasBeyond}
 use Rattle.tl_list.specs.Keeping.Noting.{NotesSoFar}
 use Rattle.tl_map_rules.specs.Reading.{records_in}
-use Rattle.tl_list_records.specs.Kept.{KeepsRecords}
 use Rattle.tl_map.specs.Collecting.{HasCollected}
-use Rattle.tl_list.specs.declared.reading.BothKept.{BothKept}
+use Rattle.tl_map.specs.declared.collected.CollectedRecords.{CollectedRecords}
 use Rattle.tl_list.specs.declared.reading.Taken.{Taken}
-use Rattle.tl_list.specs.declared.reading.Taken.TheVariants.{Both, Told}
-
--- these records are kept, in this order, and no other
-pub record Keeps (rs : List Record) (both : BothKept) : Type 0 where
-  pub collected : HasCollected rs both.collected
-  pub kept : KeepsRecords rs both.kept
+use Rattle.tl_list.specs.declared.reading.Taken.TheVariants.{Kept, Told}
 
 -- so many records were given of those that were to come at first, and the rest comes now
 abbrev pub IsSoFar : Option Records → Option Records → List Record → Type 0
@@ -31,11 +25,11 @@ IsSoFar at_first now rs =
     IfSome at_first (λ all. (rest : Records) × (now ≡ Some rest) × (records_in all ≡ rs ++ records_in rest) × (all.refusal ≡ rest.refusal)
     × (all.skipped ≡ rest.skipped))
 
--- these records were taken, kept for both, or until they are joined
+-- these records were taken: kept, or told until they are joined
 abbrev pub Takes : Bool → List Record → Taken → Type 0
-Takes false rs (Both both) = Keeps rs both
+Takes false rs (Kept kept) = HasCollected rs kept
 Takes false rs (Told told) = ⊥
-Takes true rs (Both both) = ⊥
+Takes true rs (Kept kept) = ⊥
 Takes true rs (Told told) = HasTold rs told
 
 -- the records with each chain that is told twice once, where they are joined
@@ -62,9 +56,9 @@ pub record TakesAll (joins : Bool) (at_first : Option Records) (skipped : ℕ) (
   pub known : IfSome at_first (λ all. AreWhole all skipped records)
 
 -- all records that were to come are kept, and no line of these is refused
-pub record KeepsAll (at_first : Option Records) (skipped : ℕ) (both : BothKept) : Type 0 where
+pub record KeepsAll (at_first : Option Records) (skipped : ℕ) (kept : CollectedRecords) : Type 0 where
   pub records : List Record
-  pub keeps : Keeps records both
+  pub keeps : HasCollected records kept
   pub known : IfSome at_first (λ all. AreWhole all skipped records)
 
 -- all refused lines are listed, of which there is none unless they are skipped
@@ -85,9 +79,9 @@ MayTake joins skips remaining old new refused (Some taken) =
 MayTake joins skips remaining old new refused None = IsStopped skips (refusals_to_come remaining old) refused
 
 -- what was read: the same, kept, and joined where that is asked
-abbrev pub MayRead : {R : Type 0} → (joins skips : Bool) → (R → Option (List ℕ)) → (old new : RecordReader R) → List Refusal → Option BothKept → Type 0
-MayRead joins skips remaining old new refused (Some both) =
-    KeepsAll (option_map (joined_where joins) (left_to_come remaining old)) (skipped_of new) both × ListsSkipped skips (refusals_to_come remaining old) refused
+abbrev pub MayRead : {R : Type 0} → (joins skips : Bool) → (R → Option (List ℕ)) → (old new : RecordReader R) → List Refusal → Option CollectedRecords → Type 0
+MayRead joins skips remaining old new refused (Some kept) =
+    KeepsAll (option_map (joined_where joins) (left_to_come remaining old)) (skipped_of new) kept × ListsSkipped skips (refusals_to_come remaining old) refused
 MayRead joins skips remaining old new refused None = IsStopped skips (refusals_to_come remaining old) refused
 
 -- behind these lines a refused one is listed, and where it is the first that was to come, all others

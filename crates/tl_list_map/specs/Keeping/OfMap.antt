@@ -29,7 +29,7 @@ IsListingOfMap m (Faults faults touched) = (faults.items ≢ []) × AreMapFaults
 
 -- some fault is true of the map
 abbrev pub IsFaulty : TheMap → Type 0
-IsFaulty m = (fault : MapFault) × IsTrueOfMap false m fault
+IsFaulty m = (fault : MapFault) × IsTrueOfMap m fault
 
 -- to the faults are appended all that tells whether sides and zero-cell ids agree; these polygons are touched
 pub record AddsAgreement (m : TheMap) (touched : List ℕ) (old new : List MapFault) : Type 0 where

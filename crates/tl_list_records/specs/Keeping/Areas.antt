@@ -5,14 +5,17 @@ use Rattle.std.specs.List.Sorted.{IsPermutation}
 use Rattle.tl_record_key.specs.declared.key.PolyKey.{PolyKey}
 use Rattle.tl_record.specs.declared.record.Record.{Record}
 use Rattle.tl_map_rules.specs.declared.entry.LinkEntry.{LinkEntry}
+use Rattle.tl_map_rules.specs.declared.entry.SidesEntry.{SidesEntry}
 use Rattle.tl_map_rules.specs.MapOf.{sides_in, polygons_in, landmarks_in, links_in, keys}
-use Rattle.tl_list_records.specs.declared.collect.NamedSide.{NamedSide}
+use Rattle.tl_list_records.specs.declared.kept.NamedSide.{NamedSide}
 use Rattle.tl_list_records.specs.Kept.{names_of}
 
 -- the keys of the type P records, those that sides name, the LANDs of the type 7 records, and the type 8 records with their LANDs
 pub record AreAreas (rs : List Record) (polygons : List PolyKey) (names : List NamedSide) (landmarks : List ℕ) (links : List LinkEntry) (lands : List ℕ) : Type 0 where
+  pub entries : List SidesEntry
+  pub moved : IsPermutation (sides_in rs) entries
   pub of_polygons : IsPermutation (keys (polygons_in rs)) polygons
-  pub of_sides : names ≡ flat_map names_of (sides_in rs)
+  pub of_sides : names ≡ flat_map names_of entries
   pub of_landmarks : IsPermutation (map (λ e. e.land) (landmarks_in rs)) landmarks
   pub of_links : links ≡ links_in rs
   pub of_lands : IsPermutation (map (λ l. l.land) (links_in rs)) lands

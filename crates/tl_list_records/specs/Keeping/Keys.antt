@@ -8,7 +8,7 @@ use Rattle.tl_record_key.specs.declared.key.PolyKey.{PolyKey}
 use Rattle.tl_map_rules.specs.declared.entry.LinkEntry.{LinkEntry}
 use Rattle.tl_map_rules.specs.declared.fault.RecordFault.{RecordFault}
 use Rattle.tl_map_rules.specs.declared.fault.RecordFault.TheVariants.{SideWithoutPolygon, LinkWithoutPolygon}
-use Rattle.tl_list_records.specs.declared.collect.NamedSide.{NamedSide}
+use Rattle.tl_list_records.specs.declared.kept.NamedSide.{NamedSide}
 
 -- both parts of a key
 abbrev pub parts : PolyKey → ℕ × List ℕ

@@ -1,5 +1,5 @@
 -- Kept on the way: entries of type 1 and type 2 records, and their order.
-use Rattle.std.specs.Prelude.{◌≡◌, ℕ, ◌+◌, ◌<◌, ◌≤◌, nat_lt, Bool, true, ◌&&◌, ◌==◌, if◌then◌else◌, Option, List, [], ◌∷◌, ◌++◌, length, take, drop, filter, sum_by, count_by, All, Contains, slice_index_or}
+use Rattle.std.specs.Prelude.{◌≡◌, ℕ, ◌+◌, ◌<◌, ◌≤◌, nat_lt, Bool, true, ◌&&◌, ◌==◌, Option, List, [], ◌∷◌, ◌++◌, length, take, filter, sum_by, count_by, All, Contains, slice_index_or}
 use Rattle.std.specs.List.{dedup, flat_map}
 use Rattle.tl_geom.specs.declared.point.Point.{Point}
 use Rattle.tl_record.specs.declared.record.Record.{Record}
@@ -8,13 +8,9 @@ use Rattle.tl_map_rules.specs.declared.entry.ChainEntry.{ChainEntry}
 use Rattle.tl_map_rules.specs.declared.entry.ShapeEntry.{ShapeEntry}
 use Rattle.tl_map_rules.specs.declared.entry.Fill.{Fill}
 use Rattle.tl_map_rules.specs.declared.entry.Fill.TheVariants.{Full, Ended, Gap}
-use Rattle.tl_map_rules.specs.ChainsOf.{same_point, used, has_gap}
+use Rattle.tl_map_rules.specs.ChainsOf.{same_point, used}
 use Rattle.tl_map_county.specs.Chains.{CompleteChain}
-use Rattle.tl_map_rules.specs.Keeping.Pairs.{some_unused}
-
--- how the pairs are filled
-abbrev pub fill_of : List (Option Point) → Fill
-fill_of pairs = if has_gap pairs then Gap else (if some_unused pairs then Ended else Full)
+use Rattle.tl_list_records.specs.Shapes.{fill_of, entry_points, IsInside}
 
 -- a number for each type 1 record, and 0 for others
 abbrev pub by_chain : (ℕ → Point → Point → ℕ) → Record → ℕ
@@ -30,14 +26,6 @@ by_shape f other = 0
 pub record AreChainEntries (rs : List Record) (entries : List ChainEntry) : Type 0 where
   pub sums : (f : ℕ → Point → Point → ℕ) → sum_by (λ c. f c.tlid c.from c.to) entries ≡ sum_by (by_chain f) rs
   pub each : All (λ c. Contains rs (Chain c.tlid c.from c.to)) entries
-
--- the points of the entry in the shared list
-abbrev pub entry_points : List Point → ShapeEntry → List Point
-entry_points pool s = take s.used (drop s.first pool)
-
--- the entry's points lie within the shared list
-abbrev pub IsInside : List Point → ShapeEntry → Type 0
-IsInside pool s = s.first + s.used ≤ length pool
 
 -- the entry stands for a type 2 record
 pub record IsShapeEntry (rs : List Record) (pool : List Point) (s : ShapeEntry) : Type 0 where

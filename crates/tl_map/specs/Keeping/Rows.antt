@@ -13,7 +13,8 @@ use Rattle.tl_map_county.specs.declared.chains.ChainRow.{ChainRow}
 use Rattle.tl_map_county.specs.Chains.{CompleteChain, ChainList, segment_count}
 use Rattle.tl_map_county.specs.Rows.{IsTable, chains_in}
 use Rattle.tl_map_rules.specs.ChainsOf.{same_point}
-use Rattle.tl_map.specs.Keeping.Entries.{entry_points, joined}
+use Rattle.tl_list_records.specs.Shapes.{entry_points}
+use Rattle.tl_map.specs.Keeping.Entries.{joined}
 
 -- the points of a chain with these between its start and its end
 abbrev pub drawn_through : ChainEntry → List Point → List Point

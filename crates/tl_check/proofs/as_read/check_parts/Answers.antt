@@ -1,10 +1,11 @@
-use Rattle.std.proofs.Common.{Ok, Err, sym, subst, ◌∙◌}
+use Rattle.std.proofs.Common.{Ok, Err, subst, ◌∙◌}
 use Rattle.tl_cert.specs.Given.{with_part}
 use Rattle.tl_cert.specs.Reading.{Gives, source_of, standing_of}
 use Rattle.tl_cert.proofs.CollectLemmas.{tells_here}
 use Rattle.tl_check.specs.Keeping.Answers.{answer_of, stop_of}
 use Rattle.tl_check_verdict.specs.Valid.{AreCounts, IsTree}
 use Rattle.tl_check.proofs.Searched.{stopped_searched, stopped_behind, stopped_within, answered_behind, answered_within, ended_searched, searched_so}
+use Rattle.tl_check.proofs.Facing.{sound_so}
 use Rattle.tl_check.proofs.Streaming.{stop_decides, part_read, end_decides, no_device, fewer_left}
 use Rattle.tl_check.proofs.Stopping.{stopped_tells, answered_tells, ended_decides}
 use Rattle.tl_check.proofs.Meeting.{meets_so}
@@ -27,7 +28,6 @@ parts-init g c =
     let b = c.in-Ok.ensures.begins in
     record {
       stands = b.stands;
-      tree = b.tree;
       searched = b.searched;
       behind = b.behind;
       allowed = b.allowed;
@@ -58,7 +58,6 @@ parts-preserved g c =
         holds = led.holds st.cert st.holds;
         suits = r.suits c.in-Ok-take_part.next led.takes;
       };
-      tree = r.tree ∙ c.parts.invariant.tree;
       searched = led.searched c.args.budget c.parts.invariant.searched;
       behind = led.behind c.parts.invariant.behind;
       allowed = λ allows. c.parts.invariant.allowed (record { counts = subst (AreCounts c.args.map.now) r.counts allows.counts; tree = subst (IsTree c.args.map.now) r.tree allows.tree });
@@ -93,13 +92,13 @@ pub returns-in-Ok-None-clause-answers : goal.returns-in-Ok-None-clause-answers
 returns-in-Ok-None-clause-answers g c =
     let st = c.parts.invariant.stands in
     let gives = subst (λ a. Gives g.R.Source.remaining c.parts.reader c.next_part.new.self (Ok a) (standing_of c.parts.reader)) c.in-Ok-None.field-0-is c.in-Ok-None.ensures.gives in
-    let so = c.conclude.ensures.concludes st.cert st.holds in
+    let so = c.conclude.ensures.concluded.concludes st.cert st.holds in
     record {
       decides = end_decides g.R.Source.remaining c.args.map.now c.args.budget c.args.reader.now c.parts.reader c.next_part.new.self c.parts.state c.conclude.result st gives so;
-      within = c.conclude.ensures.within c.args.budget c.parts.invariant.searched;
-      behind = c.conclude.ensures.behind c.parts.invariant.behind;
+      within = c.conclude.ensures.concluded.within c.args.budget c.parts.invariant.searched;
+      behind = c.conclude.ensures.concluded.behind c.parts.invariant.behind;
       meets = meets_so c.conclude.result _ c.parts.invariant.planar;
-      searched = searched_so c.conclude.result _ _ c.conclude.ensures.allowed (λ allows. c.parts.invariant.allowed (allows st.cert st.holds));
+      searched = searched_so c.conclude.result _ _ c.conclude.ensures.concluded.allowed (λ allows. c.parts.invariant.allowed (allows st.cert st.holds));
       tells = no_device c.args.map.now st.cert c.conclude.result (g.R.Source.failure_count (source_of c.args.reader.now)) (g.R.Source.failure_count (source_of c.next_part.new.self)) so
           (tells_here (standing_of c.parts.reader) st.place (g.R.Source.failure_count (source_of c.parts.reader)) (g.R.Source.failure_count (source_of c.next_part.new.self)) (Ok c.in-Ok-None.field-0) st.collects.standing c.in-Ok-None.ensures.failures ∙ c.parts.invariant.failures);
     }
@@ -124,13 +123,14 @@ returns-in-Err-next_part-clause-answers g c =
 pub returns-in-Err-next_part-clause-same_reference : goal.returns-in-Err-next_part-clause-same_reference
 returns-in-Err-next_part-clause-same_reference g c = c.next_part.ensures.same_reference ∙ c.parts.invariant.same
 
-pub conclude-requires-clause-whole : goal.conclude-requires-clause-whole
-conclude-requires-clause-whole g c = rw c.deref.ensures.value c.in-Ok.ensures.begins.preorder
+pub conclude-requires : goal.conclude-requires
+conclude-requires g c = let st = c.parts.invariant.stands in record { held = (st.cert, st.holds) }
 
-pub conclude-requires-clause-numbered : goal.conclude-requires-clause-numbered
-conclude-requires-clause-numbered g c = rw c.deref.ensures.value c.in-Ok.ensures.begins.few
+pub returns-in-Err-take_part-clause-told : goal.returns-in-Err-take_part-clause-told
+returns-in-Err-take_part-clause-told g c = rw c.answer.ensures (answered_within c.in-Err-take_part.halt _)
 
-pub conclude-requires-clause-held : goal.conclude-requires-clause-held
-conclude-requires-clause-held g c =
-    let st = c.parts.invariant.stands in
-    (st.cert, st.holds, c.parts.invariant.tree ∙ sym c.deref.ensures.value)
+pub returns-in-Err-next_part-clause-told : goal.returns-in-Err-next_part-clause-told
+returns-in-Err-next_part-clause-told g c = rw c.stopped.ensures (stopped_within c.in-Err-next_part.stop _)
+
+pub returns-in-Err-clause-told : goal.returns-in-Err-clause-told
+returns-in-Err-clause-told g c = sound_so c.in-Err.early ⊥ _ c.in-Err.ensures.early (λ no. absurd no)

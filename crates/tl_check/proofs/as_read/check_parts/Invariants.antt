@@ -9,11 +9,10 @@ use Rattle.tl_check.specs.Keeping.Streams.{Stands}
 use Rattle.tl_check.proofs.Meeting.{PlanarBy}
 use Rattle.tl_check.proofs.as_read.check_parts.Given as goal
 
--- the state holds of the parts so far, whose tree is kept, a search was made if it may be, and no read has failed
+-- the state holds of the parts so far, a search was made if it may be, and no read has failed
 abbrev pub invariant-parts : goal.invariant-parts
 invariant-parts g l = record {
   stands : Stands g.R.Source.remaining l.map l.fn.reader l.reader l.state;
-  tree : stands.cert.tree ≡ l.nodes.items;
   searched : IsSearched l.map l.budget l.state;
   behind : IsBehindSearch l.map l.state;
   allowed : AllowsSearch l.map stands.cert → IfSome (unread g.R.Source.remaining l.fn.reader) (TextAllowsSearch l.map);

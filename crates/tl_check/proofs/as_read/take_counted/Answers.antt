@@ -10,17 +10,14 @@ take_tree-requires-clause-whole c = c.requires.whole
 pub take_tree-requires-clause-numbered : goal.take_tree-requires-clause-numbered
 take_tree-requires-clause-numbered c = c.requires.numbered
 
-pub returns-then-are_counts-clause-leads : goal.returns-then-are_counts-clause-leads
-returns-then-are_counts-clause-leads c = counted_so c.args.map.now c.args.budget c.args.counts c.args.nodes.now c.take_tree.result (c.are_counts.ensures.0 c.if-are_counts.true) c.take_tree.ensures.leads
+pub returns-then-are_counts : goal.returns-then-are_counts
+returns-then-are_counts c = counted_so c.args.map.now c.args.budget c.args.counts c.args.nodes.now c.take_tree.result (c.are_counts.ensures.0 c.if-are_counts.true) c.take_tree.ensures
 
-pub returns-else-are_counts-clause-leads : goal.returns-else-are_counts-clause-leads
-returns-else-are_counts-clause-leads c = record {
+pub returns-else-are_counts : goal.returns-else-are_counts
+returns-else-are_counts c = record {
   holds = λ cert counts tree rounds walks.
       wrong_counts c.args.map.now cert c.args.counts counts (λ are. false≢true (sym c.if-are_counts.false ∙ c.are_counts.ensures.1 are));
   rounds = tt;
   searched = tt;
   behind = λ of_darts. absurd of_darts;
 }
-
-pub take_tree-requires-clause-told : goal.take_tree-requires-clause-told
-take_tree-requires-clause-told c = c.requires.told

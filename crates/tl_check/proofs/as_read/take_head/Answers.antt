@@ -72,16 +72,13 @@ returns-in-Ok-take_counted-clause-begins g c =
     let r = counts_read g.R.Source.remaining c.args.map.now c.args.budget c.args.reader.now c.next_part.new.self c.in-Ok-Some-Counts.counts c.in-Ok-Some-Counts.field-0-0-1 c.requires.standing c.requires.lines first in
     let second = gives_as g.R.Source.remaining c.next_part.new.self c.next_part-2.new.self c.in-Ok-Some-Tree.field-0 c.in-Ok-Some-Tree.field-0-0 (part.Tree c.in-Ok-Some-Tree.nodes) c.in-Ok-Some-Tree.field-0-is c.in-Ok-Some-Tree.field-0-0-is c.in-Ok-Some-Tree.ensures.gives in
     let t = tree_read g.R.Source.remaining c.args.map.now c.args.budget c.args.reader.now c.next_part.new.self c.next_part-2.new.self c.in-Ok-Some-Counts.counts c.in-Ok-Some-Tree.nodes r second in
-    let holds = c.in-Ok-take_counted.ensures.leads.holds t.cert t.counts_are (t.tree_is ∙ sym c.deref.ensures.value) t.no_rounds t.no_walks in
+    let holds = c.in-Ok-take_counted.ensures.holds t.cert t.counts_are (t.tree_is ∙ sym c.deref.ensures.value) t.no_rounds t.no_walks in
     record {
-      stands = record { place = Treed t.version; cert = t.cert; collects = t.collects; holds = holds; suits = c.in-Ok-take_counted.ensures.leads.rounds };
-      tree = t.tree_is;
-      preorder = t.preorder;
-      few = t.few;
-      searched = c.in-Ok-take_counted.ensures.leads.searched;
-      behind = c.in-Ok-take_counted.ensures.leads.behind;
+      stands = record { place = Treed t.version; cert = t.cert; collects = t.collects; holds = holds; suits = c.in-Ok-take_counted.ensures.rounds };
+      searched = c.in-Ok-take_counted.ensures.searched;
+      behind = c.in-Ok-take_counted.ensures.behind;
       allowed = reads_allowed g.R.Source.remaining c.args.map.now t.version t.cert c.args.reader.now c.next_part-2.new.self t.collects;
-      planar = taken_planar g.R.Source.remaining c.args.map.now c.args.reader.now t.version c.next_part-2.new.self t.cert c.in-Ok-take_counted.state t.collects holds c.in-Ok-take_counted.ensures.leads.behind;
+      planar = taken_planar g.R.Source.remaining c.args.map.now c.args.reader.now t.version c.next_part-2.new.self t.cert c.in-Ok-take_counted.state t.collects holds c.in-Ok-take_counted.ensures.behind;
       no_failure =
           tells_here (standing_of c.next_part.new.self) (Counted r.version) (g.R.Source.failure_count (source_of c.next_part.new.self)) (g.R.Source.failure_count (source_of c.next_part-2.new.self)) (Ok c.in-Ok-Some-Tree.field-0) r.collects.standing c.in-Ok-Some-Tree.ensures.failures
           ∙ tells_here (standing_of c.args.reader.now) Start (g.R.Source.failure_count (source_of c.args.reader.now)) (g.R.Source.failure_count (source_of c.next_part.new.self)) (Ok c.in-Ok-Some-Counts.field-0) c.requires.standing c.in-Ok-Some-Counts.ensures.failures;
@@ -103,11 +100,11 @@ returns-clause-answers g c =
     let second = gives_as g.R.Source.remaining c.next_part.new.self c.next_part-2.new.self c.in-Ok-Some-Tree.field-0 c.in-Ok-Some-Tree.field-0-0 (part.Tree c.in-Ok-Some-Tree.nodes) c.in-Ok-Some-Tree.field-0-is c.in-Ok-Some-Tree.field-0-0-is c.in-Ok-Some-Tree.ensures.gives in
     let t = tree_read g.R.Source.remaining c.args.map.now c.args.budget c.args.reader.now c.next_part.new.self c.next_part-2.new.self c.in-Ok-Some-Counts.counts c.in-Ok-Some-Tree.nodes r second in
     rw c.answer.ensures (record {
-      decides = halted_decides c.args.map.now c.args.budget _ c.in-Err-take_counted.halt c.in-Err-take_counted.ensures.leads.halts;
+      decides = halted_decides c.args.map.now c.args.budget _ c.in-Err-take_counted.halt c.in-Err-take_counted.ensures.halts;
       within = answered_within c.in-Err-take_counted.halt _;
       behind = answered_behind c.in-Err-take_counted.halt _;
-      meets = halted_meets c.in-Err-take_counted.halt _ _ c.in-Err-take_counted.ensures.leads.meets (planar_by c.args.map.now _);
-      searched = halted_searched c.in-Err-take_counted.halt _ _ c.in-Err-take_counted.ensures.leads.tree
+      meets = halted_meets c.in-Err-take_counted.halt _ _ c.in-Err-take_counted.ensures.meets (planar_by c.args.map.now _);
+      searched = halted_searched c.in-Err-take_counted.halt _ _ c.in-Err-take_counted.ensures.tree
           (λ so. reads_allowed g.R.Source.remaining c.args.map.now t.version t.cert c.args.reader.now c.next_part-2.new.self t.collects (record {
             counts = subst (AreCounts c.args.map.now) (sym t.counts_are) so.0;
             tree = subst (IsTree c.args.map.now) (c.deref.ensures.value ∙ sym t.tree_is) so.1;
@@ -119,3 +116,12 @@ returns-clause-answers g c =
 
 pub returns-clause-same_reference : goal.returns-clause-same_reference
 returns-clause-same_reference g c = c.next_part-2.ensures.same_reference ∙ c.next_part.ensures.same_reference
+
+pub returns-in-Err-clause-early : goal.returns-in-Err-clause-early
+returns-in-Err-clause-early g c = rw c.stopped.ensures (stopped_within c.in-Err.stop _)
+
+pub returns-in-Err-next_part-clause-early : goal.returns-in-Err-next_part-clause-early
+returns-in-Err-next_part-clause-early g c = rw c.stopped-in-Err-next_part.ensures (stopped_within c.in-Err-next_part.stop _)
+
+pub returns-clause-early : goal.returns-clause-early
+returns-clause-early g c = rw c.answer.ensures (answered_within c.in-Err-take_counted.halt _)

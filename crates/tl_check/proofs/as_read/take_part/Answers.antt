@@ -1,9 +1,9 @@
 use Rattle.std.proofs.Common.{sym, subst}
 use Rattle.std.proofs.lemmas.Result.{err_from_is_err_and}
 use Rattle.tl_cert.specs.Given.{with_part}
-use Rattle.tl_check.specs.Keeping.Parts.{IsLed, Leads, TakesRounds, with_round, with_walk}
-use Rattle.tl_check.specs.Keeping.Streams.{MayCome, TakesBehind, LeadsBy}
-use Rattle.tl_check.proofs.Walking.{leads_on, leads_walk}
+use Rattle.tl_check.specs.Keeping.Parts.{IsLed, TakesRounds, TakesWalks, with_round, with_walk}
+use Rattle.tl_check.specs.Keeping.Streams.{MayCome, TakesBehind}
+use Rattle.tl_check.proofs.Walking.{led_on}
 use Rattle.tl_check.proofs.as_read.take_part.Goals as goal
 
 pub take_round-requires-clause-some : goal.take_round-requires-clause-some
@@ -31,10 +31,9 @@ returns-in-Round c =
 
 pub returns-in_ok-ended-in-Walk : goal.returns-in_ok-ended-in-Walk
 returns-in_ok-ended-in-Walk c =
-    subst (λ p. LeadsBy c.args.map.now p c.args.state c.take_walk.result) (sym c.in-Walk.is)
-    (leads_walk c.args.map.now c.in-Walk.darts c.args.state c.take_walk.result
-    (leads_on c.args.map.now c.in-Walk.darts.items c.args.state c.in_ok-ended-in-Walk.ended c.take_walk.result c.in_ok-ended-in-Walk.ensures
-    (subst (λ darts. Leads c.args.map.now (λ cert. with_walk cert darts) c.in_ok-ended-in-Walk.ended c.take_walk.result) c.deref-in-Walk.ensures.value c.take_walk.ensures)))
+    subst (λ p. IsLed c.args.map.now (λ cert. with_part cert p) (TakesBehind p) c.args.state c.take_walk.result) (sym c.in-Walk.is)
+    (led_on c.args.map.now c.in-Walk.darts.items c.args.state c.in_ok-ended-in-Walk.ended c.take_walk.result c.in_ok-ended-in-Walk.ensures
+    (subst (λ darts. IsLed c.args.map.now (λ cert. with_walk cert darts) TakesWalks c.in_ok-ended-in-Walk.ended c.take_walk.result) c.deref-in-Walk.ensures.value c.take_walk.ensures))
 
 pub returns-in_err-ended-in-Walk : goal.returns-in_err-ended-in-Walk
 returns-in_err-ended-in-Walk c = let p = err_from_is_err_and c.from_residual.result c.from_residual.ensures.1 in rw (c.in-Walk.is, p.1, p.2) c.in_err-ended-in-Walk.ensures

@@ -3,17 +3,18 @@ use Rattle.tl_check_verdict.specs.Valid.{AreCounts, IsTree}
 use Rattle.tl_check.specs.Keeping.Parts.{Holds, UnlessMemory}
 use Rattle.tl_check_sides.proofs.Lent.{list_is}
 use Rattle.tl_check.proofs.Prefixes.{first_rounds, first_walks, all_rounds, all_walks, as_many, round_taken, walk_taken, has_some}
-use Rattle.tl_check.proofs.Halting.{halted, ended, allowed_rounds, allowed_walks, concluded_shows}
+use Rattle.tl_check.proofs.Halting.{halted, ended, allowed_rounds, concluded_shows}
 use Rattle.tl_check.proofs.Meeting.{halted_meets, meets_so, rounds_planar, walks_planar}
+use Rattle.tl_check.proofs.Searched.{answered_within}
 use Rattle.tl_check.specs.Keeping.Answers.{answer_of}
 use Rattle.tl_check.proofs.in_memory.check_whole.Goals as goal
 
 pub loop-round-init : goal.loop-round-init
 loop-round-init c = record {
-  holds = c.in-Ok.ensures.leads.holds (first_rounds c.args.cert.now 0) (sym c.counts.ensures) (sym c.tree.ensures.tree) refl refl;
-  takes = c.in-Ok.ensures.leads.rounds;
-  searched = c.in-Ok.ensures.leads.searched;
-  behind = c.in-Ok.ensures.leads.behind;
+  holds = c.in-Ok.ensures.holds (first_rounds c.args.cert.now 0) (sym c.counts.ensures) (sym c.tree.ensures.tree) refl refl;
+  takes = c.in-Ok.ensures.rounds;
+  searched = c.in-Ok.ensures.searched;
+  behind = c.in-Ok.ensures.behind;
 }
 
 pub take_round-state-requires-clause-some : goal.take_round-state-requires-clause-some
@@ -56,8 +57,8 @@ loop-walk-init c =
       behind = c.in-Ok-end_rounds.ensures.behind c.loop-round.invariant.behind;
     }
 
-pub take_walk-requires-clause-some : goal.take_walk-requires-clause-some
-take_walk-requires-clause-some c =
+pub take_walk-state-requires-clause-some : goal.take_walk-state-requires-clause-some
+take_walk-state-requires-clause-some c =
     let vs = c.walks-walk-items.result.now in
     let i = c.loop-walk.walk-index in
     let test = c.loop-walk-test.true in
@@ -73,38 +74,30 @@ loop-walk-preserved c =
     let test = c.loop-walk-test.true in
     let many : length vs ≡ length c.args.cert.now.walks = as_many vs c.args.cert.now.walks c.walks-walk-items.ensures.walks in
     record {
-      holds = walk_taken c.args.map.now c.args.cert.now i c.deref-in-loop-walk.result.now c.in-Ok-take_walk.state
+      holds = walk_taken c.args.map.now c.args.cert.now i c.deref-in-loop-walk.result.now c.take_walk-state.result
           (list_is vs c.args.cert.now.walks i c.walk-item.result c.deref-in-loop-walk.result.now c.walks-walk-items.ensures.walks test c.walk-item.is c.deref-in-loop-walk.ensures.value)
           (omega (arith, many, test))
-          (c.in-Ok-take_walk.ensures.holds (first_walks c.args.cert.now i) c.loop-walk.invariant.holds);
-      takes = c.in-Ok-take_walk.ensures.takes;
-      searched = c.in-Ok-take_walk.ensures.searched c.args.budget c.loop-walk.invariant.searched;
-      behind = c.in-Ok-take_walk.ensures.behind c.loop-walk.invariant.behind;
+          (c.take_walk-state.ensures.holds (first_walks c.args.cert.now i) c.loop-walk.invariant.holds);
+      takes = c.take_walk-state.ensures.takes;
+      searched = c.take_walk-state.ensures.searched c.args.budget c.loop-walk.invariant.searched;
+      behind = c.take_walk-state.ensures.behind c.loop-walk.invariant.behind;
     }
 
 pub returns-in-Err-clause-shows : goal.returns-in-Err-clause-shows
-returns-in-Err-clause-shows c = rw c.answer.ensures (halted c.args.map.now c.args.cert.now c.args.budget c.in-Err.halt c.in-Err.ensures.leads.halts
+returns-in-Err-clause-shows c = rw c.answer.ensures (halted c.args.map.now c.args.cert.now c.args.budget c.in-Err.halt c.in-Err.ensures.halts
     (subst (λ tree. UnlessMemory c.in-Err.halt (AreCounts c.args.map.now c.args.cert.now.counts × IsTree c.args.map.now tree)) c.tree.ensures.tree
-    (subst (λ counts. UnlessMemory c.in-Err.halt (AreCounts c.args.map.now counts × IsTree c.args.map.now c.tree.result.now)) c.counts.ensures c.in-Err.ensures.leads.tree)))
+    (subst (λ counts. UnlessMemory c.in-Err.halt (AreCounts c.args.map.now counts × IsTree c.args.map.now c.tree.result.now)) c.counts.ensures c.in-Err.ensures.tree)))
 
 pub returns-in-Err-end_rounds-clause-shows : goal.returns-in-Err-end_rounds-clause-shows
 returns-in-Err-end_rounds-clause-shows c = rw c.answer-in-Err-end_rounds.ensures (ended c.args.map.now c.args.cert.now c.args.budget c.in-Err-end_rounds.halt c.in-Err-end_rounds.ensures.halts
     (allowed_rounds c.args.map.now c.args.cert.now c.loop-round.round-index (c.in-Err-end_rounds.ensures.allowed (first_rounds c.args.cert.now c.loop-round.round-index) c.loop-round.invariant.holds)))
 
-pub returns-in-Err-take_walk-clause-shows : goal.returns-in-Err-take_walk-clause-shows
-returns-in-Err-take_walk-clause-shows c = rw c.answer-in-Err-take_walk.ensures (ended c.args.map.now c.args.cert.now c.args.budget c.in-Err-take_walk.halt c.in-Err-take_walk.ensures.halts
-    (allowed_walks c.args.map.now c.args.cert.now c.loop-walk.walk-index (c.in-Err-take_walk.ensures.allowed (first_walks c.args.cert.now c.loop-walk.walk-index) c.loop-walk.invariant.holds)))
-
 pub returns-in-Err-clause-meets : goal.returns-in-Err-clause-meets
-returns-in-Err-clause-meets c = rw c.answer.ensures (halted_meets c.in-Err.halt _ _ c.in-Err.ensures.leads.meets (λ planar allows. planar))
+returns-in-Err-clause-meets c = rw c.answer.ensures (halted_meets c.in-Err.halt _ _ c.in-Err.ensures.meets (λ planar allows. planar))
 
 pub returns-in-Err-end_rounds-clause-meets : goal.returns-in-Err-end_rounds-clause-meets
 returns-in-Err-end_rounds-clause-meets c = rw c.answer-in-Err-end_rounds.ensures (meets_so (answer_of c.in-Err-end_rounds.halt) _
     (rounds_planar c.args.map.now c.args.cert.now c.loop-round.round-index _ c.loop-round.invariant.holds c.loop-round.invariant.behind))
-
-pub returns-in-Err-take_walk-clause-meets : goal.returns-in-Err-take_walk-clause-meets
-returns-in-Err-take_walk-clause-meets c = rw c.answer-in-Err-take_walk.ensures (meets_so (answer_of c.in-Err-take_walk.halt) _
-    (walks_planar c.args.map.now c.args.cert.now c.loop-walk.walk-index _ c.loop-walk.invariant.holds c.loop-walk.invariant.behind))
 
 pub take_counted-requires-clause-whole : goal.take_counted-requires-clause-whole
 take_counted-requires-clause-whole c = rw c.tree.ensures.tree c.tree.ensures.preorder
@@ -118,17 +111,14 @@ take_round-state-requires-clause-takes c = c.loop-round.invariant.takes
 pub end_rounds-requires : goal.end_rounds-requires
 end_rounds-requires c = record { held = (first_rounds c.args.cert.now c.loop-round.round-index, c.loop-round.invariant.holds) }
 
-pub take_walk-requires-clause-held : goal.take_walk-requires-clause-held
-take_walk-requires-clause-held c = (first_walks c.args.cert.now c.loop-walk.walk-index, c.loop-walk.invariant.holds)
+pub take_walk-state-requires-clause-held : goal.take_walk-state-requires-clause-held
+take_walk-state-requires-clause-held c = (first_walks c.args.cert.now c.loop-walk.walk-index, c.loop-walk.invariant.holds)
 
-pub take_walk-requires-clause-takes : goal.take_walk-requires-clause-takes
-take_walk-requires-clause-takes c = c.loop-walk.invariant.takes
+pub take_walk-state-requires-clause-takes : goal.take_walk-state-requires-clause-takes
+take_walk-state-requires-clause-takes c = c.loop-walk.invariant.takes
 
-pub conclude-requires-clause-whole : goal.conclude-requires-clause-whole
-conclude-requires-clause-whole c = rw c.tree-2.ensures.tree c.tree-2.ensures.preorder
-
-pub conclude-requires-clause-held : goal.conclude-requires-clause-held
-conclude-requires-clause-held c = (first_walks c.args.cert.now c.loop-walk.walk-index, c.loop-walk.invariant.holds, sym c.tree-2.ensures.tree)
+pub conclude-requires : goal.conclude-requires
+conclude-requires c = record { held = (first_walks c.args.cert.now c.loop-walk.walk-index, c.loop-walk.invariant.holds) }
 
 pub returns-clause-shows : goal.returns-clause-shows
 returns-clause-shows c =
@@ -137,7 +127,13 @@ returns-clause-shows c =
     let test = c.loop-walk-test.false in
     let many : length vs ≡ length c.args.cert.now.walks = as_many vs c.args.cert.now.walks c.walks-walk-items.ensures.walks in
     let holds = subst (λ d. Holds c.args.map.now d c.loop-walk.state) (all_walks c.args.cert.now i (omega (arith, many, test))) c.loop-walk.invariant.holds in
-    concluded_shows c.args.map.now c.args.cert.now c.args.budget c.loop-walk.state c.conclude.result holds c.loop-walk.invariant.searched c.loop-walk.invariant.behind c.conclude.ensures
+    concluded_shows c.args.map.now c.args.cert.now c.args.budget c.loop-walk.state c.conclude.result holds c.loop-walk.invariant.searched c.loop-walk.invariant.behind c.conclude.ensures.concluded
 
 pub returns-clause-meets : goal.returns-clause-meets
 returns-clause-meets c = meets_so c.conclude.result _ (walks_planar c.args.map.now c.args.cert.now c.loop-walk.walk-index _ c.loop-walk.invariant.holds c.loop-walk.invariant.behind)
+
+pub returns-in-Err-clause-told : goal.returns-in-Err-clause-told
+returns-in-Err-clause-told c = rw c.answer.ensures (answered_within c.in-Err.halt _)
+
+pub returns-in-Err-end_rounds-clause-told : goal.returns-in-Err-end_rounds-clause-told
+returns-in-Err-end_rounds-clause-told c = rw c.answer-in-Err-end_rounds.ensures (answered_within c.in-Err-end_rounds.halt _)

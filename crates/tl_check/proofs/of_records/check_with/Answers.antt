@@ -1,13 +1,10 @@
-use Rattle.std.proofs.Common.{◌≤◌, ℕ, List}
-use Rattle.std.specs.Option.{IfSome}
+use Rattle.std.proofs.Common.{ℕ, List}
 use Rattle.tl_record.specs.Layout.{layout_with}
 use Rattle.tl_record.specs.Records.{records_of}
-use Rattle.tl_check_planar.specs.Planar.{IsPlanar}
-use Rattle.tl_check_planar.specs.Searching.{meeting_segments}
 use Rattle.tl_check_verdict.specs.Sound.{IsSoundFor}
-use Rattle.tl_check_verdict.specs.Verdicts.{IsReport}
-use Rattle.tl_check_verdict.specs.Texts.{IsTrueOfText, IsValidText, TextAllowsSearch}
-use Rattle.tl_check.proofs.Reading.{read_on_sound, read_but_faces, read_on_text, read_if_sound, read_map_fault, read_cert_fault, read_behind, read_meets}
+use Rattle.tl_check_verdict.specs.Verdicts.{IsReport, IsWithinBudget}
+use Rattle.tl_check_verdict.specs.Texts.{IsTrueWhereKnown, IsValidWhereKnown, AllowsSearchWhereKnown, IsPlanarWhereAllowed}
+use Rattle.tl_check.proofs.Reading.{read_on_sound, read_but_faces, read_if_sound, read_map_fault, read_cert_fault, read_behind, read_meets}
 use Rattle.tl_check.proofs.Reading.{read_searched, read_stops, read_unread, read_tells}
 use Rattle.tl_check.proofs.of_records.check_with.Goals as goal
 
@@ -28,19 +25,19 @@ returns g c =
     let stops = c.read_map_with-read.ensures.stops in
     record {
       sound = read_on_sound rem fails of text faces budget old new answer read so is stops (IsSoundFor faces) (λ m k. k.decides.sound);
-      valid = read_on_text rem fails of text faces budget old new answer read so is stops IsValidText (λ m k. k.decides.is_valid);
-      within = read_but_faces rem fails of text faces budget old new answer read so is stops (λ m. meeting_segments m.chains ≤ budget) (λ m k. k.decides.within);
+      valid = read_but_faces rem fails of text faces budget old new answer read so is stops (IsValidWhereKnown (rem old)) (λ m k. k.decides.is_valid);
+      within = read_but_faces rem fails of text faces budget old new answer read so is stops (IsWithinBudget budget) (λ m k. k.decides.within);
       report = read_if_sound rem fails of text faces budget old new answer read so is stops IsReport (λ m k. k.decides.report);
       map_fault = read_map_fault rem fails of text faces budget old new answer read so is stops;
       cert_fault =
-          read_cert_fault rem fails of text faces budget old new answer read so is stops (λ m fault. IfSome (rem old) (λ spelt. IsTrueOfText m spelt fault))
+          read_cert_fault rem fails of text faces budget old new answer read so is stops (IsTrueWhereKnown (rem old))
           (λ m k. k.decides.cert_fault);
       behind = read_behind rem fails of text faces budget old new answer read so is stops;
       meets =
-          read_meets rem fails of text faces budget old new answer read so is stops
-          (λ m. IfSome (rem old) (λ spelt. TextAllowsSearch m spelt → IsPlanar m.chains)) (λ m k. k.decides.meets);
+          read_meets rem fails of text faces budget old new answer read so is stops (IsPlanarWhereAllowed (rem old))
+          (λ m k. k.decides.meets);
       searched =
-          read_searched rem fails of text faces budget old new answer read so is stops (λ m. IfSome (rem old) (TextAllowsSearch m))
+          read_searched rem fails of text faces budget old new answer read so is stops (AllowsSearchWhereKnown (rem old))
           (λ m k. k.decides.searched);
       stops = read_stops rem fails of text faces budget old new answer read so is stops;
       unread = read_unread rem fails of text faces budget old new answer read so is stops;

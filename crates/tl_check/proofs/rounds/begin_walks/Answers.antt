@@ -2,7 +2,6 @@ use Rattle.std.proofs.Common.{refl, sym, subst}
 use Rattle.std.proofs.lemmas.Result.{err_from_is_err_and}
 use Rattle.tl_check_sides.specs.Keeping.Walked.{HaveWalked}
 use Rattle.tl_check_sides.proofs.Headings.{dart_within}
-use Rattle.tl_check.specs.Keeping.Known.{IsKnown}
 use Rattle.tl_check.proofs.rounds.begin_walks.Goals as goal
 
 pub end-requires : goal.end-requires
@@ -45,18 +44,9 @@ returns c = record {
     sides = c.in-None.ensures.none refl;
     ready = c.in_ok-walks.ensures.ready;
     walked = subst (λ walks. HaveWalked c.args.map.now.chains walks c.in_ok-walks.walks) (sym so.no_walks) c.in_ok-walks.ensures.none;
-    behind = subst (λ walks. IsKnown c.args.map.now walks c.in_ok-known.known) (sym so.no_walks) c.in_ok-known.ensures;
+    no_more = so.no_more;
   };
   takes = tt;
   searched = λ n within. within;
   behind = λ planar. planar;
 }
-
-pub returns-in_err-known : goal.returns-in_err-known
-returns-in_err-known c = let p = err_from_is_err_and c.from_residual-in_err-known.result c.from_residual-in_err-known.ensures.1 in rw (p.1, p.2) (record {
-  halts = tt;
-  allowed = λ cert so. record { counts = so.founded.counts; tree = so.founded.tree };
-})
-
-pub known_before-requires : goal.known_before-requires
-known_before-requires c = c.requires.held.1.told

@@ -2,7 +2,7 @@ use Rattle.std.proofs.Common.{refl, sym, subst}
 use Rattle.std.proofs.lemmas.Result.{err_from_is_err_and}
 use Rattle.tl_check_sides.specs.Keeping.Rounded.{HaveTaken}
 use Rattle.tl_check_verdict.specs.Valid.{IsTree}
-use Rattle.tl_check.specs.Keeping.Known.{MayFind, IsFoundPlanar}
+use Rattle.tl_check.specs.Keeping.Searching.{MayFind, IsFoundPlanar}
 use Rattle.tl_check.proofs.Halting.{may_halt, so_unless_memory}
 use Rattle.tl_check.proofs.Meeting.{met_so}
 use Rattle.tl_check.proofs.Treed.{tree_fits, tree_is, fault_stays}
@@ -11,8 +11,8 @@ use Rattle.tl_check.proofs.tree.search_by.Goals as goal
 pub search-requires : goal.search-requires
 search-requires c = record { fits = tree_fits c.args.map.now.chains c.args.tree c.new.result c.in_ok-fault.field-0 c.in_ok-fault.ensures.found c.in-None.is c.new.ensures }
 
-pub returns-in-Some-clause-leads : goal.returns-in-Some-clause-leads
-returns-in-Some-clause-leads c = record {
+pub returns-in-Some : goal.returns-in-Some
+returns-in-Some c = record {
   holds = λ cert counts tree rounds walks d on.
       fault_stays c.args.map.now cert d c.args.tree c.args.tree c.new.result c.in_ok-fault.field-0 c.in-Some.fault c.in_ok-fault.ensures.found c.in-Some.is c.new.ensures refl tree on;
   rounds = tt;
@@ -20,26 +20,26 @@ returns-in-Some-clause-leads c = record {
   behind = λ of_darts. absurd of_darts;
 }
 
-pub returns-in_err-fault-clause-leads : goal.returns-in_err-fault-clause-leads
-returns-in_err-fault-clause-leads c = let p = err_from_is_err_and c.from_residual.result c.from_residual.ensures.1 in rw (p.1, p.2) (record { halts = tt; tree = tt; meets = tt })
+pub returns-in_err-fault : goal.returns-in_err-fault
+returns-in_err-fault c = let p = err_from_is_err_and c.from_residual.result c.from_residual.ensures.1 in rw (p.1, p.2) (record { halts = tt; tree = tt; meets = tt })
 
-pub returns-in-Meet-clause-leads : goal.returns-in-Meet-clause-leads
-returns-in-Meet-clause-leads c = record {
+pub returns-in-Meet : goal.returns-in-Meet
+returns-in-Meet c = record {
   halts = subst (MayFind c.args.map.now c.args.budget) c.in-Meet.is c.in_ok-meet.ensures;
   tree = tree_is c.args.map.now c.args.tree c.args.tree c.new.result c.in_ok-fault.field-0 c.in_ok-fault.ensures.found c.in-None.is c.new.ensures refl c.requires.shallow;
   meets = tt;
 }
 
-pub returns-in-Budget-clause-leads : goal.returns-in-Budget-clause-leads
-returns-in-Budget-clause-leads c = record {
+pub returns-in-Budget : goal.returns-in-Budget
+returns-in-Budget c = record {
   halts = subst (MayFind c.args.map.now c.args.budget) c.in-Budget.is c.in_ok-meet.ensures;
   tree = tree_is c.args.map.now c.args.tree c.args.tree c.new.result c.in_ok-fault.field-0 c.in_ok-fault.ensures.found c.in-None.is c.new.ensures refl c.requires.shallow;
   meets = tt;
 }
 
-pub returns-in_ok-rounds-in-Planar-clause-leads : goal.returns-in_ok-rounds-in-Planar-clause-leads
-returns-in_ok-rounds-in-Planar-clause-leads c =
-    let so : IsFoundPlanar c.args.map.now c.args.budget c.in-Planar.suspects c.in-Planar.found = subst (MayFind c.args.map.now c.args.budget) c.in-Planar.is c.in_ok-meet.ensures in
+pub returns-in_ok-rounds-in-Planar : goal.returns-in_ok-rounds-in-Planar
+returns-in_ok-rounds-in-Planar c =
+    let so : IsFoundPlanar c.args.map.now c.args.budget c.in-Planar.left = subst (MayFind c.args.map.now c.args.budget) c.in-Planar.is c.in_ok-meet.ensures in
     record {
       holds = λ cert counts tree rounds walks. record {
         founded = record {
@@ -51,16 +51,16 @@ returns-in_ok-rounds-in-Planar-clause-leads c =
         no_walks = walks;
         sized = c.in_ok-rounds-in-Planar.ensures.sized;
         taken = subst (λ taken. HaveTaken c.args.map.now.chains taken c.in_ok-rounds-in-Planar.rounds) (sym rounds) c.in_ok-rounds-in-Planar.ensures.none;
-        told = so.suspects;
+        no_more = so.no_more;
       };
       rounds = tt;
       searched = so.within;
       behind = so.planar;
     }
 
-pub returns-in_err-rounds-in-Planar-clause-leads : goal.returns-in_err-rounds-in-Planar-clause-leads
-returns-in_err-rounds-in-Planar-clause-leads c =
-    let so : IsFoundPlanar c.args.map.now c.args.budget c.in-Planar.suspects c.in-Planar.found = subst (MayFind c.args.map.now c.args.budget) c.in-Planar.is c.in_ok-meet.ensures in
+pub returns-in_err-rounds-in-Planar : goal.returns-in_err-rounds-in-Planar
+returns-in_err-rounds-in-Planar c =
+    let so : IsFoundPlanar c.args.map.now c.args.budget c.in-Planar.left = subst (MayFind c.args.map.now c.args.budget) c.in-Planar.is c.in_ok-meet.ensures in
     let p = err_from_is_err_and c.from_residual-in_err-rounds-in-Planar.result c.from_residual-in_err-rounds-in-Planar.ensures.1 in
     let halt = c.in_err-rounds-in-Planar.field-0.0 in
     rw (p.1, p.2) (record {
@@ -69,8 +69,8 @@ returns-in_err-rounds-in-Planar-clause-leads c =
       meets = met_so halt _ so.planar;
     })
 
-pub returns-in_err-meet-clause-leads : goal.returns-in_err-meet-clause-leads
-returns-in_err-meet-clause-leads c =
+pub returns-in_err-meet : goal.returns-in_err-meet
+returns-in_err-meet c =
     let p = err_from_is_err_and c.from_residual-in_err-meet.result c.from_residual-in_err-meet.ensures.1 in
     rw (p.1, p.2) (record {
       halts = tt;

@@ -5,13 +5,13 @@ use Rattle.tl_check.proofs.walks.end_walks.Goals as goal
 
 pub end-requires : goal.end-requires
 end-requires c =
-    let so : AreWalksSoFar c.args.map.now c.requires.held.0 c.in-Walking.walks c.in-Walking.known = subst (Holds c.args.map.now c.requires.held.0) c.in-Walking.is c.requires.held.1 in
+    let so : AreWalksSoFar c.args.map.now c.requires.held.0 c.in-Walking.walks c.in-Walking.left = subst (Holds c.args.map.now c.requires.held.0) c.in-Walking.is c.requires.held.1 in
     record { ready = so.ready }
 
 pub returns-in-Ok-clause-ended : goal.returns-in-Ok-clause-ended
 returns-in-Ok-clause-ended c = record {
   walked = λ cert held.
-      let so : AreWalksSoFar c.args.map.now cert c.in-Walking.walks c.in-Walking.known = subst (Holds c.args.map.now cert) c.in-Walking.is held in
+      let so : AreWalksSoFar c.args.map.now cert c.in-Walking.walks c.in-Walking.left = subst (Holds c.args.map.now cert) c.in-Walking.is held in
       let whole = c.in-Ok.ensures.whole cert.walks so.walked in
       record {
         valid = record { counts = so.founded.counts; tree = so.founded.tree; rounds = so.rounds; walks = whole.0 };
@@ -19,7 +19,7 @@ returns-in-Ok-clause-ended c = record {
         sides = so.sides;
         cells = so.founded.cells;
         counted = whole.1;
-        behind = so.behind;
+        no_more = so.no_more;
       };
   searched = λ n searched. subst (IsSearched c.args.map.now n) c.in-Walking.is searched;
 }
@@ -27,25 +27,19 @@ returns-in-Ok-clause-ended c = record {
 pub returns-in-Ok-clause-faulty : goal.returns-in-Ok-clause-faulty
 returns-in-Ok-clause-faulty c = tt
 
-pub returns-in-Walking-clause-ended : goal.returns-in-Walking-clause-ended
-returns-in-Walking-clause-ended c = tt
+pub returns-in-Err-clause-ended : goal.returns-in-Err-clause-ended
+returns-in-Err-clause-ended c = tt
 
-pub returns-in-Walking-clause-few : goal.returns-in-Walking-clause-few
-returns-in-Walking-clause-few c = tt
-
-pub returns-in-Walking-clause-faulty : goal.returns-in-Walking-clause-faulty
-returns-in-Walking-clause-faulty c = record {
+pub returns-in-Err-clause-faulty : goal.returns-in-Err-clause-faulty
+returns-in-Err-clause-faulty c = record {
   fault = λ cert held.
-      let so : AreWalksSoFar c.args.map.now cert c.in-Walking.walks c.in-Walking.known = subst (Holds c.args.map.now cert) c.in-Walking.is held in
+      let so : AreWalksSoFar c.args.map.now cert c.in-Walking.walks c.in-Walking.left = subst (Holds c.args.map.now cert) c.in-Walking.is held in
       c.in-Err.ensures.fault cert.walks so.walked;
   behind = λ behind of_darts. subst (IsBehindSearch c.args.map.now) c.in-Walking.is behind;
 }
 
 pub returns-in-Unrounded-clause-ended : goal.returns-in-Unrounded-clause-ended
 returns-in-Unrounded-clause-ended c = tt
-
-pub returns-in-Unrounded-clause-few : goal.returns-in-Unrounded-clause-few
-returns-in-Unrounded-clause-few c = tt
 
 pub returns-in-Unrounded-clause-faulty : goal.returns-in-Unrounded-clause-faulty
 returns-in-Unrounded-clause-faulty c = record {
@@ -55,9 +49,6 @@ returns-in-Unrounded-clause-faulty c = record {
 
 pub returns-in-Wrong-clause-ended : goal.returns-in-Wrong-clause-ended
 returns-in-Wrong-clause-ended c = tt
-
-pub returns-in-Wrong-clause-few : goal.returns-in-Wrong-clause-few
-returns-in-Wrong-clause-few c = tt
 
 pub returns-in-Wrong-clause-faulty : goal.returns-in-Wrong-clause-faulty
 returns-in-Wrong-clause-faulty c = record {

@@ -13,8 +13,8 @@ returns-in_ok-listed-in-Some-clause-found g c =
     c.found_in.ensures.found c.args.options c.args.skips known (record {
       all = refused_told c.args.options c.args.skips known _ c.in_ok-refused.field-0.refused.items c.with-reader.ensures.refusals kept.1.all;
       none = kept.1.none;
-      told = kept_told c.args.options c.args.skips known _ _ c.in-Some.both c.in_ok-listed-in-Some.listed came kept.0 lists;
-      of_some = told_of_some c.args.options c.args.skips known _ _ c.in-Some.both c.in_ok-listed-in-Some.listed kept.0 lists;
+      told = kept_told c.args.options c.args.skips known _ _ c.in-Some.kept c.in_ok-listed-in-Some.listed came kept.0 lists;
+      of_some = told_of_some c.args.options c.args.skips known _ _ c.in-Some.kept c.in_ok-listed-in-Some.listed kept.0 lists;
     })
 
 pub returns-in-None-clause-found : goal.returns-in-None-clause-found
@@ -28,7 +28,7 @@ returns-in_ok-listed-in-Some-clause-noted g c =
     let read = c.in_ok-refused.ensures.read in
     let records = c.in_ok-refused.ensures.records in
     let kept = rw (c.in-Some.is, ← c.skipped.ensures) at read in
-    let some = told_of_some c.args.options c.args.skips known _ _ c.in-Some.both c.in_ok-listed-in-Some.listed kept.0 c.in_ok-listed-in-Some.ensures.listed in
+    let some = told_of_some c.args.options c.args.skips known _ _ c.in-Some.kept c.in_ok-listed-in-Some.listed kept.0 c.in_ok-listed-in-Some.ensures.listed in
     noted_of (layout_with c.args.options) c.args.notes known _ _ c.in_ok-refused.field-0.refused c.in_ok-refused.field-0.noted c.found_in.result
     c.with-reader.ensures.ahead c.with-reader.ensures.left c.in_ok-refused.ensures.fronts (rw c.in-Some.is at records) c.found_in.ensures.noted (c.found_in.ensures.refused (c.args.options.faces, some))
 

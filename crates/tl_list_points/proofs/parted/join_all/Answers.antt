@@ -1,5 +1,5 @@
 use Rattle.std.proofs.lemmas.Result.{err_from_is_err_and}
-use Rattle.tl_check_counts.proofs.Known.{none_known}
+use Rattle.tl_check_points.proofs.Known.{none_known}
 use Rattle.tl_list_points.proofs.parted.join_all.Goals as goal
 
 pub loop-place-init : goal.loop-place-init

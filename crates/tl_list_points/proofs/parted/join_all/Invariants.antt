@@ -1,5 +1,5 @@
 use Rattle.std.proofs.Common.{◌≡◌, length}
-use Rattle.tl_check_counts.specs.Counts.{AreCountsAt}
+use Rattle.tl_check_points.specs.Counts.{AreCountsAt}
 use Rattle.tl_list_points.proofs.parted.join_all.Given as goal
 
 -- what is known so far is so

@@ -11,7 +11,7 @@ pub returns : goal.returns
 returns c = λ rs codes are before.
     let polygons = c.args.polygons.now in
     let eight = told_duplicate_polygons rs codes polygons _ _ c.requires.polygons are.of_polygons c.in_ok-push_repeated_keys.ensures before in
-    let nine = told_unknown_sides rs (8 ∷ codes) c.args.names.now polygons _ _ are.of_sides are.of_polygons c.in_ok-push_unknown_sides.ensures eight in
+    let nine = told_unknown_sides rs (8 ∷ codes) are.entries c.args.names.now polygons _ _ are.moved are.of_sides are.of_polygons c.in_ok-push_unknown_sides.ensures eight in
     let ten = told_unknown_lands rs (9 ∷ 8 ∷ codes) c.args.lands.now c.args.landmarks.now _ _ are.of_lands are.of_landmarks c.in_ok-push_missing.ensures nine in
     on_ok_weaker c.push_unknown_links.result (λ (tells : Tells (IsMissing link_fault (λ (l : LinkEntry). l.key) c.args.links.now polygons) c.push_missing.new.faults.items c.push_unknown_links.new.faults.items).
     told_unknown_links rs (10 ∷ 9 ∷ 8 ∷ codes) c.args.links.now polygons _ _ are.of_links are.of_polygons tells ten) c.push_unknown_links.ensures

@@ -1,6 +1,6 @@
 use Rattle.std.proofs.Common.{◌∙◌, sym}
 use Rattle.std.proofs.lemmas.Bool.{true≢false}
-use Rattle.tl_list_records.specs.declared.collect.NamedSide.{NamedSide}
+use Rattle.tl_list_records.specs.declared.kept.NamedSide.{NamedSide}
 use Rattle.tl_list_records.specs.Keeping.Keys.{side_fault}
 use Rattle.tl_list_records.proofs.NumberLemmas.{missing_none, missing_known, missing_more, missing_all}
 use Rattle.tl_list_records.proofs.keys.push_unknown_sides.Goals as goal

@@ -1,5 +1,5 @@
 use Rattle.std.proofs.Common.{take}
-use Rattle.tl_list_records.specs.declared.collect.NamedSide.{NamedSide}
+use Rattle.tl_list_records.specs.declared.kept.NamedSide.{NamedSide}
 use Rattle.tl_list_records.specs.Keeping.Told.{Tells}
 use Rattle.tl_list_records.specs.Keeping.Numbers.{IsMissing}
 use Rattle.tl_list_records.specs.Keeping.Keys.{side_fault}

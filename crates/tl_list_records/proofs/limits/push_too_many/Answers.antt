@@ -1,5 +1,4 @@
 use Rattle.std.proofs.Common.{ltb, length, refl}
-use Rattle.tl_map_rules.specs.ChainsOf.{chain_count}
 use Rattle.tl_map_rules.specs.MapOf.{polygons_in, first_landmarks}
 use Rattle.std.proofs.lemmas.Result.{err_from_is_err_and, on_ok_weaker}
 use Rattle.tl_map_rules.specs.declared.fault.Limited.TheVariants.{Chains, Segments, Polygons, Landmarks}
@@ -11,7 +10,7 @@ use Rattle.tl_list_records.proofs.limits.push_too_many.Goals as goal
 pub returns : goal.returns
 returns c = λ rs codes are before.
     let counts = c.args.counts in
-    let chains : Tests rs (ltb 1048576 counts.chains) Chains = tests_more rs counts.chains (chain_count rs) 1048576 Chains are.chains (λ h. h) (λ h. h) in
+    let chains : Tests rs (ltb 1048576 counts.chains) Chains = tests_more rs counts.chains counts.chains 1048576 Chains refl are.too_many_chains are.few_chains in
     let segments : Tests rs (ltb 16777216 counts.segments) Segments = tests_more rs counts.segments counts.segments 16777216 Segments refl are.too_many_segments are.few_segments in
     let polygons : Tests rs (ltb 1048576 counts.polygons) Polygons = tests_more rs counts.polygons (length (polygons_in rs)) 1048576 Polygons are.polygons (λ h. h) (λ h. h) in
     let landmarks : Tests rs (ltb 1048576 counts.landmarks) Landmarks = tests_more rs counts.landmarks (length (first_landmarks rs)) 1048576 Landmarks are.landmarks (λ h. h) (λ h. h) in

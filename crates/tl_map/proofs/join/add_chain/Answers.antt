@@ -3,7 +3,7 @@ use Rattle.std.proofs.Common.{◌∙◌, List, length, ap, inl, inr, refl, sym, 
 use Rattle.std.specs.List.{flat_map}
 use Rattle.std.proofs.lemmas.List.{length_push}
 use Rattle.tl_geom.specs.declared.point.Point.{Point}
-use Rattle.tl_map.specs.Keeping.Entries.{entry_points}
+use Rattle.tl_list_records.specs.Shapes.{entry_points}
 use Rattle.tl_map.specs.Keeping.Rows.{drawn_through}
 use Rattle.tl_map_county.proofs.TableLemmas.{IsTable-push, chains_in-push}
 use Rattle.tl_map.proofs.RowLemmas.{one_drawn, length_appended, too_many_with}

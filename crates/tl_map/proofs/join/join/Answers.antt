@@ -2,7 +2,8 @@ use Rattle.std.proofs.Common.{◌≡◌, ◌∙◌, ◌-◌, ℕ, ap, map, lengt
 use Rattle.std.proofs.lemmas.Result.{err_from_is_err_and}
 use Rattle.tl_map_rules.specs.declared.entry.ChainEntry.{ChainEntry}
 use Rattle.std.proofs.lemmas.List.{take_all}
-use Rattle.tl_map.specs.Keeping.Entries.{IsInside, joined}
+use Rattle.tl_list_records.specs.Shapes.{IsInside}
+use Rattle.tl_map.specs.Keeping.Entries.{joined}
 use Rattle.tl_map_county.specs.Chains.{segment_count}
 use Rattle.tl_map.proofs.JoinLemmas.{run_is, above_run, behind_more, ahead_more, ahead_first, drawn_is, joined_more, stops_join, several_more}
 use Rattle.tl_map.proofs.ListedLemmas.{part_inside}

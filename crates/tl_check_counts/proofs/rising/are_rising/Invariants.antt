@@ -1,7 +1,0 @@
-use Rattle.std.proofs.Common.{take}
-use Rattle.tl_check_active.specs.Events.{joined}
-use Rattle.tl_check_counts.proofs.Upward.{AreRisingTo}
-use Rattle.tl_check_counts.proofs.rising.are_rising.Given as goal
-
-abbrev pub invariant-loop-k : goal.invariant-loop-k
-invariant-loop-k l = AreRisingTo l.last (joined (take l.k l.events))

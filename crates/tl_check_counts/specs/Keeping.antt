@@ -1,8 +1,0 @@
--- What is kept on the way. No public contract cites a file of this folder.
-pub mod Balances
-pub mod Ways
-pub mod Labels
-pub mod Passing
-pub mod Visits
-pub mod Short
-pub mod Parts

@@ -1,3 +1,0 @@
--- What the contracts on counts at points cite.
-pub mod Counts
-pub mod Keeping

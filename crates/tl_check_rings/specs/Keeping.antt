@@ -1,5 +1,0 @@
--- What is kept on the way.
-pub mod Laid
-pub mod Lent
-pub mod Spots
-pub mod Looking

@@ -1,4 +1,0 @@
--- What the contracts cite.
-pub mod Rings
-pub mod Looked
-pub mod Keeping
