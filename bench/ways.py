@@ -36,7 +36,7 @@ run = bench_run()
 SWEEPS, SEARCHES, EXACT = "sweeps", "searches of all segments", "vertices passed by exact places"
 COUNTED = {
     SWEEPS: ["tl_check_sweep::answer::sweep"],
-    SEARCHES: ["tl_tree::search::search_within", "tl_list_map::of_map::list_by_search"],
+    SEARCHES: ["tl_tree::search::search_within", "tl_decide::meets::list_by_search"],
     EXACT: ["tl_check_sweep::exact::pass_exactly"],
 }
 WANTED = {SWEEPS: 1, SEARCHES: 0, EXACT: 0}

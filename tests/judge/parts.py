@@ -3,7 +3,7 @@
 
 usage: parts.py [--cases N]
 
-Written from the definitions in `tl_check_parts/specs` alone. Drawn maps are cut into parts, some of them spoilt before, at random and at
+Written from the definitions in `tigertopo_border/specs/Whole` alone. Drawn maps are cut into parts, some of them spoilt before, at random and at
 the seams. A part has the chains that name one of its polygons, each with its own sides, and of those that name none those that are
 told by it. The border has the chains whose sides aren't both of one part, on which each part is one polygon. Then the map has to be
 sound with faces that agree exactly where each part is, and the border is. And joining gives back what was cut: the parts' chains by

@@ -9,7 +9,7 @@ use crate::failure::Failure;
 use crate::steps::{now, say_taken};
 use crate::streets::Streets;
 use tl_tree::{BoxIndex, BoxTree, FlatTree, Items, Search, TreeNode};
-use tl_tree_pack::pack;
+use tl_tree_index::pack;
 
 /// Makes the rectangles of the segments and sorts them by their west sides.
 fn sort_rectangles(rt: &HostRuntime, streets: &Streets) -> Result<(), Failure> {

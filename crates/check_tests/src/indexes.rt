@@ -11,7 +11,7 @@ use tl_check_planar::Segments;
 use tl_geom::Point;
 use tl_map_county::Map;
 use tl_tree::{BoxIndex, BoxTree, FlatTree, PlainList, TreeNode};
-use tl_tree_pack::pack;
+use tl_tree_index::pack;
 
 /// Points, and the chain that each lies on, or in which polygon and on which landmark.
 const PLACES: [(i32, i32, Option<u32>, &[u32], &[u32]); 9] = [

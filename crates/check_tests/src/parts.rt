@@ -3,8 +3,8 @@
 use std::alloc::Global;
 use tl_check_inside::{Misplaced, find_misplaced};
 use tl_check_planar::{Meeting, Segments, first_meet};
+use tl_check_points::listing::all_misplaced;
 use tl_geom::Rational;
-use tl_list_points::all_misplaced;
 use tl_map_county::Map;
 use tl_tree::{Items, PlainList};
 

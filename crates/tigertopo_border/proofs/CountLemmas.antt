@@ -9,9 +9,9 @@ use Rattle.tl_geom.specs.declared.point.Point.{Point}
 use Rattle.tl_map_county.specs.declared.sides.Side.{Side}
 use Rattle.tl_map_county.specs.Segments.{segments_before}
 use Rattle.tl_map_county.specs.TheMap.{TheMap, MapChain, IsChain}
-use Rattle.tl_check_parts.specs.Homes.{is_blank}
-use Rattle.tl_check_parts.specs.Borders.{has_blank}
-use Rattle.tigertopo_border.specs.Border.{segments_of, segments_at}
+use Rattle.tigertopo_border.specs.Whole.Homes.{is_blank}
+use Rattle.tigertopo_border.specs.Whole.Borders.{has_blank}
+use Rattle.tigertopo_border.specs.Border.{border_segments, segments_at}
 
 -- one more of a sum
 pub one_added : {X : Type 0} (f : X → ℕ) (xs : List X) (i : ℕ) (x : X) → slice_get xs i ≡ Some x → i < length xs → sum_by f (take (i + 1) xs) ≡ sum_by f (take i xs) + f x
@@ -46,16 +46,16 @@ few_points m c tlid points left right is =
     omega (arith, more, part, whole, own)
 
 -- nor has the border
-at_most : (c : MapChain) (b : Bool) → has_blank c ≡ b → segments_of c ≤ length c.points - 1
+at_most : (c : MapChain) (b : Bool) → has_blank c ≡ b → border_segments c ≤ length c.points - 1
 at_most c true is = rw is (omega arith)
 at_most c false is = rw is (omega arith)
 
-less_than_all : (chains : List MapChain) → sum_by segments_of chains ≤ sum_by (λ c. length c.points - 1) chains
+less_than_all : (chains : List MapChain) → sum_by border_segments chains ≤ sum_by (λ c. length c.points - 1) chains
 less_than_all [] = omega arith
 less_than_all (c ∷ chains) =
-    omega (arith, at_most c (has_blank c) refl, less_than_all chains, sum_by-cons segments_of c chains, sum_by-cons (λ (d : MapChain). length d.points - 1) c chains)
+    omega (arith, at_most c (has_blank c) refl, less_than_all chains, sum_by-cons border_segments c chains, sum_by-cons (λ (d : MapChain). length d.points - 1) c chains)
 
-pub few_segments : (m : TheMap) (n : ℕ) → sum_by segments_of (take n m.chains) ≤ segments_before m.chains (length m.chains)
+pub few_segments : (m : TheMap) (n : ℕ) → sum_by border_segments (take n m.chains) ≤ segments_before m.chains (length m.chains)
 few_segments m n =
     let f : MapChain → ℕ = λ chain. length chain.points - 1 in
     let some = less_than_all (take n m.chains) in
@@ -66,13 +66,13 @@ few_segments m n =
 
 -- one chain more
 one_here : (m : TheMap) (chains : List MapChain) (n : ℕ) (x : MapChain) → m.chains ≡ chains → n < length chains
-    → sum_by segments_of (take (n + 1) m.chains) ≡ sum_by segments_of (take n m.chains) + segments_at m n
+    → sum_by border_segments (take (n + 1) m.chains) ≡ sum_by border_segments (take n m.chains) + segments_at m n
 one_here m chains n x same lt =
     let there : slice_get chains n ≡ Some (get_or chains n x) = slice_get-get_or chains n x lt in
-    rw (same, there) (one_added segments_of chains n (get_or chains n x) there lt)
+    rw (same, there) (one_added border_segments chains n (get_or chains n x) there lt)
 
 pub segments_more : (m : TheMap) (chains : List MapChain) (n : ℕ) → m.chains ≡ chains → n < length chains
-    → sum_by segments_of (take (n + 1) m.chains) ≡ sum_by segments_of (take n m.chains) + segments_at m n
+    → sum_by border_segments (take (n + 1) m.chains) ≡ sum_by border_segments (take n m.chains) + segments_at m n
 segments_more m [] n same lt = absurd (omega arith)
 segments_more m (x ∷ chains) n same lt = one_here m (x ∷ chains) n x same lt
 

@@ -14,11 +14,11 @@ use Rattle.tl_map_rules.specs.ChainsOf.{IsDrawn, AreChainsOf}
 use Rattle.tl_map_rules.specs.declared.entry.LandmarkEntry.{LandmarkEntry}
 use Rattle.tl_map_rules.specs.MapOf.{keys, side_of, without_sides, landmark_of, firsts, IsSided, IsMapOf}
 use Rattle.tl_map_rules.proofs.KeyLemmas.{same_key-refl}
-use Rattle.tl_check_parts.specs.Told.{AreTold}
-use Rattle.tl_check_parts.specs.Borders.{as_one, has_blank, IsBorderOf, IsPointWithin}
+use Rattle.tigertopo_border.specs.Whole.Told.{AreTold}
+use Rattle.tigertopo_border.specs.Whole.Borders.{as_one, has_blank, IsBorderOf, IsPointWithin}
 use Rattle.tigertopo_border.specs.Border.{border_key, side_key, start_of, end_of}
 use Rattle.tigertopo_border.specs.Readable.{IsTellable}
-use Rattle.tigertopo_border.proofs.WholeLemmas.{Rise, all_of, chain_contained, sides_contained, sides_entry}
+use Rattle.tigertopo_border.proofs.TlidLemmas.{Rise, all_of, chain_contained, sides_contained, sides_entry}
 use Rattle.tigertopo_border.proofs.FaultLemmas.{found_here, each_at, entry_of, first_polygon, polygons_are, landmarks_are}
 use Rattle.tigertopo_border.proofs.FaultlessLemmas.{found_of, points_drawn, segments_are}
 use Rattle.tigertopo_border.proofs.FilterLemmas.{told, rising_again}

@@ -18,7 +18,7 @@ use Rattle.tl_map_rules.specs.MapOf.{sides_at, polygon_at, landmark_at, link_at,
 use Rattle.tl_map_rules.proofs.CountLemmas.{one_counted}
 use Rattle.tigertopo_border.specs.Border.{border_key, side_key, start_of, end_of, inner, pairs_from, shapes_below, shape_count, chain_records, polygon_records}
 use Rattle.tigertopo_border.proofs.BlockLemmas.{block}
-use Rattle.tigertopo_border.proofs.WholeLemmas.{AreLater, Rise, NoneHas, IsFound, all_of}
+use Rattle.tigertopo_border.proofs.TlidLemmas.{AreLater, Rise, NoneHas, IsFound, all_of}
 
 -- ---- the chains by themselves
 

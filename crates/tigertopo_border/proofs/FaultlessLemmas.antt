@@ -19,12 +19,12 @@ use Rattle.tl_map_rules.specs.declared.fault.RecordFault.TheVariants.{DuplicateC
 use Rattle.tl_map_rules.specs.ChainsOf.{is_chain, is_any_chain, pairs_up_to, pairs_of, has_gap, points_between, segments_by, segments_of, chain_count}
 use Rattle.tl_map_rules.specs.ChainsOf.{shape_count as count_of_shapes}
 use Rattle.tl_map_rules.specs.MapOf.{sides_in, polygons_in, landmarks_in, keys, firsts}
-use Rattle.tl_map_rules.specs.Faults.{HaveNoFault, HasChain, HasSides, HasPolygon, Names, IsNumbered, StandsTwice}
+use Rattle.tl_map_rules.specs.Faults.{HaveNoFault, HasChain, HasSides, HasPolygon, Names, AreShapesNumbered, StandsTwice}
 use Rattle.tigertopo_border.specs.Border.{border_key, side_key, start_of, end_of, inner, pairs_from, shapes_below, shape_count, chain_records, polygon_records}
 use Rattle.tigertopo_border.specs.Readable.{IsTellable}
 use Rattle.tigertopo_border.proofs.PairLemmas.{no_gap, drawn_again}
 use Rattle.tigertopo_border.proofs.BlockLemmas.{block, count_both, own_any}
-use Rattle.tigertopo_border.proofs.WholeLemmas.{Rise, IsFound, find, all_of, without, absent_chain, absent_shapes, absent_sides, present_chain, present_sides, present_shapes, present_numbered, chain_contained, sides_contained, pairs_are, counted, one_alone, sides_entry, sides_counted}
+use Rattle.tigertopo_border.proofs.TlidLemmas.{Rise, IsFound, find, all_of, without, absent_chain, absent_shapes, absent_sides, present_chain, present_sides, present_shapes, present_numbered, chain_contained, sides_contained, pairs_are, counted, one_alone, sides_entry, sides_counted}
 use Rattle.tigertopo_border.proofs.FaultLemmas.{found_here, each_at, entry_of, sides_are, first_polygon, polygons_are, landmarks_are, links_are, one_polygon, number_counted, number_there, named_alone, polygon_there}
 
 -- the segments of a list of records
@@ -92,7 +92,7 @@ module _ (name : List ℕ) (cs : List MapChain) (polygons : List Polygon) (rise 
     | inr found ↦ omega (arith, none_of, present_chain name cs polygons t found)
   ]
 
-  numbered : (t : ℕ) → IsNumbered (all_of name cs polygons) t
+  numbered : (t : ℕ) → AreShapesNumbered (all_of name cs polygons) t
   numbered t n low high = elim (find t cs rise) [
     | inl none ↦ absurd (omega (arith, low, high, absent_shapes name cs polygons t none))
     | inr found ↦ present_numbered name cs polygons t found n low (omega (arith, high, present_shapes name cs polygons t found))

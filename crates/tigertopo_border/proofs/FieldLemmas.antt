@@ -13,10 +13,7 @@ use Rattle.tl_record.specs.Range.{Range}
 use Rattle.tl_record.specs.Fields.{blank, is_blank, width_of, field, without_leading_blanks, without_trailing_blanks, trimmed, digits_spell, unsigned_spells, number_spelt, coordinate_spelt, decimal as value_of}
 use Rattle.tl_record.specs.declared.number.Spelt.TheVariants.{Value}
 use Rattle.tigertopo_border.specs.Spelling.{filled, blanks, number_field, coordinate_field}
-
-both_parts : (a b : Bool) → (a && b) ≡ true → (a ≡ true) × (b ≡ true)
-both_parts true b h = (refl, h)
-both_parts false b h = absurd (cc h)
+use Rattle.std.proofs.lemmas.Bool.{and_parts as both_parts}
 
 -- ---- digits
 

@@ -7,10 +7,10 @@ use Rattle.tl_map_county.specs.Chains.{tlids}
 use Rattle.tl_map_county.specs.TheMap.{MapChain}
 use Rattle.tl_map_rules.specs.MapOf.{without_sides}
 use Rattle.tl_map_rules.proofs.KnownLemmas.{far}
-use Rattle.tl_check_parts.specs.Borders.{has_blank}
+use Rattle.tigertopo_border.specs.Whole.Borders.{has_blank}
 use Rattle.tigertopo_border.specs.Border.{records_of_chain}
 use Rattle.tigertopo_border.proofs.BlockLemmas.{block}
-use Rattle.tigertopo_border.proofs.WholeLemmas.{AreLater, Rise}
+use Rattle.tigertopo_border.proofs.TlidLemmas.{AreLater, Rise}
 
 abbrev pub told : List MapChain → List MapChain
 told chains = filter has_blank chains

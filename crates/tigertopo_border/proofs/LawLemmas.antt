@@ -15,8 +15,8 @@ use Rattle.tl_map_rules.specs.Faults.{HaveNoFault}
 use Rattle.tl_map_rules.specs.MapOf.{IsMapOf}
 use Rattle.tl_map_rules.specs.Reading.{IsReadFrom, records_in}
 use Rattle.tl_map_rules.proofs.OneMapLemmas.{one_map}
-use Rattle.tl_check_parts.specs.Told.{AreTold}
-use Rattle.tl_check_parts.specs.Borders.{as_one, has_blank, IsBorderOf}
+use Rattle.tigertopo_border.specs.Whole.Told.{AreTold}
+use Rattle.tigertopo_border.specs.Whole.Borders.{as_one, has_blank, IsBorderOf}
 use Rattle.tigertopo_border.specs.Spelling.{records_text}
 use Rattle.tigertopo_border.specs.Spellable.{IsPlaced, IsPair, ArePairs, IsName, IsKey, IsSideKey}
 use Rattle.tigertopo_border.specs.Border.{border_key, side_key, start_of, end_of, inner, pairs_from, shapes_below, shape_count, chain_records, polygon_records, border_records, border_text}
@@ -24,7 +24,7 @@ use Rattle.tigertopo_border.specs.Readable.{IsTellable, IsReadable}
 use Rattle.tigertopo_border.specs.Again.{IsReadAgain}
 use Rattle.tigertopo_border.proofs.PairLemmas.{length_pairs_from}
 use Rattle.tigertopo_border.proofs.BlockLemmas.{block}
-use Rattle.tigertopo_border.proofs.WholeLemmas.{Rise, all_of}
+use Rattle.tigertopo_border.proofs.TlidLemmas.{Rise, all_of}
 use Rattle.tigertopo_border.proofs.FaultlessLemmas.{no_fault}
 use Rattle.tigertopo_border.proofs.FilterLemmas.{told, same_records, each_told, rise_told, rise_from, fewer, less}
 use Rattle.tigertopo_border.proofs.DrawnLemmas.{map_with, is_map, is_border}

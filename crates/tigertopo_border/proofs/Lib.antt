@@ -5,7 +5,7 @@ pub mod FieldLemmas
 pub mod ReadLemmas
 pub mod PairLemmas
 pub mod BlockLemmas
-pub mod WholeLemmas
+pub mod TlidLemmas
 pub mod FilterLemmas
 pub mod FaultLemmas
 pub mod FaultlessLemmas
@@ -18,3 +18,4 @@ pub mod LawLemmas
 pub mod RecordLemmas
 pub mod TextLemmas
 pub mod Joining
+pub mod WholeLemmas

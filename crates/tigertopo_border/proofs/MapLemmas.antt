@@ -6,7 +6,8 @@ use Rattle.tl_geom.specs.declared.point.Point.{Point}
 use Rattle.tl_geom.proofs.Conditions.{same_point as one_point}
 use Rattle.tl_record.specs.declared.record.Record.{Record}
 use Rattle.tl_record.specs.declared.record.Record.TheVariants.{Chain, Shape, Sides, PolyPoint, Landmark, AreaLink}
-use Rattle.tl_map_rules.specs.ChainsOf.{is_shape_at, pairs_at, pairs_up_to, used, same_point}
+use Rattle.tl_map_rules.specs.ChainsOf.{is_shape_at, pairs_at, pairs_up_to, used}
+use Rattle.tl_record.specs.Joining.{same_point}
 use Rattle.tl_map_rules.specs.Keeping.Pairs.{dedup_after}
 use Rattle.tl_map_rules.proofs.PairLemmas.{dedup_from-is}
 use Rattle.tigertopo_border.specs.Border.{inner, start_of, end_of, origin}

@@ -6,8 +6,9 @@ use Rattle.std.proofs.lemmas.List.{take_more, length-take, length-drop}
 use Rattle.std.proofs.lemmas.Option.{slice_get_cases}
 use Rattle.tl_geom.specs.declared.point.Point.{Point}
 use Rattle.tl_geom.proofs.Conditions.{same_point as one_point}
-use Rattle.tl_map_county.specs.Chains.{IsProper}
-use Rattle.tl_map_rules.specs.ChainsOf.{used, has_gap, same_point, points_between}
+use Rattle.tl_map_county.specs.Chains.{IsProperChain}
+use Rattle.tl_map_rules.specs.ChainsOf.{used, has_gap, points_between}
+use Rattle.tl_record.specs.Joining.{same_point}
 use Rattle.tl_map_rules.specs.Keeping.Pairs.{some_unused, dedup_after}
 use Rattle.tl_map_rules.proofs.PairLemmas.{used-append, some_unused-append, has_gap-append, dedup_from-is}
 use Rattle.tigertopo_border.specs.Border.{inner, start_of, end_of, pairs_from, origin}
@@ -119,12 +120,12 @@ all_kept p (q ∷ rest) differ =
     let next : dedup_after q rest ≡ rest = all_kept q rest (λ k d lt same. let e : suc (k + 1) ≡ suc k + 1 = omega arith in differ (suc k) d (omega (arith, lt)) (same ∙ ap (λ j. get_or (p ∷ q ∷ rest) j d) e)) in
     rw (apart p q first, next) refl
 
-pub deduped : (points : List Point) → IsProper points → dedup same_point points ≡ points
+pub deduped : (points : List Point) → IsProperChain points → dedup same_point points ≡ points
 deduped [] proper = refl
 deduped (p ∷ rest) proper = dedup_from-is p rest ∙ ap (λ ps. p ∷ ps) (all_kept p rest proper.distinct)
 
 -- what is drawn between the ends by these pairs are the chain's points
-pub drawn_again : (points : List Point) (n : ℕ) → IsProper points → length points - 2 ≤ n → points_between (start_of points) (pairs_from (inner points) 0 n) (end_of points) ≡ points
+pub drawn_again : (points : List Point) (n : ℕ) → IsProperChain points → length points - 2 ≤ n → points_between (start_of points) (pairs_from (inner points) 0 n) (end_of points) ≡ points
 drawn_again points n proper enough =
     let many : length (inner points) ≤ n = omega (arith, enough, length-take (length points - 2) (drop 1 points), length-drop 1 points) in
     let middle : used (pairs_from (inner points) 0 n) ≡ inner points = used_is (inner points) n ∙ take_all n (inner points) many in

@@ -10,8 +10,8 @@ use Rattle.tl_cert_output.specs.Writing.{line_of}
 use Rattle.tl_map_county.specs.declared.polygons.Polygon.{Polygon}
 use Rattle.tl_map_county.specs.declared.sides.Side.{Side}
 use Rattle.tl_map_county.specs.TheMap.{TheMap, MapChain, IsChain}
-use Rattle.tl_check_parts.specs.Homes.{is_blank}
-use Rattle.tl_check_parts.specs.Borders.{has_blank}
+use Rattle.tigertopo_border.specs.Whole.Homes.{is_blank}
+use Rattle.tigertopo_border.specs.Whole.Borders.{has_blank}
 use Rattle.tigertopo_border.specs.Spelling.{pair_fields, record_line, records_text, chain_line, shape_line, sides_line, point_line}
 use Rattle.tigertopo_border.specs.Border.{border_key, side_key, start_of, end_of, inner, pairs_from, shapes_below, shape_count, chain_records, records_of_chain, records_at, polygon_records, border_records}
 

@@ -12,17 +12,18 @@ use Rattle.tl_record.specs.declared.options.Options.{Options}
 use Rattle.tl_record.specs.Layout.{layout_with}
 use Rattle.tl_record.specs.Records.{records_of}
 use Rattle.tl_map_county.specs.declared.polygons.Polygon.{Polygon}
-use Rattle.tl_map_county.specs.Chains.{CompleteChain, IsProper, segment_count}
+use Rattle.tl_map_county.specs.Chains.{CompleteChain, IsProperChain, segment_count}
 use Rattle.tl_map_county.specs.Limits.{most_chains, most_segments}
 use Rattle.tl_map_county.specs.Sides.{IsSideAmong}
 use Rattle.tl_map_county.specs.TheMap.{TheMap, MapChain}
 use Rattle.tl_map_rules.specs.declared.entry.SidesEntry.{SidesEntry}
 use Rattle.tl_map_rules.specs.declared.fault.Limited.TheVariants.{Chains, Segments}
 use Rattle.tl_map_rules.specs.declared.fault.RecordFault.TheVariants.{DuplicateChain, ShapeWithoutChain, ShapeSequence, ShapeGap, SideWithoutPolygon, DegenerateChain, TooMany}
-use Rattle.tl_map_rules.specs.ChainsOf.{is_chain, is_any_chain, is_shape_at, pairs_of, used, same_point, segments_of, chain_count, IsDrawn}
+use Rattle.tl_map_rules.specs.ChainsOf.{is_chain, is_any_chain, is_shape_at, pairs_of, used, segments_of, chain_count, IsDrawn}
+use Rattle.tl_record.specs.Joining.{same_point}
 use Rattle.tl_map_rules.specs.ChainsOf.{shape_count as count_of_shapes}
 use Rattle.tl_map_rules.specs.MapOf.{sides_in, polygons_in, keys, same_key, place_of, side_of, without_sides, IsSided, IsMapOf}
-use Rattle.tl_map_rules.specs.Faults.{HaveNoFault, IsNumbered, Names, AreJoined}
+use Rattle.tl_map_rules.specs.Faults.{HaveNoFault, AreShapesNumbered, Names, AreJoined}
 use Rattle.tl_map_rules.specs.Reading.{IsReadFrom, records_in}
 use Rattle.tl_map_rules.proofs.KeyLemmas.{same_key-refl}
 use Rattle.tl_map.proofs.ProperLemmas.{proper_dedup}
@@ -30,11 +31,12 @@ use Rattle.tigertopo_border.specs.Border.{inner, start_of, end_of}
 use Rattle.tigertopo_border.specs.Spellable.{IsPlaced, IsPair}
 use Rattle.tigertopo_border.specs.Readable.{IsTellable, IsReadable}
 use Rattle.tigertopo_border.proofs.BlockLemmas.{count_cons}
-use Rattle.tigertopo_border.proofs.WholeLemmas.{AreLater, Rise, counted}
+use Rattle.tigertopo_border.proofs.TlidLemmas.{AreLater, Rise, counted}
 use Rattle.tigertopo_border.proofs.FilterLemmas.{rise_from}
 use Rattle.tigertopo_border.proofs.ColumnLemmas.{Fits}
 use Rattle.tigertopo_border.proofs.JoinedLemmas.{records_fit}
 use Rattle.tigertopo_border.proofs.MapLemmas.{fits_there, shape_counted, up_to, used_fine, drawn_few, drawn_start, drawn_end, drawn_inner}
+use Rattle.tl_map.proofs.OnceLemmas.{place_below as place_within}
 
 -- ---- polygons
 
@@ -43,13 +45,6 @@ within_rest : (l : PolyKey) (ks : List PolyKey) (k : PolyKey) → same_key l k �
     → suc (place_of ks k) < length (l ∷ ks)
 within_rest l ks k differs rest zero lt at = absurd (let here : same_key l k ≡ true = rw at (same_key-refl k) in cc (sym here, differs))
 within_rest l ks k differs rest (suc i) lt at = let low = rest (i, omega (arith, lt), at) in omega (arith, low)
-
-place_within : (ks : List PolyKey) (k : PolyKey) → Contains ks k → place_of ks k < length ks
-place_within [] k has = let lt = has.1 in absurd (omega (arith, lt))
-place_within (l ∷ ks) k has = elim (cases_Bool (same_key l k)) [
-  | inl same ↦ rw same (omega arith)
-  | inr differs ↦ rw differs (within_rest l ks k differs (λ there. place_within ks k there) has.0 has.1 has.2)
-]
 
 -- the points of polygons
 points_placed : (rs : List Record) → AllByRecursion Fits rs → AllByRecursion (λ polygon. IsPlaced polygon.point) (polygons_in rs)
@@ -139,7 +134,7 @@ same_segments (c ∷ cs) =
 
 module _ (rs : List Record) (m : TheMap) (fit : AllByRecursion Fits rs) (none : HaveNoFault rs) (is : IsMapOf rs m) where
   -- each RTSQ stands once
-  numbered : (t : ℕ) → IsNumbered rs t
+  numbered : (t : ℕ) → AreShapesNumbered rs t
   numbered t n low high = elim (cases_Bool (count_by (is_shape_at t n) rs == 1)) [
     | inl once ↦ eqb-true (count_by (is_shape_at t n) rs) 1 once
     | inr not ↦ absurd (none (ShapeSequence t) (λ all. cc (sym (eq-eqb (count_by (is_shape_at t n) rs) 1 (all n low high)), not)))
@@ -185,7 +180,7 @@ module _ (rs : List Record) (m : TheMap) (fit : AllByRecursion Fits rs) (none : 
       }) in
       record {
         tlid = fits.0;
-        proper = subst IsProper (sym points) (proper_dedup drawn.from (us ++ drawn.to ∷ []) several);
+        proper = subst IsProperChain (sym points) (proper_dedup drawn.from (us ++ drawn.to ∷ []) several);
         few = omega (arith, long, drawn_few drawn.from drawn.to us, a, b, few_shapes c.tlid);
         start = subst IsPlaced (sym (ap start_of points ∙ drawn_start drawn.from drawn.to us)) fits.1;
         end = subst IsPlaced (sym (ap end_of points ∙ drawn_end drawn.from drawn.to us)) fits.2;

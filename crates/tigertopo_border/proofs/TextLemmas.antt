@@ -23,10 +23,8 @@ use Rattle.tigertopo_border.specs.Spelling.{filled, blanks, number_field, coordi
 use Rattle.tigertopo_border.specs.Spellable.{IsPlaced, IsPair, ArePairs, IsKey, IsSideKey, IsSpellable}
 use Rattle.tigertopo_border.proofs.FieldLemmas.{all_digits}
 use Rattle.tigertopo_border.proofs.RecordLemmas.{content_read, few_bytes}
-
-both_parts : (a b : Bool) → (a && b) ≡ true → (a ≡ true) × (b ≡ true)
-both_parts true b h = (refl, h)
-both_parts false b h = absurd (cc h)
+use Rattle.std.proofs.lemmas.Bool.{and_parts as both_parts}
+use Rattle.tigertopo_faults.proofs.SegmentLemmas.{not_below as not_lt}
 
 -- ---- no byte ends a line
 
@@ -135,9 +133,6 @@ no_return (byte ∷ line) (suc k) all = no_return line k (both_parts (is_above b
 
 content_is : (line : List ℕ) → AreAbove line → content line ≡ line
 content_is line all = rw (no_return line (length line - 1) all) refl
-
-not_lt : (a b : ℕ) → b ≤ a → nat_lt a b ≡ false
-not_lt a b le = grind (arith, nat_tests)
 
 -- a line of the text is read as its record
 line_read : (number : ℕ) (r : Record) → IsSpellable r → number ≤ most_lines → judgement tiger_2006 number (record_line r) ≡ Read r

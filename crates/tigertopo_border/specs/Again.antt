@@ -5,7 +5,7 @@ use Rattle.tl_record.specs.Records.{records_of}
 use Rattle.tl_map_county.specs.TheMap.{TheMap}
 use Rattle.tl_map_rules.specs.Faults.{HaveNoFault}
 use Rattle.tl_map_rules.specs.Reading.{IsReadFrom, records_in}
-use Rattle.tl_check_parts.specs.Borders.{IsBorderOf}
+use Rattle.tigertopo_border.specs.Whole.Borders.{IsBorderOf}
 use Rattle.tigertopo_border.specs.Border.{border_text}
 
 -- no line of the border's text is refused, and its records have no fault; they draw a map, and what they draw is the border of the map

@@ -10,7 +10,7 @@ use Rattle.tl_map_county.specs.declared.polygons.Polygon.{Polygon}
 use Rattle.tl_map_county.specs.declared.sides.Side.{Side}
 use Rattle.tl_map_county.specs.declared.sides.Side.TheVariants as side
 use Rattle.tl_map_county.specs.TheMap.{TheMap, MapChain}
-use Rattle.tl_check_parts.specs.Borders.{has_blank}
+use Rattle.tigertopo_border.specs.Whole.Borders.{has_blank}
 use Rattle.tigertopo_border.specs.Spelling.{records_text}
 
 -- the border's one polygon: its name as CENID, and the POLYID 1
@@ -78,15 +78,15 @@ abbrev pub border_text : (name : List ℕ) → TheMap → List ℕ
 border_text name m = records_text (border_records name m)
 
 -- the segments of a chain, if it is of the border, and those of the chain with this number
-abbrev pub segments_of : MapChain → ℕ
-segments_of c = if has_blank c then length c.points - 1 else 0
+abbrev pub border_segments : MapChain → ℕ
+border_segments c = if has_blank c then length c.points - 1 else 0
 
 abbrev pub segments_at : TheMap → ℕ → ℕ
-segments_at m c = option_map_or segments_of (slice_get m.chains c) 0
+segments_at m c = option_map_or border_segments (slice_get m.chains c) 0
 
 -- how many chains and how many segments the border has
 abbrev pub chain_count : TheMap → ℕ
 chain_count m = count_by has_blank m.chains
 
 abbrev pub segment_count : TheMap → ℕ
-segment_count m = sum_by segments_of m.chains
+segment_count m = sum_by border_segments m.chains

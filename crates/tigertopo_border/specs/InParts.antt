@@ -5,7 +5,7 @@ use Rattle.tl_record.specs.declared.options.TheConstants.{PLAIN}
 use Rattle.tl_record.specs.Layout.{layout_with}
 use Rattle.tl_record.specs.Records.{records_of, lines_read}
 use Rattle.tl_record.specs.declared.record.Record.{Record}
-use Rattle.tl_map_join.specs.Told.{joined_records}
+use Rattle.tl_map.specs.Joined.Told.{joined_records}
 use Rattle.tl_map_county.specs.TheMap.{TheMap}
 use Rattle.tl_map_rules.specs.MapOf.{IsMapOf}
 use Rattle.tl_map_rules.specs.Reading.{records_in, IsReadFrom}

@@ -6,3 +6,4 @@ pub mod Readable
 pub mod Again
 pub mod Parts
 pub mod InParts
+pub mod Whole

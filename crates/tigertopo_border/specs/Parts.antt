@@ -3,14 +3,14 @@ use Rattle.std.specs.Prelude.{◌≡◌, ◌≢◌, ℕ, zero, suc, ◌-◌, ◌
 use Rattle.std.specs.List.{flat_map, list_any}
 use Rattle.tl_record.specs.declared.record.Record.{Record}
 use Rattle.tl_record.specs.declared.record.Record.TheVariants.{Landmark, AreaLink}
-use Rattle.tl_map_join.specs.Told.{joined_records}
+use Rattle.tl_map.specs.Joined.Told.{joined_records}
 use Rattle.tl_map_county.specs.TheMap.{TheMap}
 use Rattle.tl_map_rules.specs.MapOf.{IsMapOf}
 use Rattle.tl_map_rules.specs.declared.fault.Limited.{Limited}
 use Rattle.tl_map_rules.specs.declared.fault.RecordFault.{RecordFault}
 use Rattle.tl_map_rules.specs.declared.fault.RecordFault.TheVariants.{TooMany}
 use Rattle.tl_map_rules.specs.Faults.{IsTrueOf}
-use Rattle.tl_check_parts.specs.Homes.{Homes}
+use Rattle.tigertopo_border.specs.Whole.Homes.{Homes}
 
 -- is this a record of another type than 7 and 8
 abbrev pub is_of_no_landmark : Record → Bool

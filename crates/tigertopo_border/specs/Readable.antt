@@ -2,7 +2,7 @@
 use Rattle.std.specs.Prelude.{◌<◌, ◌≤◌, ◌^◌, ◌-◌, ℕ, Some, length, map, sum_by}
 use Rattle.std.specs.List.{AllByRecursion}
 use Rattle.std.specs.List.Sorted.{IsStrictlyIncreasing}
-use Rattle.tl_map_county.specs.Chains.{IsProper, tlids}
+use Rattle.tl_map_county.specs.Chains.{IsProperChain, tlids}
 use Rattle.tl_map_county.specs.Limits.{most_chains, most_segments}
 use Rattle.tl_map_county.specs.Sides.{IsSideAmong}
 use Rattle.tl_map_county.specs.TheMap.{TheMap, MapChain}
@@ -14,7 +14,7 @@ use Rattle.tigertopo_border.specs.Spellable.{IsPlaced, IsPair}
 -- as 999 records of type 2 have, its points are of the earth, and none but its ends lies where no shape pair can
 pub record IsTellable (polygons : ℕ) (c : MapChain) : Type 0 where
   pub tlid : c.tlid < 10 ^ 10
-  pub proper : IsProper c.points
+  pub proper : IsProperChain c.points
   pub few : length c.points ≤ 9992
   pub start : IsPlaced (start_of c.points)
   pub end : IsPlaced (end_of c.points)

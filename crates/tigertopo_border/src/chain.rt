@@ -1,8 +1,8 @@
 //! The records of a chain.
 
 ghost use Rattle.std.specs.Prelude.{◌≡◌, ◌<◌, ◌≤◌, ◌^◌, ◌||◌, length};
-ghost use Rattle.tl_map_county.specs.Chains.{IsProper};
-ghost use Rattle.tl_check_parts.specs.Homes.{is_blank};
+ghost use Rattle.tl_map_county.specs.Chains.{IsProperChain};
+ghost use Rattle.tigertopo_border.specs.Whole.Homes.{is_blank};
 ghost use Rattle.tigertopo_border.specs.Spelling.{records_text};
 ghost use Rattle.tigertopo_border.specs.Border.{border_key, side_key, inner, shapes_below, shape_count, chain_records};
 
@@ -51,7 +51,7 @@ fn side_key(name: [u8; 5], side: Side) -> Option<PolyKey>
 
 /// Prints the records of a chain of the border.
 pub fn print_chain<P: Page>(name: [u8; 5], chain: &Chain<'_>, page: &mut P)
-    requires proper { IsProper chain.now.points.now }
+    requires proper { IsProperChain chain.now.points.now }
     requires few { length chain.now.points.now < 2 ^ 32 }
     ensures { P.adds page.old page.new (records_text (chain_records name chain.now.tlid chain.now.points.now chain.now.left chain.now.right)) }
 {

@@ -15,6 +15,7 @@ mod fields;
 pub mod laws;
 mod lines;
 mod text;
+pub mod whole;
 
 pub use counts::{chain_count, segment_count};
 pub use text::BorderText;

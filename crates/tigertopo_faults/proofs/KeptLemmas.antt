@@ -3,7 +3,7 @@ use Rattle.std.proofs.Common.{◌≡◌, ℕ, zero, suc, ◌+◌, ◌<◌, ◌&&
 use Rattle.std.specs.Prelude.{is_some, position}
 use Rattle.std.specs.Option.{option_map_or}
 use Rattle.std.specs.Cmp.Lexicographic.{pointwise, same_text, nat_list_eq_equiv}
-use Rattle.std.proofs.lemmas.Bool.{cases_Bool, eq-eqb}
+use Rattle.std.proofs.lemmas.Bool.{cases_Bool, eq-eqb, and_parts as both_true}
 use Rattle.std.proofs.lemmas.List.{take_more}
 use Rattle.std.proofs.lemmas.List.Quantifiers.{position-Some}
 use Rattle.std.proofs.lemmas.Option.{slice_get-get_or}
@@ -21,21 +21,7 @@ use Rattle.tigertopo_faults.specs.declared.records.kept.KeptLines.{KeptLines}
 use Rattle.tigertopo_faults.specs.Records.SpokenOf.{Subjects, is_about, line_of, lines_about}
 use Rattle.tigertopo_faults.specs.Records.Kept.{kept_of, Grows, Notes, NotesAll}
 use Rattle.tigertopo_faults.specs.Records.Naming.{subjects_naming, same_subject, is_subject}
-
-both_true : (a b : Bool) → (a && b) ≡ true → (a ≡ true) × (b ≡ true)
-both_true true b e = (refl, e)
-both_true false b e = absurd (let wrong : false ≡ true = e in cc)
-
-key_is : (k l : PolyKey) → k.cenid ≡ l.cenid → k.polyid ≡ l.polyid → k ≡ l
-key_is k l a b = λ i. record { cenid = a i; polyid = b i }
-
-key_same : (k l : PolyKey) → same_key k l ≡ true → k ≡ l
-key_same k l h =
-    let one = both_true (pointwise nat_eq k.cenid l.cenid) (eqb k.polyid l.polyid) h in
-    key_is k l (same_text k.cenid l.cenid (sym one.0)) (eqb-true k.polyid l.polyid one.1)
-
-key_refl : (k : PolyKey) → same_key k k ≡ true
-key_refl k = rw (nat_list_eq_equiv.refl k.cenid) (eq-eqb k.polyid k.polyid refl)
+use Rattle.tl_map_rules.proofs.KeyLemmas.{same_key-is as key_same, same_key-refl as key_refl}
 
 -- subjects that are the same are equal
 pub subject_is : (s t : Subject) → same_subject s t ≡ true → s ≡ t

@@ -106,12 +106,12 @@ texts_on n place = (place.0 + n, place.1)
 abbrev pub GoesOn : List ℕ → ℕ → ℕ → ℕ → Type 0
 GoesOn counts number text line = place_of counts number ≡ option_map (texts_on text) (place_of (drop text counts) line)
 
-same_place : (place : Option (ℕ × ℕ)) → place ≡ option_map (texts_on 0) place
-same_place None = refl
-same_place (Some place) = ap (λ (n : ℕ). Some (n, place.1)) (omega arith)
+same_point : (place : Option (ℕ × ℕ)) → place ≡ option_map (texts_on 0) place
+same_point None = refl
+same_point (Some place) = ap (λ (n : ℕ). Some (n, place.1)) (omega arith)
 
 pub goes_from_first : (counts : List ℕ) (number : ℕ) → GoesOn counts number 0 number
-goes_from_first counts number = same_place (place_of counts number)
+goes_from_first counts number = same_point (place_of counts number)
 
 later_place : (place : Option (ℕ × ℕ)) (text : ℕ) → option_map (texts_on text) (option_map text_on place) ≡ option_map (texts_on (text + 1)) place
 later_place None text = refl

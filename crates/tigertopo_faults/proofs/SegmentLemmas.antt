@@ -7,7 +7,7 @@ use Rattle.tl_map_county.specs.TheMap.{MapChain}
 use Rattle.tl_map_county.specs.Segments.{segments_before, IsSegmentOf}
 use Rattle.tigertopo_faults.specs.Records.Ends.{segment_place, segment_within}
 
-not_below : (a b : ℕ) → b ≤ a → nat_lt a b ≡ false
+pub not_below : (a b : ℕ) → b ≤ a → nat_lt a b ≡ false
 not_below a b less = elim (cases_Bool (nat_lt a b)) [
   | inl holds ↦ absurd (let below = ltb-true a b holds in omega (arith, less, below))
   | inr fails ↦ fails

@@ -3,7 +3,7 @@ use Rattle.std.proofs.Common.{◌≡◌, ℕ, zero, suc, ◌+◌, ◌-◌, ◌<�
 use Rattle.std.specs.Prelude.{not}
 use Rattle.std.proofs.lemmas.List.{drop_more}
 use Rattle.tl_geom.specs.declared.point.Point.{Point}
-use Rattle.tl_map_rules.specs.ChainsOf.{same_point}
+use Rattle.tl_record.specs.Joining.{same_point}
 use Rattle.tl_record.specs.declared.record.Record.{Record}
 use Rattle.tigertopo_faults.specs.declared.records.line.RecordLine.{RecordLine}
 use Rattle.tigertopo_faults.specs.declared.records.walk.HeldPoint.{HeldPoint}

@@ -106,7 +106,12 @@ pub(crate) fn count_rest<S: Source>(source: &mut S, count: LineCount) -> Result<
 fn line_feeds(bytes: &[u8]) -> u64
     ensures { result ≡ line_feeds_of bytes.now }
 {
-    memchr_iter(b'\n', bytes).count() as u64
+    let mut count = 0u64;
+    let mut found = memchr_iter(b'\n', bytes);
+    'places: while let Some(_) = found.next() {
+        count += 1;
+    }
+    count
 }
 
 /// Whether a text leaves its last line open behind these bytes, where it is said whether it does before them.

@@ -66,6 +66,7 @@ use Rattle.tigertopo_program.specs.Lists.Listed.{Asked, ListAnswers, IsSoundList
 use Rattle.tigertopo_program.specs.Lists.Listed.{AreRefused}
 use Rattle.tigertopo_program.specs.Lists.Listed.{refused_text as refused_collection}
 use Rattle.tigertopo_program.specs.Lists.Keeping.{AnswersFronted, AreFeatures, AreFronts, AreLinesOf, AreNoted, ArePrepared, IsLeftPrepared, IsPrepared, IsRefusedList, faults_answer, stop_of_refusal}
+use Rattle.tigertopo_program.proofs.DrawLemmas.SubjectLemmas.{first_is}
 
 -- ---- what is done with files
 
@@ -117,9 +118,6 @@ made_of w None layout under names list text collection are = ([], (λ asks. absu
 made_of w (Some name) layout under names list text collection are =
     let placed = are refl in
     (placed.0, (λ asks. placed.2, λ made. subst (λ (t : List ℕ). Made w (Some name) (collection t)) placed.1 made))
-
-first_is : (layout : Layout) (text : List ℕ) → slice_get (refusals_of layout text) 0 ≡ (records_of layout text).refusal
-first_is layout text = first_of_judged (judgements layout 0 (raw_lines text))
 
 -- refused lines as they are listed, and with where they stand
 pub plain_refused : (layout : Layout) (under : Under) (names : List (List ℕ)) (form : Form) (most : Option ℕ) (list : Vec Refusal Global) → has_places form ≡ false

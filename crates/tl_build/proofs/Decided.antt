@@ -1,26 +1,15 @@
 -- What the clauses of answers to maps read off what these say.
-use Rattle.std.proofs.Common.{◌≡◌, ◌↔◌, ℕ, List, Option, Some, None, Result, Ok, Err, refl, subst, Bool, IsTrue, false, option_map}
-use Rattle.std.specs.Prelude.{IfOk, IfErr, MatchOption}
+use Rattle.std.proofs.Common.{◌≡◌, ◌↔◌, List, [], ◌∷◌, Some, None, Ok, Err, refl, subst, Bool, false}
+use Rattle.std.specs.Prelude.{IfOk, IfErr, slice_get}
 use Rattle.tl_map_county.specs.TheMap.{TheMap}
-use Rattle.tl_check_planar.specs.Planar.{IsPlanar}
-use Rattle.tl_check_sides.specs.Sides.{SidesAgree}
-use Rattle.tl_check_sides.specs.Walks.{AreWalks}
-use Rattle.tl_check_inside.specs.Placed.{ArePlaced}
-use Rattle.tl_check_sides.specs.Cells.Cells.{CellsAgree}
 use Rattle.tl_cert.specs.Certificates.{TheCertificate}
-use Rattle.tl_tree_index.specs.declared.index.Memory.{Memory}
 use Rattle.tl_check_verdict.specs.declared.fault.MapFault.{MapFault}
 use Rattle.tl_check_verdict.specs.Sound.{IsSound, IsSoundFor}
-use Rattle.tl_check_verdict.specs.Truth.{IsTrueOfMap, IsTrueOfMapFor}
+use Rattle.tl_check_verdict.specs.Truth.{IsTrueOfMapFor}
 use Rattle.tl_check_verdict.specs.Verdicts.{IsReport}
-use Rattle.tl_check_faces.specs.Crossings.Headings.{AreProper}
-use Rattle.tl_check_faces.specs.declared.fault.FaceFault.{FaceFault}
-use Rattle.tl_check_faces.specs.Facing.{FacesAgree}
-use Rattle.tl_check_faces.specs.Faults.{IsTrueFaceFault}
-use Rattle.tl_check_verdict.specs.declared.fault.MapFault.TheVariants.{Face}
 use Rattle.tl_check_verdict.proofs.Denials.{not_sound}
-use Rattle.tl_check_verdict.proofs.Asked.{keeps, disagrees}
-use Rattle.tl_build_propose.proofs.Soundness.{sound_by}
+use Rattle.tl_decide.specs.Deciding.{IsOneIfAny}
+use Rattle.tl_decide.proofs.Firsts.{sound_alone}
 use Rattle.tl_record.specs.Records.{Records as AllRecords}
 use Rattle.tl_check_verdict.specs.Records.{HaveMap}
 use Rattle.tl_check_verdict.proofs.OneMap.{weaker}
@@ -31,17 +20,6 @@ use Rattle.tl_build.specs.declared.answer.Built.TheVariants as built
 use Rattle.tl_build.specs.Auditing.{Auditing, IfSound, OnSound, IfFaulty, SaysSound, IsMemoryStop}
 use Rattle.tl_build.specs.Building.{Building, IfCert, OnCert, IfFault, HasCert}
 use Rattle.tl_build.specs.Keeping.Deciding.{AuditsFor, BuildsFor, IsBuilt}
-
--- where nothing was found to be at odds
-pub none_found : (m : TheMap) (found : Option MapFault) → found ≡ None → MatchOption found (SidesAgree m.chains × CellsAgree m.chains) (IsTrueOfMap m) → SidesAgree m.chains × CellsAgree m.chains
-none_found m found is told = subst (λ f. MatchOption f (SidesAgree m.chains × CellsAgree m.chains) (IsTrueOfMap m)) is told
-
--- and a point may be found that is misplaced
-pub sound_where : (m : TheMap) (walks : List (List ℕ)) → AreWalks m.chains walks → IsPlanar m.chains → SidesAgree m.chains × CellsAgree m.chains → (answer : Result (Option MapFault) Memory) →
-    IfOk answer (λ found. MatchOption found (ArePlaced m) (IsTrueOfMap m)) → IfOk answer (λ found. MatchOption found (IsSound m) (IsTrueOfMap m))
-sound_where m walks are planar agree (Ok None) told = sound_by m walks are planar agree told
-sound_where m walks are planar agree (Ok (Some fault)) told = told
-sound_where m walks are planar agree (Err refused) told = tt
 
 -- ---- audits
 
@@ -96,25 +74,16 @@ module _ (faces : Bool) (m : TheMap) where
   built_exactly (Ok (built.Fault fault)) says = ((λ said. absurd said), (λ sound. absurd (not_sound faces m fault says sound)))
   built_exactly (Err stop) says = tt
 
--- ---- faces
+-- ---- one fault, or none
 
--- a map is sound where it keeps what is asked and no faces are
-pub sound_alone : (m : TheMap) → IsSound m → IsSoundFor false m
-sound_alone m sound = record { sound = sound; facing = λ asked. absurd (cc) }
+pub none_told : (faults : List MapFault) → slice_get faults 0 ≡ None → faults ≡ []
+none_told [] is = refl
+none_told (f ∷ rest) is = absurd (let wrong : Some f ≡ None = is in cc)
 
-pub found_asked : (faces : Bool) (m : TheMap) → IsTrue faces → IsSound m → AreProper m.chains → (found : Option FaceFault) → (found ≡ None → FacesAgree m.chains)
-    → ((fault : FaceFault) → found ≡ Some fault → IsTrueFaceFault m fault) → MatchOption (option_map Face found) (IsSoundFor faces m) (IsTrueOfMapFor faces m)
-found_asked faces m asked sound proper (Some fault) agree disagree = disagrees faces m fault asked sound proper (disagree fault refl)
-found_asked faces m asked sound proper None agree disagree = keeps faces m sound (λ a. agree refl)
-
-pub not_asked : (faces : Bool) (m : TheMap) → faces ≡ false → IsSound m → IsSoundFor faces m
-not_asked faces m none sound = rw none (sound_alone m sound)
-
--- ---- what is at odds
-
-pub both_agree : (m : TheMap) (found : Option MapFault) → CellsAgree m.chains → MatchOption found (SidesAgree m.chains) (IsTrueOfMap m) → MatchOption found (SidesAgree m.chains × CellsAgree m.chains) (IsTrueOfMap m)
-both_agree m None cells sides = (sides, cells)
-both_agree m (Some fault) cells told = told
+pub first_told : (faces : Bool) (m : TheMap) (faults : List MapFault) → IsOneIfAny faces m faults → (f : MapFault) → slice_get faults 0 ≡ Some f → IsTrueOfMapFor faces m f
+first_told faces m [] told f is = absurd (let wrong : None ≡ Some f = is in cc)
+first_told faces m (g ∷ []) told f is = let same : g ≡ f = (let e : Some g ≡ Some f = is in cc) in subst (IsTrueOfMapFor faces m) same told
+first_told faces m (g ∷ h ∷ rest) told f is = absurd told
 
 -- ---- what is so of another thing
 

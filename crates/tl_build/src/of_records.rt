@@ -1,17 +1,9 @@
 //! The decision of records with no certificate given.
 
-ghost use Rattle.std.specs.Prelude.{◌≡◌, ◌↔◌, Ok, IfOk, IfErr, All, []};
+ghost use Rattle.std.specs.Prelude.{◌↔◌, IfOk, IfErr};
 ghost use Rattle.std.specs.Option.{IfSome};
 ghost use Rattle.tl_record.specs.Layout.{tiger_2006, layout_with};
 ghost use Rattle.tl_record.specs.Records.{lines_read, records_of};
-ghost use Rattle.tl_check_planar.specs.Planar.{IsPlanar};
-ghost use Rattle.tl_check_planar.specs.declared.meet.Meet.{Meet};
-ghost use Rattle.tl_check_planar.specs.Searching.{IsTrueMeet};
-ghost use Rattle.tl_check_inside.specs.Placed.{ArePlaced};
-ghost use Rattle.tl_check_inside.specs.Suspects.{AreSuspects};
-ghost use Rattle.tl_check_planar.specs.ByHeight.Heights.{widest};
-ghost use Rattle.tl_check_faces.specs.Facing.{FacesAgree};
-ghost use Rattle.tl_check_faces.specs.Odd.{IsLowestOddGap};
 ghost use Rattle.tl_check_verdict.specs.Sound.{IsSound, IsSoundFor};
 ghost use Rattle.tl_check_verdict.specs.Verdicts.{IsReport};
 ghost use Rattle.tl_check_verdict.specs.Records.{HaveMap, HaveMapOf, IsTrueOfRecords, IsTrueOfRecordsFor};
@@ -21,15 +13,11 @@ ghost use Rattle.tl_cert_output.specs.Stops.{TellsDevice};
 ghost use Rattle.tl_build.specs.Keeping.Deciding.{AuditsFor, AuditsRead};
 
 use crate::answer::Audit;
-use crate::faces::find_face_fault;
-use crate::of_swept::decide_swept;
 use std::alloc::Global;
 use std::hash::RandomState;
 use tl_cert_output::Stop;
-use tl_check_faces::OddGap;
-use tl_check_gaps::Gaps;
-use tl_check_sweep::{SweepReport, Swept, sweep};
-use tl_check_verdict::{Report, fault_of_records};
+use tl_check_verdict::{fault_of_records, report};
+use tl_decide::{Asked, Depth, decide};
 use tl_map::{MapStop, read_map_with};
 use tl_map_county::Map;
 use tl_record::{Options, PLAIN, Source};
@@ -92,11 +80,11 @@ pub fn audit_with<R: Source>(
 }
 
 /// Decides of the map that was read of records, or tells why there is none.
-fn audit_read(alloc: Global, read: Result<Map, MapStop>, asked: bool) -> Result<Audit, Stop>
-    ensures { AuditsRead asked read result }
+fn audit_read(alloc: Global, read: Result<Map, MapStop>, faces: bool) -> Result<Audit, Stop>
+    ensures { AuditsRead faces read result }
 {
     match read {
-        Ok(map) => decide(alloc, &map, asked),
+        Ok(map) => audit_for(alloc, &map, faces),
         Err(stop) => Ok(Audit::Fault(fault_of_records(stop)?)),
     }
 }
@@ -116,54 +104,21 @@ pub fn audit_map(alloc: Global, map: &Map, faces: bool) -> Result<Audit, Stop>
     // It stops for memory alone.
     ensures stops { IfErr result IsMemoryStop }
 {
-    decide(alloc, map, faces)
+    audit_for(alloc, map, faces)
 }
 
-/// Decides whether a map is sound, and where faces are asked for, whether they agree, by what a sweep says of it.
-pub fn decide(alloc: Global, map: &Map, asked: bool) -> Result<Audit, Stop>
-    ensures { AuditsFor asked map.now result }
+/// The same, with one clause for all that the answer says.
+fn audit_for(alloc: Global, map: &Map, faces: bool) -> Result<Audit, Stop>
+    ensures { AuditsFor faces map.now result }
 {
-    let SweepReport {
-        swept,
-        suspects,
-        gaps,
-    } = sweep(alloc, map, Gaps::First)?;
-    decide_by(alloc, map, asked, swept, &suspects, &gaps)
-}
-
-/// The same by what the sweep says.
-fn decide_by(
-    alloc: Global,
-    map: &Map,
-    asked: bool,
-    swept: Swept,
-    suspects: &[u32],
-    gaps: &[OddGap],
-) -> Result<Audit, Stop>
-    requires placed { swept ≡ Swept.Placed → IsPlanar map.now.chains × ArePlaced map.now }
-    requires planar { swept ≡ Swept.Planar → IsPlanar map.now.chains }
-    requires meet { (meet : Meet) → swept ≡ Swept.Meet meet → IsTrueMeet map.now.chains meet }
-    requires suspects { AreSuspects map.now suspects.now }
-    requires odd { IsPlanar map.now.chains → All (IsLowestOddGap widest map.now.chains) gaps.now }
-    requires agree { IsPlanar map.now.chains → gaps.now ≡ [] → FacesAgree map.now.chains }
-    ensures { AuditsFor asked map.now result }
-{
-    match decide_swept(alloc, map, swept, suspects)? {
-        Audit::Sound(report) => Ok(ask_for_faces(map, asked, report, gaps)),
-        Audit::Fault(fault) => Ok(Audit::Fault(fault)),
-    }
-}
-
-/// The answer where the map is sound, by what a sweep says of its faces.
-fn ask_for_faces(map: &Map, asked: bool, report: Report, gaps: &[OddGap]) -> Audit
-    requires sound { IsSound map.now }
-    requires report { IsReport map.now report }
-    requires odd { IsPlanar map.now.chains → All (IsLowestOddGap widest map.now.chains) gaps.now }
-    requires agree { IsPlanar map.now.chains → gaps.now ≡ [] → FacesAgree map.now.chains }
-    ensures { AuditsFor asked map.now (Ok result) }
-{
-    match find_face_fault(map, asked, gaps) {
-        Some(fault) => Audit::Fault(fault),
-        None => Audit::Sound(report),
+    let asked = Asked {
+        depth: Depth::First,
+        faces,
+        walks: false,
+    };
+    let decided = decide(alloc, map, asked)?;
+    match decided.faults.first() {
+        Some(fault) => Ok(Audit::Fault(*fault)),
+        None => Ok(Audit::Sound(report(map, decided.rings))),
     }
 }

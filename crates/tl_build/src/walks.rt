@@ -6,14 +6,13 @@ ghost use Rattle.tl_check_sides.specs.Walks.{AreWalks};
 ghost use Rattle.tl_check_verdict.specs.Sound.{IsSound};
 ghost use Rattle.tl_build.specs.Auditing.{IsMemoryStop};
 
-use crate::answer::Audit;
-use crate::of_records::decide;
 use std::alloc::Global;
 use tl_build_propose::propose_walks;
 use tl_cert_output::Stop;
+use tl_decide::{Asked, Decided, Depth, decide};
 use tl_map_county::Map;
 
-/// The walks of a map that is sound; none of one that isn't. It stops where memory was refused, and nowhere else.
+/// The walks of a map that is sound, as they are traced for its decision; none of one that isn't. It stops where memory was refused, and nowhere else.
 pub fn find_walks(alloc: Global, map: &Map) -> Result<Option<Vec<Vec<u32>>>, Stop>
     // Walks are given only where the map is sound, and none only where it isn't.
     ensures sound { IfOk result (λ found. MatchOption found (¬ IsSound map.now) (λ walks. IsSound map.now)) }
@@ -23,9 +22,16 @@ pub fn find_walks(alloc: Global, map: &Map) -> Result<Option<Vec<Vec<u32>>>, Sto
     // It stops for memory alone.
     ensures stops { IfErr result IsMemoryStop }
 {
-    match decide(alloc, map, false)? {
-        Audit::Sound(_) => Ok(Some(planar_walks(alloc, map)?)),
-        Audit::Fault(_) => Ok(None),
+    let asked = Asked {
+        depth: Depth::First,
+        faces: false,
+        walks: true,
+    };
+    let Decided { faults, walks, .. } = decide(alloc, map, asked)?;
+    if faults.is_empty() {
+        Ok(Some(walks))
+    } else {
+        Ok(None)
     }
 }
 

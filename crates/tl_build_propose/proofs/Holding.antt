@@ -6,8 +6,8 @@ use Rattle.std.proofs.lemmas.List.Elements.{All-nil, All-cons, All-head, All-tai
 use Rattle.tl_tree_index.specs.Hits.{times}
 use Rattle.tl_check_sides.specs.Lists.{HoldOnce}
 use Rattle.tl_cert.specs.Certificates.{IsDartList, AreDartLists}
-use Rattle.tl_tree_pack.specs.Lists.{HoldsAll}
-use Rattle.tl_tree_pack.proofs.Holding.{once_in, no_other_in}
+use Rattle.tl_tree_index.specs.Lists.{HoldsAll}
+use Rattle.tl_tree_index.proofs.Holding.{once_in, no_other_in}
 use Rattle.tl_build_propose.specs.Keeping.Lists.{lists_in}
 use Rattle.tl_build_propose.proofs.ListLemmas.{all_in}
 

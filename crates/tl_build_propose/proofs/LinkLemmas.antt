@@ -13,8 +13,8 @@ use Rattle.tl_check_sides.specs.Lists.{before, list_at, times_in, EachList}
 use Rattle.tl_check_sides.proofs.Boundaries.{back_again}
 use Rattle.tl_check_sides.proofs.ListLemmas.{one_place, stands, stands_in, concat-more}
 use Rattle.tl_check_faces.proofs.CrossingsLemmas.Rounds.{two_lists}
-use Rattle.tl_tree_pack.specs.Lists.{HoldsAll}
-use Rattle.tl_tree_pack.proofs.Holding.{once_in, no_other_in}
+use Rattle.tl_tree_index.specs.Lists.{HoldsAll}
+use Rattle.tl_tree_index.proofs.Holding.{once_in, no_other_in}
 use Rattle.tl_check_sides.specs.declared.headed.HeadedDart.{HeadedDart}
 use Rattle.tl_build_propose.specs.Keeping.Following.{IsLinkedIn}
 use Rattle.tl_build_propose.specs.Keeping.Lists.{darts_in}

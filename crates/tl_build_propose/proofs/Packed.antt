@@ -9,7 +9,7 @@ use Rattle.tl_tree_index.specs.declared.node.TreeNode.{TreeNode}
 use Rattle.tl_tree_index.specs.declared.node.TreeNode.TheVariants.{Inner, Leaf}
 use Rattle.tl_tree_index.specs.Fits.{Fits}
 use Rattle.tl_tree_index.specs.Trees.{depth, tree_of}
-use Rattle.tl_tree_pack.specs.Packed.{IsFilled, IsShallow}
+use Rattle.tl_tree_index.specs.Packed.{IsFilled, IsShallow}
 use Rattle.tl_cert.specs.Certificates.{IsNode}
 use Rattle.tl_check_verdict.specs.Valid.{segments_in_map, IsTree}
 

@@ -12,7 +12,7 @@ use Rattle.tl_map_county.proofs.NodeLemmas.{one_number}
 use Rattle.tl_tree_index.specs.Hits.{times}
 use Rattle.tl_check_sides.specs.Lists.{HoldOnce, list_at}
 use Rattle.tl_check_sides.specs.Sides.{dart_count}
-use Rattle.tl_check_sides.specs.Rounds.{AreRounds, HasOneNode, AreRising, round_start}
+use Rattle.tl_check_sides.specs.Rounds.{AreRounds, HasOneNode, AreHeadingsRising, round_start}
 use Rattle.tl_check_sides.proofs.ListLemmas.{one_place}
 use Rattle.tl_check_sides.proofs.NodeFacts.{starts_first}
 use Rattle.tl_check_faces.specs.Crossings.Headings.{HeadApart}
@@ -52,7 +52,7 @@ module _ (chains : List MapChain) (nodes : List Point) (are : AreNodes chains no
         let within : k < length group = omega (arith, length-map group (λ (s : HeadedDart). s.dart), h) in
         ap (dart_start chains) (dart_is k within) ∙ (starts_there k within ∙ sym round_starts)
 
-    rising : HeadApart chains → ((e : ℕ) → times e (darts_in group) ≤ 1) → AreRising chains (darts_in group)
+    rising : HeadApart chains → ((e : ℕ) → times e (darts_in group) ≤ 1) → AreHeadingsRising chains (darts_in group)
     rising apart once k h =
         let long = length-map group (λ (s : HeadedDart). s.dart) in
         let here : k < length group = omega (arith, long, h) in
@@ -133,7 +133,7 @@ module _ (chains : List MapChain) (nodes : List Point) (are : AreNodes chains no
           let g = group_at r in
           let is = is_group r many in
           let once : (e : ℕ) → times e (darts_in g) ≤ 1 = λ e. subst (λ xs. times e xs ≤ 1) (list_is r many) (once_at (dart_count chains) rounds hold e r h) in
-          subst (AreRising chains) (sym (list_is r many)) (rising g is (is_held r many) (some_of g is.some) apart once);
+          subst (AreHeadingsRising chains) (sym (list_is r many)) (rising g is (is_held r many) (some_of g is.some) apart once);
       apart = λ r s node less h at_r at_s.
           let many : s < length cut.groups = omega (arith, as_many, h) in
           let also : r < length cut.groups = omega (arith, less, many) in

@@ -27,6 +27,10 @@ dart_in chains ring is k h = let f : Follows chains (before ring k) (slice_index
 pub darts_in : (chains : List MapChain) (ring : List ℕ) → IsRing chains ring → All (λ d. d < 2 * length chains) ring
 darts_in chains ring is k d h = subst (λ x. x < dart_count chains) (get_or_default ring k 0 d h) (dart_in chains ring is k h)
 
+-- sides that are at odds don't agree
+pub odds_differ : (m : TheMap) (node : Point) (first next : ℕ) → AreAtOdds m node first next → AreAtOdds m node first next × (¬ SidesAgree m.chains)
+odds_differ m node first next odds = (odds, λ agree. odds.differ (agree first next odds.is_next))
+
 -- a ring that has two sides on its left, one behind the other
 pub at_odds : (m : TheMap) (ring : List ℕ) → IsRing m.chains ring → (place last : ℕ) (node : Point) (dart other : ℕ) → last + 1 ≡ place → place < length ring → dart ≡ slice_index ring place → other ≡ slice_index ring last →
     dart_start m.chains dart ≡ Some node → ¬ (dart_left m.chains dart ≡ dart_left m.chains other) → AreAtOdds m node dart (reverse_dart other)

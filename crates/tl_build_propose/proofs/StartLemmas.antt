@@ -10,8 +10,8 @@ use Rattle.tl_geom.specs.declared.point.Point.{Point}
 use Rattle.tl_map_county.specs.TheMap.{MapChain}
 use Rattle.tl_map_county.specs.Darts.{dart_start}
 use Rattle.tl_map_county.proofs.NodeLemmas.{one_list}
-use Rattle.tl_tree_pack.specs.Lists.{up}
-use Rattle.tl_tree_pack.proofs.ListLemmas.{up_none, up_more}
+use Rattle.tl_tree_index.specs.Lists.{up}
+use Rattle.tl_tree_index.proofs.ListLemmas.{up_none, up_more}
 use Rattle.tl_check_sides.specs.declared.headed.HeadedDart.{HeadedDart}
 use Rattle.tl_check_sides.specs.Headed.{IsHeaded, AreDartsSorted}
 use Rattle.tl_build_propose.specs.Keeping.Lists.{darts_in}

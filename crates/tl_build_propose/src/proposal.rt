@@ -3,7 +3,7 @@
 ghost use Rattle.std.specs.Prelude.{◌*◌, ◌≤◌, length, All, IfOk, MatchOption};
 ghost use Rattle.tl_tree_index.specs.Preorder.{IsPreorder};
 ghost use Rattle.tl_tree_index.specs.Trees.{depth, tree_of};
-ghost use Rattle.tl_tree_pack.specs.Packed.{IsEvenlySplit};
+ghost use Rattle.tl_tree_index.specs.Packed.{IsEvenlySplit};
 ghost use Rattle.tl_check_planar.specs.Planar.{IsPlanar};
 ghost use Rattle.tl_check_sides.specs.Lists.{HoldOnce};
 ghost use Rattle.tl_check_sides.specs.Sides.{SidesAgree};
@@ -25,8 +25,7 @@ use tl_cert::{Certificate, Counts};
 use tl_check_planar::Segments;
 use tl_check_sides::HeadedDart;
 use tl_map_county::Map;
-use tl_tree_index::TreeNode;
-use tl_tree_pack::pack;
+use tl_tree_index::{TreeNode, pack};
 
 /// The certificate of version 2 that is proposed for a map.
 pub fn propose(alloc: Global, map: &Map) -> Result<Certificate, AllocError>

@@ -4,9 +4,8 @@ ghost use Rattle.std.specs.Prelude.{MatchOption};
 ghost use Rattle.tl_check_sides.specs.Sides.{IsRing, SidesAgree};
 ghost use Rattle.tl_check_sides.specs.Walks.{AreWalks};
 ghost use Rattle.tl_check_faces.specs.Crossings.Headings.{HeadApart};
-ghost use Rattle.tl_check_verdict.specs.Truth.{IsTrueOfMap};
 ghost use Rattle.tl_build_propose.specs.Keeping.Lists.{lists_in};
-ghost use Rattle.tl_build_propose.specs.Keeping.Siding.{HasOneLeft};
+ghost use Rattle.tl_build_propose.specs.Keeping.Siding.{HasOneLeft, IsOfDifferingSides};
 
 use tl_check_verdict::MapFault;
 use tl_map_county::{Map, reverse_dart};
@@ -15,7 +14,7 @@ use tl_map_county::{Map, reverse_dart};
 pub fn find_sides_at_odds(map: &Map, walks: &[Vec<u32>]) -> Option<MapFault>
     requires walks { AreWalks map.now.chains (lists_in walks.now) }
     requires apart { HeadApart map.now.chains }
-    ensures { MatchOption result (SidesAgree map.now.chains) (IsTrueOfMap map.now) }
+    ensures { MatchOption result (SidesAgree map.now.chains) (IsOfDifferingSides map.now) }
 {
     for walk in walks {
         match side_at_odds(map, walk) {
@@ -29,7 +28,7 @@ pub fn find_sides_at_odds(map: &Map, walks: &[Vec<u32>]) -> Option<MapFault>
 /// Where a ring comes from one side on its left to another, if it does.
 fn side_at_odds(map: &Map, ring: &[u32]) -> Option<MapFault>
     requires { IsRing map.now.chains ring.now }
-    ensures { MatchOption result (HasOneLeft map.now.chains ring.now) (IsTrueOfMap map.now) }
+    ensures { MatchOption result (HasOneLeft map.now.chains ring.now) (IsOfDifferingSides map.now) }
 {
     let left = map.dart_left(ring[0]);
     for place in 1..ring.len() {

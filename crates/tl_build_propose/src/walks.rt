@@ -8,7 +8,7 @@ ghost use Rattle.tl_tree_index.specs.Keeping.Marked.{mark_at};
 ghost use Rattle.tl_tree_index.specs.Hits.{times};
 ghost use Rattle.tl_check_sides.specs.Lists.{HoldOnce};
 ghost use Rattle.tl_check_sides.specs.Keeping.Marked.{AddMarks};
-ghost use Rattle.tl_tree_pack.specs.Lists.{HoldsAll};
+ghost use Rattle.tl_tree_index.specs.Lists.{HoldsAll};
 ghost use Rattle.tl_build_propose.specs.Keeping.Following.{IsOneToOne, IsLinkedBy, IsLinkedIn, AreFollowed, GoesBy};
 ghost use Rattle.tl_build_propose.specs.Keeping.Lists.{AreUnmarked, darts_in};
 

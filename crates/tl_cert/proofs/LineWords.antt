@@ -3,7 +3,7 @@ use Rattle.std.proofs.Common.{◌≡◌, ℕ, zero, suc, ◌≤◌, List, [], �
 use Rattle.tl_geom.specs.declared.rect.Rect.{Rect}
 use Rattle.tl_cert.specs.declared.certificate.Counts.{Counts}
 use Rattle.tl_cert.specs.Certificates.{IsNumber, IsInRange, AreCountsInRange}
-use Rattle.tl_cert.specs.Text.{number, coordinate, numbered_line, counts_line, rectangle, inner_line, leaf_line}
+use Rattle.tl_cert.specs.Text.{number, coordinate_text, numbered_line, counts_line, rectangle, inner_line, leaf_line}
 use Rattle.tl_cert.specs.Keeping.Words.{StartsWord}
 use Rattle.tl_cert.proofs.WordLemmas.{same_first, same_rest, number_only, coordinate_only_32, numbered_only}
 
@@ -17,8 +17,8 @@ five_words a b c d x = append_assoc (a ++ b ++ c) d x ∙ four_words a b c (d ++
 pub rectangle_only : (q r : Rect) (x y : List ℕ) → IsInRange q → IsInRange r → StartsWord x → StartsWord y
     → rectangle q ++ x ≡ rectangle r ++ y → (q ≡ r) × (x ≡ y)
 rectangle_only q r x y f g h l same =
-    let apart = sym (five_words (coordinate q.xmin) (coordinate q.ymin) (coordinate q.xmax) (coordinate q.ymax) x)
-    ∙ same ∙ five_words (coordinate r.xmin) (coordinate r.ymin) (coordinate r.xmax) (coordinate r.ymax) y in
+    let apart = sym (five_words (coordinate_text q.xmin) (coordinate_text q.ymin) (coordinate_text q.xmax) (coordinate_text q.ymax) x)
+    ∙ same ∙ five_words (coordinate_text r.xmin) (coordinate_text r.ymin) (coordinate_text r.xmax) (coordinate_text r.ymax) y in
     let first = coordinate_only_32 q.xmin r.xmin _ _ f.xmin g.xmin refl refl apart in
     let second = coordinate_only_32 q.ymin r.ymin _ _ f.ymin g.ymin refl refl first.1 in
     let third = coordinate_only_32 q.xmax r.xmax _ _ f.xmax g.xmax refl refl second.1 in

@@ -3,7 +3,7 @@ use Rattle.std.proofs.Common.{◌≡◌, ◌≢◌, ℕ, ℤ, zero, suc, ◌+◌
 use Rattle.std.proofs.lemmas.List.{get_or_default, length-take-le, get_or-take, take-append-drop}
 use Rattle.std.specs.Fmt.{signed_decimal}
 use Rattle.std.proofs.lemmas.List.Elements.{All-head, All-tail}
-use Rattle.tl_cert.specs.Text.{number, coordinate}
+use Rattle.tl_cert.specs.Text.{number, coordinate_text}
 use Rattle.tl_cert.specs.Certificates.{IsNumber}
 use Rattle.tl_cert.specs.Keeping.Words.{StartsWord, IsSplit}
 use Rattle.tl_cert.proofs.WordLemmas.{same_first, same_rest, decimal_no_space, signed_no_space, magnitude_32}
@@ -67,6 +67,6 @@ pub number_split : (bytes word rest : List ℕ) (n : ℕ) (others : List ℕ) �
 number_split bytes word rest n others split small starts same = split_only bytes word rest (decimal n) others split (decimal_no_space n (omega (arith, small))) starts same
 
 pub coordinate_split : (bytes word rest : List ℕ) (z : ℤ) (others : List ℕ) → IsSplit bytes word rest → FitsSigned w32 z → StartsWord others
-    → bytes ≡ coordinate z ++ others → (word ≡ signed_decimal z) × (rest ≡ others)
+    → bytes ≡ coordinate_text z ++ others → (word ≡ signed_decimal z) × (rest ≡ others)
 coordinate_split bytes word rest z others split fits starts same =
     split_only bytes word rest (signed_decimal z) others split (signed_no_space z (omega (arith, magnitude_32 z fits))) starts same

@@ -8,7 +8,7 @@ use Rattle.tl_record.specs.Lines.{line_feeds}
 use Rattle.tl_record.proofs.LineLemmas.{feeds-append, other_counts}
 use Rattle.tl_cert.specs.declared.certificate.Counts.{Counts}
 use Rattle.tl_cert.specs.Certificates.{IsNumber, IsInRange, AreCountsInRange}
-use Rattle.tl_cert.specs.Text.{number, coordinate, numbered_line, counts_line, end_line, rectangle, children, inner_line, leaf_line}
+use Rattle.tl_cert.specs.Text.{number, coordinate_text, numbered_line, counts_line, end_line, rectangle, children, inner_line, leaf_line}
 use Rattle.tl_cert.specs.Keeping.Steps.{State, start, headed, counted, tree, rounds, walks, ended, CanHave, roots, Steps, at_head, at_counts, at_nodes}
 use Rattle.tl_cert.specs.Keeping.Steps.{at_inner, at_leaf, at_item, at_rounds, at_round, at_round_dart, at_walks, at_walk, at_walk_dart, at_end}
 use Rattle.tl_cert.proofs.WordLemmas.{decimal_feeds, signed_feeds, magnitude_32}
@@ -31,7 +31,7 @@ number_short n small =
     let long = length-decimal-le 10 n (omega arith) (omega arith) (omega arith) in
     (other_counts 32 (decimal n) refl ∙ decimal_feeds n (omega arith), omega (arith, long))
 
-pub coordinate_short : (z : ℤ) → FitsSigned w32 z → IsShort 12 (coordinate z)
+pub coordinate_short : (z : ℤ) → FitsSigned w32 z → IsShort 12 (coordinate_text z)
 coordinate_short z fits =
     let small = magnitude_32 z fits in
     let long = length_signed_le 10 z (omega (arith, small)) (omega (arith, small)) in
@@ -42,9 +42,9 @@ numbered_short n m word short small = short_append n 11 word (number m) short (n
 
 pub rectangle_short : (r : Rect) → IsInRange r → IsShort 48 (rectangle r)
 rectangle_short r f =
-    short_append 36 12 (coordinate r.xmin ++ coordinate r.ymin ++ coordinate r.xmax) (coordinate r.ymax)
-    (short_append 24 12 (coordinate r.xmin ++ coordinate r.ymin) (coordinate r.xmax)
-    (short_append 12 12 (coordinate r.xmin) (coordinate r.ymin) (coordinate_short r.xmin f.xmin) (coordinate_short r.ymin f.ymin))
+    short_append 36 12 (coordinate_text r.xmin ++ coordinate_text r.ymin ++ coordinate_text r.xmax) (coordinate_text r.ymax)
+    (short_append 24 12 (coordinate_text r.xmin ++ coordinate_text r.ymin) (coordinate_text r.xmax)
+    (short_append 12 12 (coordinate_text r.xmin) (coordinate_text r.ymin) (coordinate_short r.xmin f.xmin) (coordinate_short r.ymin f.ymin))
     (coordinate_short r.xmax f.xmax))
     (coordinate_short r.ymax f.ymax)
 

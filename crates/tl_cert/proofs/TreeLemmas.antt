@@ -43,7 +43,7 @@ can_few (suc zero) p r (inr more) = omega (arith, more.1.1)
 can_few (suc (suc version)) p r (inl same) = omega (arith, same)
 can_few (suc (suc version)) p r (inr more) = omega (arith, more.1)
 
-nodes_lines-append : (version : ℕ) (xs ys : List TreeNode) → nodes_lines version (xs ++ ys) ≡ nodes_lines version xs ++ nodes_lines version ys
+pub nodes_lines-append : (version : ℕ) (xs ys : List TreeNode) → nodes_lines version (xs ++ ys) ≡ nodes_lines version xs ++ nodes_lines version ys
 nodes_lines-append version [] ys = refl
 nodes_lines-append version (Inner r k ∷ xs) ys = ap (λ (ls : List (List ℕ)). inner_line version r k ∷ ls) (nodes_lines-append version xs ys)
 nodes_lines-append version (Leaf r v ∷ xs) ys =

@@ -10,7 +10,7 @@ use Rattle.std.proofs.lemmas.List.Elements.{All-nil, All-cons, All-head, All-tai
 use Rattle.tl_record.specs.Lines.{line_feeds}
 use Rattle.tl_record.proofs.LineLemmas.{other_counts}
 use Rattle.tl_cert.specs.Keeping.Words.{StartsWord}
-use Rattle.tl_cert.specs.Text.{number, coordinate, numbered_line}
+use Rattle.tl_cert.specs.Text.{number, coordinate_text, numbered_line}
 
 pub same_first : (byte other : ℕ) (x y : List ℕ) → byte ∷ x ≡ other ∷ y → byte ≡ other
 same_first byte other x y same = cc
@@ -42,7 +42,7 @@ decimal_only m n x y low small h l same =
 pub number_only : (m n : ℕ) (x y : List ℕ) → m < 2 ^ 64 → n < 2 ^ 64 → StartsWord x → StartsWord y → number m ++ x ≡ number n ++ y → (m ≡ n) × (x ≡ y)
 number_only m n x y low small h l same = decimal_only m n x y low small h l (same_rest 32 32 (decimal m ++ x) (decimal n ++ y) same)
 
--- a coordinate's digits begin with no minus
+-- a coordinate_text's digits begin with no minus
 no_minus : (n : ℕ) (x y : List ℕ) → n < 2 ^ 64 → decimal n ++ x ≡ 45 ∷ y → ⊥
 no_minus n x y small same = by_digits (decimal n) x y (decimal_is_IsNumeral n small).0 same
   where
@@ -61,14 +61,14 @@ signed_only (negsuc m) (negsuc n) x y low small h l same =
     (ap negsuc (omega (arith, parts.0)), parts.1)
 
 pub coordinate_only : (a b : ℤ) (x y : List ℕ) → mag a < 2 ^ 63 → mag b < 2 ^ 63 → StartsWord x → StartsWord y
-    → coordinate a ++ x ≡ coordinate b ++ y → (a ≡ b) × (x ≡ y)
+    → coordinate_text a ++ x ≡ coordinate_text b ++ y → (a ≡ b) × (x ≡ y)
 coordinate_only a b x y low small h l same = signed_only a b x y low small h l (same_rest 32 32 (signed_decimal a ++ x) (signed_decimal b ++ y) same)
 
 pub magnitude_32 : (z : ℤ) → FitsSigned w32 z → mag z < 2 ^ 31
 magnitude_32 z fits = fits.sfits
 
 pub coordinate_only_32 : (a b : ℤ) (x y : List ℕ) → FitsSigned w32 a → FitsSigned w32 b → StartsWord x → StartsWord y
-    → coordinate a ++ x ≡ coordinate b ++ y → (a ≡ b) × (x ≡ y)
+    → coordinate_text a ++ x ≡ coordinate_text b ++ y → (a ≡ b) × (x ≡ y)
 coordinate_only_32 a b x y low small h l same =
     coordinate_only a b x y (omega (arith, magnitude_32 a low)) (omega (arith, magnitude_32 b small)) h l same
 

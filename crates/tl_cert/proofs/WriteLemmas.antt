@@ -14,6 +14,7 @@ use Rattle.tl_cert.specs.declared.certificate.Counts.{Counts}
 use Rattle.tl_cert.specs.Text.{numbered_line, head_line, counts_line, nodes_lines, tree_lines, leaf_line, inner_line, item_lines}
 use Rattle.tl_cert.specs.Text.{darts_lines, all_darts_lines, rounds_lines, walks_lines, end_line, certificate_text}
 use Rattle.tl_cert.proofs.Completing.{joined-append}
+use Rattle.tl_cert.proofs.TreeLemmas.{nodes_lines-append}
 
 -- ---- the text of a list is the texts of its elements, one behind the other
 module _ {X : Type 0} (text : List X → List ℕ) (joins : (xs ys : List X) → text (xs ++ ys) ≡ text xs ++ text ys) where
@@ -40,14 +41,6 @@ pub numbers_joins : (word xs ys : List ℕ) → numbers_text word (xs ++ ys) ≡
 numbers_joins word xs ys =
     ap joined_lines (map-append (numbered_line word) xs ys)
     ∙ joined-append (map (numbered_line word) xs) (map (numbered_line word) ys)
-
-nodes_lines-append : (version : ℕ) (xs ys : List TreeNode) → nodes_lines version (xs ++ ys) ≡ nodes_lines version xs ++ nodes_lines version ys
-nodes_lines-append version [] ys = refl
-nodes_lines-append version (Inner r k ∷ xs) ys = ap (λ (l : List (List ℕ)). inner_line version r k ∷ l) (nodes_lines-append version xs ys)
-nodes_lines-append version (Leaf r v ∷ xs) ys =
-    ap (λ (l : List (List ℕ)). leaf_line r (length v.items) ∷ item_lines v.items ++ l) (nodes_lines-append version xs ys)
-    ∙ ap (λ (l : List (List ℕ)). leaf_line r (length v.items) ∷ l)
-    (sym (append_assoc (item_lines v.items) (nodes_lines version xs) (nodes_lines version ys)))
 
 pub nodes_joins : (version : ℕ) (xs ys : List TreeNode) → nodes_text version (xs ++ ys) ≡ nodes_text version xs ++ nodes_text version ys
 nodes_joins version xs ys =

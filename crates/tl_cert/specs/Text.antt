@@ -8,12 +8,12 @@ use Rattle.tl_tree_index.specs.declared.node.TreeNode.TheVariants.{Inner, Leaf}
 use Rattle.tl_cert.specs.declared.certificate.Counts.{Counts}
 use Rattle.tl_cert.specs.Certificates.{TheCertificate}
 
--- a number, or a coordinate, behind a space
+-- a number, or a coordinate_text, behind a space
 abbrev pub number : ℕ → List ℕ
 number n = codes " " ++ decimal n
 
-abbrev pub coordinate : ℤ → List ℕ
-coordinate z = codes " " ++ signed_decimal z
+abbrev pub coordinate_text : ℤ → List ℕ
+coordinate_text z = codes " " ++ signed_decimal z
 
 -- a line of a word and a number
 abbrev pub numbered_line : List ℕ → ℕ → List ℕ
@@ -30,7 +30,7 @@ end_line = codes "END"
 
 -- a rectangle's minimum and maximum, longitude before latitude
 abbrev pub rectangle : Rect → List ℕ
-rectangle r = coordinate r.xmin ++ coordinate r.ymin ++ coordinate r.xmax ++ coordinate r.ymax
+rectangle r = coordinate_text r.xmin ++ coordinate_text r.ymin ++ coordinate_text r.xmax ++ coordinate_text r.ymax
 
 -- how many children an inner node has: version 1 doesn't say it
 abbrev pub children : ℕ → ℕ → List ℕ

@@ -3,7 +3,7 @@
 ghost use Rattle.std.specs.Prelude.{◌≡◌, ◌+◌, ◌<◌, ◌≤◌, ◌^◌, ◌∷◌, [], ◌++◌, FitsSigned, decimal, length, IfSome};
 ghost use Rattle.std.specs.Int.{w32};
 ghost use Rattle.tl_cert.specs.Certificates.{IsNumber, IsInRange};
-ghost use Rattle.tl_cert.specs.Text.{number, numbered_line, coordinate, rectangle};
+ghost use Rattle.tl_cert.specs.Text.{number, numbered_line, coordinate_text, rectangle};
 ghost use Rattle.tl_cert.specs.Keeping.Words.{StandsFirst, AreDigits, AreFew};
 
 use crate::number::{behind, next_behind, rect_of};
@@ -211,7 +211,7 @@ fn long_number(bytes: &[u8]) -> Option<(u64, &[u8])>
 #[inline(always)]
 pub fn front_coordinate(bytes: &[u8]) -> Option<(i32, &[u8])>
     requires { 11 ≤ length bytes.now }
-    ensures first { IfSome result (λ first. (bytes.now ≡ coordinate first.0 ++ first.1.now) × FitsSigned w32 first.0) }
+    ensures first { IfSome result (λ first. (bytes.now ≡ coordinate_text first.0 ++ first.1.now) × FitsSigned w32 first.0) }
     ensures few { IfSome result (λ first. length bytes.now ≤ length first.1.now + 11) }
 {
     let Some(word) = next_behind(bytes, b' ') else {

@@ -6,7 +6,7 @@ ghost use Rattle.std.specs.Int.{w32};
 ghost use Rattle.std.specs.Fmt.{signed_decimal};
 ghost use Rattle.tl_geom.specs.declared.rect.Rect.{Rect};
 ghost use Rattle.tl_cert.specs.Certificates.{IsNumber, IsInRange};
-ghost use Rattle.tl_cert.specs.Text.{number, coordinate, rectangle};
+ghost use Rattle.tl_cert.specs.Text.{number, coordinate_text, rectangle};
 ghost use Rattle.tl_cert.specs.Keeping.Words.{MaySpell, StartsWord, IsSplit};
 
 use crate::front::front_coordinate;
@@ -158,7 +158,7 @@ fn ends_word(bytes: &[u8]) -> bool
 /// behind it. None says nothing.
 #[inline(always)]
 fn long_coordinate(bytes: &[u8]) -> Option<(i32, &[u8])>
-    ensures { IfSome result (λ split. (bytes.now ≡ coordinate split.0 ++ split.1.now) × StartsWord split.1.now
+    ensures { IfSome result (λ split. (bytes.now ≡ coordinate_text split.0 ++ split.1.now) × StartsWord split.1.now
         × FitsSigned w32 split.0) }
 {
     if bytes.len() < 11 {
@@ -177,8 +177,8 @@ fn long_coordinate(bytes: &[u8]) -> Option<(i32, &[u8])>
 #[inline(never)]
 fn word_coordinate(bytes: &[u8]) -> Option<(i32, &[u8])>
     ensures { MatchOption result
-        ((z : ℤ) (others : List ℕ) → FitsSigned w32 z → StartsWord others → ¬ (bytes.now ≡ coordinate z ++ others))
-        (λ split. (bytes.now ≡ coordinate split.0 ++ split.1.now) × StartsWord split.1.now × FitsSigned w32 split.0) }
+        ((z : ℤ) (others : List ℕ) → FitsSigned w32 z → StartsWord others → ¬ (bytes.now ≡ coordinate_text z ++ others))
+        (λ split. (bytes.now ≡ coordinate_text split.0 ++ split.1.now) × StartsWord split.1.now × FitsSigned w32 split.0) }
 {
     let Some((word, others)) = split_word(bytes) else {
         return None;
@@ -193,8 +193,8 @@ fn word_coordinate(bytes: &[u8]) -> Option<(i32, &[u8])>
 #[inline(always)]
 fn split_coordinate(bytes: &[u8]) -> Option<(i32, &[u8])>
     ensures { MatchOption result
-        ((z : ℤ) (others : List ℕ) → FitsSigned w32 z → StartsWord others → ¬ (bytes.now ≡ coordinate z ++ others))
-        (λ split. (bytes.now ≡ coordinate split.0 ++ split.1.now) × StartsWord split.1.now × FitsSigned w32 split.0) }
+        ((z : ℤ) (others : List ℕ) → FitsSigned w32 z → StartsWord others → ¬ (bytes.now ≡ coordinate_text z ++ others))
+        (λ split. (bytes.now ≡ coordinate_text split.0 ++ split.1.now) × StartsWord split.1.now × FitsSigned w32 split.0) }
 {
     // Most coordinates have eight or nine digits.
     if let Some(split) = long_coordinate(bytes) {

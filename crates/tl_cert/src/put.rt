@@ -4,7 +4,7 @@ ghost use Rattle.std.specs.Prelude.{◌*◌, ◌≤◌, ◌∷◌, [], length, m
 ghost use Rattle.tl_record.specs.Lines.{joined_lines};
 ghost use Rattle.tl_cert_output.specs.Writing.{line_of};
 ghost use Rattle.tl_cert.specs.Text;
-ghost use Rattle.tl_cert.specs.Text.{number, coordinate, rectangle, numbered_line, leaf_line, item_lines, nodes_lines};
+ghost use Rattle.tl_cert.specs.Text.{number, coordinate_text, rectangle, numbered_line, leaf_line, item_lines, nodes_lines};
 ghost use Rattle.tl_cert.specs.Keeping.Putting.{HasRoom, Puts};
 
 use crate::certificate::Counts;
@@ -59,11 +59,11 @@ fn put_word(n: u32, text: &mut [u8], end: usize) -> usize
     put_byte(b' ', text, digits)
 }
 
-// Puts a space and a coordinate before what stands at `end`, and tells where they start.
+// Puts a space and a coordinate_text before what stands at `end`, and tells where they start.
 #[inline(always)]
 fn put_coordinate(z: i32, text: &mut [u8], end: usize) -> usize
     requires { HasRoom 12 end text.old }
-    ensures { Puts 12 end result text.old text.new (coordinate z) }
+    ensures { Puts 12 end result text.old text.new (coordinate_text z) }
 {
     let digits = write_digits(u64::from(z.unsigned_abs()), text, end);
     if z < 0 {

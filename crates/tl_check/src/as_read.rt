@@ -13,7 +13,7 @@ ghost use Rattle.tl_check_verdict.specs.Truth.{IsTrueOfMapFor};
 ghost use Rattle.tl_check_verdict.specs.Verdicts.{OnSound, OnSoundButFaces, IfSound, IfMapFault, IfCertFault, OnDartFault, UnlessMeet, OnSearched, IsReport, IsWithinBudget};
 ghost use Rattle.tl_check_verdict.specs.Texts.{IsTrueWhereKnown, IsValidWhereKnown, AllowsSearchWhereKnown, IsPlanarWhereAllowed, MayStopReading};
 ghost use Rattle.tl_cert_output.specs.Stops.{TellsDevice};
-ghost use Rattle.tl_check.specs.Keeping.Searching.{AreToldGaps};
+ghost use Rattle.tl_check.specs.Keeping.Searching.{AreFirstGaps};
 ghost use Rattle.tl_check.specs.Keeping.Parts.{Holds, LeadsBehindTree};
 ghost use Rattle.tl_check.specs.Keeping.Read.{IsOfSpelt, IsOfText};
 ghost use Rattle.tl_check.specs.Keeping.Streams.{IsBehindTree, IsAnswer, MayCome, LeadsBy};
@@ -95,7 +95,7 @@ fn check_text<S: Source>(
 ) -> Result<Verdict, Stop>
     ensures decides { IsOfSpelt map.now false budget (S.remaining cert.old) result }
     ensures failures { TellsDevice (S.failure_count cert.old) (S.failure_count cert.new) result }
-    ensures told { OnSound result (AreToldGaps map.now gaps.new.items) }
+    ensures told { OnSound result (AreFirstGaps map.now gaps.new.items) }
 {
     let mut reader = CertReader::new(alloc, cert);
     check_parts(alloc, map, &mut reader, budget, gaps)
@@ -113,7 +113,7 @@ fn check_parts<R: Source>(
     requires lines { lines_of reader.old ≡ 0 }
     ensures answers { IsAnswer R.remaining R.failure_count map.now budget reader.old reader.new result }
     ensures same_reference { R.reference (source_of reader.new) ≡ R.reference (source_of reader.old) }
-    ensures told { OnSound result (AreToldGaps map.now gaps.new.items) }
+    ensures told { OnSound result (AreFirstGaps map.now gaps.new.items) }
 {
     let mut state = match take_head(alloc, map, reader, budget) {
         Ok(begun) => begun,

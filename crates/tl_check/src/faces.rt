@@ -4,11 +4,11 @@ ghost use Rattle.std.specs.Prelude.{◌≡◌};
 ghost use Rattle.tl_check_verdict.specs.Sound.{IsSound};
 ghost use Rattle.tl_check_verdict.specs.Verdicts.{OnSound};
 ghost use Rattle.tl_check.specs.Keeping.Faces.{IsFacing, IsWithFaces, verdict_of};
-ghost use Rattle.tl_check.specs.Keeping.Searching.{AreToldGaps};
+ghost use Rattle.tl_check.specs.Keeping.Searching.{AreFirstGaps};
 
 use tl_cert_output::Stop;
-use tl_check_face_faults::face_fault_of;
 use tl_check_faces::{FaceFault, OddGap};
+use tl_check_gaps::face_faults::face_fault_of;
 use tl_check_verdict::{MapFault, Report, Verdict};
 use tl_map_county::Map;
 
@@ -21,7 +21,7 @@ pub fn with_faces(
     gaps: &[OddGap],
 ) -> Result<Verdict, Stop>
     requires sound { OnSound decided (IsSound map.now) }
-    requires told { OnSound decided (AreToldGaps map.now gaps.now) }
+    requires told { OnSound decided (AreFirstGaps map.now gaps.now) }
     ensures { IsWithFaces faces map.now decided result }
 {
     match decided? {
@@ -34,7 +34,7 @@ pub fn with_faces(
 /// What is decided where the map is sound.
 fn look_at_faces(map: &Map, faces: bool, report: Report, gaps: &[OddGap]) -> Verdict
     requires sound { IsSound map.now }
-    requires told { AreToldGaps map.now gaps.now }
+    requires told { AreFirstGaps map.now gaps.now }
     ensures { IsFacing faces map.now report result }
 {
     if !faces {

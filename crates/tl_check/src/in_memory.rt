@@ -5,7 +5,7 @@ ghost use Rattle.tl_check_planar.specs.Planar.{IsPlanar};
 ghost use Rattle.tl_check_verdict.specs.Sound.{IsSound, IsSoundFor};
 ghost use Rattle.tl_check_verdict.specs.Valid.{AllowsSearch, IsValid};
 ghost use Rattle.tl_check_verdict.specs.Truth.{IsTrueOfMap, IsTrueOfMapFor, IsTrueOfCert};
-ghost use Rattle.tl_check.specs.Keeping.Searching.{AreToldGaps};
+ghost use Rattle.tl_check.specs.Keeping.Searching.{AreFirstGaps};
 ghost use Rattle.tl_check.specs.Keeping.Read.{IsOfCert};
 ghost use Rattle.tl_check.specs.Keeping.Streams.{Shows};
 ghost use Rattle.tl_check_verdict.specs.Verdicts.{OnSound, OnSoundButFaces, IfSound, IfMapFault, IfCertFault, OnDartFault, UnlessMeet, OnSearched, IsReport, IsWithinBudget, MayStop};
@@ -101,7 +101,7 @@ fn check_whole(
 ) -> Result<Verdict, Stop>
     ensures shows { Shows map.now cert.now budget result }
     ensures meets { UnlessMeet result (AllowsSearch map.now cert.now → IsPlanar map.now.chains) }
-    ensures told { OnSound result (AreToldGaps map.now gaps.new.items) }
+    ensures told { OnSound result (AreFirstGaps map.now gaps.new.items) }
 {
     let mut state = match take_counted(alloc, map, cert.counts(), cert.tree(), budget) {
         Ok(state) => state,

@@ -13,7 +13,7 @@ use tl_map_county::Map;
 
 /// Looks at the points of the polygons of which a sweep didn't find that they lie where they have to. Where there are none nothing is
 /// looked at.
-pub fn look_at_points(alloc: Global, map: &Map, suspects: &[u32]) -> Result<(), Halt>
+pub fn look_at_suspects(alloc: Global, map: &Map, suspects: &[u32]) -> Result<(), Halt>
     requires { AreSuspects map.now suspects.now }
     ensures placed { OnOk result (ArePlaced map.now) }
     ensures halts { IfErr result (MayEnd map.now) }

@@ -4,11 +4,11 @@ ghost use Rattle.std.specs.Prelude.{zero, ◌<◌, length, IfOk, IfErr};
 ghost use Rattle.tl_cert.specs.Certificates.{TheCertificate};
 ghost use Rattle.tl_check_verdict.specs.Verdicts.{OnSound};
 ghost use Rattle.tl_check.specs.Keeping.Parts.{with_walk, Holds, IsLed, TakesWalks, IsEnded, IsFaulty};
-ghost use Rattle.tl_check.specs.Keeping.Searching.{AreToldGaps};
+ghost use Rattle.tl_check.specs.Keeping.Searching.{AreFirstGaps};
 ghost use Rattle.tl_check.specs.Keeping.Streams.{IsConcluded};
 
 use crate::answer::answer;
-use crate::points::look_at_points;
+use crate::points::look_at_suspects;
 use crate::rounds::end_rounds;
 use crate::search::LeftOpen;
 use crate::state::State;
@@ -45,14 +45,14 @@ pub fn conclude(
 ) -> Result<Verdict, Stop>
     requires held { (c : TheCertificate) × Holds map.now c state }
     ensures concluded { IsConcluded map.now state result }
-    ensures told { OnSound result (AreToldGaps map.now gaps.new.items) }
+    ensures told { OnSound result (AreFirstGaps map.now gaps.new.items) }
 {
     let ended = match end_rounds(alloc, map, state) {
         Ok(ended) => ended,
         Err(halt) => return answer(halt),
     };
     match end_walks(map, ended) {
-        Ok((count, left)) => match look_at_points(alloc, map, &left.suspects) {
+        Ok((count, left)) => match look_at_suspects(alloc, map, &left.suspects) {
             Ok(()) => {
                 *gaps = left.gaps;
                 Ok(Verdict::Sound(report(map, count)))

@@ -9,3 +9,5 @@ pub mod Meeting
 pub mod Ending
 pub mod Gathering
 pub mod Risen
+pub mod BlocksLemmas
+pub mod Passed

@@ -5,7 +5,7 @@ use Rattle.tl_tree_index.specs.Hits.{times}
 use Rattle.tl_tree_index.proofs.Times.{times-append}
 use Rattle.tl_check_planar.specs.Keeping.Apart.{one_found}
 use Rattle.tl_check_planar.specs.ByHeight.Neighbours.{EachTwo}
-use Rattle.tl_check_blocks.specs.Lined.{last_of}
+use Rattle.tl_check_active.specs.Blocks.Lined.{last_of}
 use Rattle.tl_check_planar.proofs.ByHeight.Walking.{two_front, two_back}
 
 pub last_more : (x y : ℕ) (xs : List ℕ) → last_of (x ∷ (y ∷ xs)) ≡ last_of (y ∷ xs)

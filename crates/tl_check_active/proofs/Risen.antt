@@ -11,7 +11,7 @@ use Rattle.std.proofs.lemmas.List.Elements.{All-nil, All-cons, All-append}
 use Rattle.tl_check_planar.specs.ByHeight.Heights.{height, widest}
 use Rattle.tl_check_active.specs.declared.events.End.{End}
 use Rattle.tl_check_active.specs.declared.events.Event.{Event}
-use Rattle.tl_check_active.specs.Events.{AreRising, joined}
+use Rattle.tl_check_active.specs.Events.{AreEventsRising, joined}
 use Rattle.tl_check_active.specs.Keeping.Ended.{event_at, next_at, events_at, events_in, AreEndsRising}
 
 -- the height of the events at an end
@@ -54,7 +54,7 @@ all_above h (e ∷ ends) first rising =
 
 -- ---- one list behind another
 
-risen : (h : ℤ) (xs ys : List Event) → All (λ (v : Event). v.height ≡ h) xs → All (λ (v : Event). h ≤ℤ v.height) ys → AreRising ys → AreRising (xs ++ ys)
+risen : (h : ℤ) (xs ys : List Event) → All (λ (v : Event). v.height ≡ h) xs → All (λ (v : Event). h ≤ℤ v.height) ys → AreEventsRising ys → AreEventsRising (xs ++ ys)
 risen h xs ys level above rising k l d le lt =
     let long = length-append xs ys in
     elim (cases_lt l (length xs)) [
@@ -80,7 +80,7 @@ risen h xs ys level above rising k l d le lt =
           ]
     ]
 
-pub events_rise : (ends : List End) → AreEndsRising ends → AreRising (joined (events_in ends))
+pub events_rise : (ends : List End) → AreEndsRising ends → AreEventsRising (joined (events_in ends))
 events_rise [] rising = λ k l d le lt. absurd (omega (arith, lt))
 events_rise (e ∷ ends) rising =
     risen (level e) (events_at e) (joined (events_in ends)) (all_level e)

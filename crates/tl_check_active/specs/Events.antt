@@ -40,8 +40,8 @@ abbrev pub AreEvents : List MapChain → List Event → Type 0
 AreEvents chains events = AreEventsOf chains (segments_before chains (length chains)) events
 
 -- none is higher than a later one
-abbrev pub AreRising : List Event → Type 0
-AreRising events = (k l : ℕ) (d : Event) → k ≤ l → l < length events → (slice_index_or events k d).height ≤ℤ (slice_index_or events l d).height
+abbrev pub AreEventsRising : List Event → Type 0
+AreEventsRising events = (k l : ℕ) (d : Event) → k ≤ l → l < length events → (slice_index_or events k d).height ≤ℤ (slice_index_or events l d).height
 
 -- events one after the other, of lists of them
 abbrev pub joined : List (List Event) → List Event

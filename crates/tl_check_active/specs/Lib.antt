@@ -3,5 +3,6 @@ pub mod Vertices
 pub mod Events
 pub mod Ranges
 pub mod Gathered
-pub mod Bent
+pub mod Passed
 pub mod Keeping
+pub mod Blocks

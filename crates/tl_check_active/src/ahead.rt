@@ -3,9 +3,9 @@
 
 ghost use Rattle.std.specs.Prelude.{◌<◌, length};
 
+use crate::blocks::{AHEAD, Line, Places, SeeksMany};
 use crate::events::Events;
 use crate::finding::is_east_by_products;
-use tl_check_blocks::{AHEAD, Line, Places, SeeksMany};
 use tl_geom::{Point, Segment};
 use tl_map_county::Map;
 

@@ -65,7 +65,7 @@ impl Events {
     ghost use Rattle.tl_check_planar.specs.ByHeight.Heights.{widest};
     ghost use Rattle.tl_check_active.specs.declared.events.Event.{Event};
     ghost use Rattle.tl_check_planar.specs.ByHeight.Neighbours.{IsWide};
-    ghost use Rattle.tl_check_active.specs.Events.{AreAt, AreMet, AreRising, one_or_two, AreEvents, joined};
+    ghost use Rattle.tl_check_active.specs.Events.{AreAt, AreMet, AreEventsRising, one_or_two, AreEvents, joined};
     ghost use Rattle.tl_check_active.specs.Ranges.{AreInRange};
 
     /// The events of all segments of a map, by the segments' numbers.
@@ -107,7 +107,7 @@ impl Events {
     /// was refused.
     pub fn sort(&mut self, alloc: Global) -> Result<(), AllocError>
         ensures moved { IsPermutation self.old self.new }
-        ensures rising { IfOk result (λ done. AreRising (joined self.new)) }
+        ensures rising { IfOk result (λ done. AreEventsRising (joined self.new)) }
     {
         presort_by_rank(alloc, &mut self.ends)?;
         if !are_rising(&self.ends) {

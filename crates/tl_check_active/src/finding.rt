@@ -1,10 +1,10 @@
 //! Places of points in the list of active segments.
 ghost use Rattle.std.specs.Prelude.{◌≡◌, IfOk};
-ghost use Rattle.tl_check_blocks.specs.Lined.{list_of};
+ghost use Rattle.tl_check_active.specs.Blocks.Lined.{list_of};
 
+use crate::blocks::{Line, Places, Seeks};
 use crate::heights::is_lower;
 use std::alloc::AllocError;
-use tl_check_blocks::{Line, Places, Seeks};
 use tl_geom::{Point, Segment};
 use tl_map_county::Map;
 
@@ -59,7 +59,7 @@ fn offset(from: i32, to: i32) -> i64 {
 pub fn go_to(map: &Map, line: &mut Line, p: Point) -> Result<(), AllocError>
     ensures { IfOk result (λ done. list_of line.new ≡ list_of line.old) }
 {
-    tl_check_blocks::go_to(line, &Sought { map, p })
+    crate::blocks::go_to(line, &Sought { map, p })
 }
 
 /// Goes to the place of a point at which segments may end: before the first of these or, if none does or it isn't found, as
@@ -74,5 +74,5 @@ pub fn go_to_first(
 ) -> Result<(), AllocError>
     ensures { IfOk result (λ done. list_of line.new ≡ list_of line.old) }
 {
-    tl_check_blocks::go_to_first(line, &Sought { map, p }, places, outs)
+    crate::blocks::go_to_first(line, &Sought { map, p }, places, outs)
 }

@@ -2,12 +2,12 @@
 ghost use Rattle.std.specs.Prelude.{◌≡◌, ◌++◌, ◌∷◌, ℕ, Some, [], IfOk, IsTrue, length};
 ghost use Rattle.tl_check_planar.specs.ByHeight.Heights.{widest};
 ghost use Rattle.tl_check_planar.specs.ByHeight.Neighbours.{AreTested, EachTwo};
-ghost use Rattle.tl_check_active.specs.Bent.{IsBent};
-ghost use Rattle.tl_check_blocks.specs.Lined.{list_of};
+ghost use Rattle.tl_check_active.specs.Passed.{IsShifted};
+ghost use Rattle.tl_check_active.specs.Blocks.Lined.{list_of};
 
+use crate::blocks::Line;
 use crate::neighbours::are_tested;
 use std::alloc::AllocError;
-use tl_check_blocks::Line;
 use tl_map_county::Map;
 
 /// Takes these segments off the list behind the place, if they stand there in this order.
@@ -127,7 +127,7 @@ pub fn shift(map: &Map, line: &mut Line, outs: &[u32], ins: &[u32]) -> Result<bo
 /// Puts a segment in the stead of another at the place, if that stands there and both neighbours of the new one may be. So it is at
 /// a bend of a chain.
 pub fn bend(map: &Map, line: &mut Line, out: u32, s: u32) -> Result<bool, AllocError>
-    ensures { IfOk result (λ done. IsTrue done → IsBent map.now.chains out s line.old line.new) }
+    ensures { IfOk result (λ done. IsTrue done → IsShifted map.now.chains (out ∷ []) (s ∷ []) line.old line.new) }
 {
     if !replace_one(map, line, out, s)? {
         return Ok(false);

@@ -6,18 +6,15 @@ use Rattle.tl_geom.specs.declared.point.Point.{Point}
 use Rattle.tl_geom.specs.declared.rational.Rational.{Rational}
 use Rattle.tl_geom.specs.declared.segment.Segment.{Segment}
 use Rattle.tl_geom.proofs.Polynomials.{num, ◌⊕◌, ◌⊖◌, ◌⊗◌, same, same_by}
-use Rattle.tl_geom.proofs.Signs.{mono, mono_lt, product_at_least, product_above, times_zero}
+use Rattle.tl_geom.proofs.Signs.{mono, product_at_least, product_above, times_zero, negated as both_negated, product_below' as below_above}
 use Rattle.tl_check_planar.specs.ByHeight.Heights.{turn_at}
 use Rattle.tl_check_faces.specs.Facing.{step_x, step_y}
 use Rattle.tl_check_faces.proofs.Touching.{IsApart, line_to, touch_right, touch_left}
 
 -- ---- signs of products
 
-turned : (a b : ℤ) → a *ℤ b ≡ b *ℤ a
+pub turned : (a b : ℤ) → a *ℤ b ≡ b *ℤ a
 turned a b = same (num a ⊗ num b) (num b ⊗ num a) (omega arith)
-
-both_negated : (a b : ℤ) → (pos 0 -ℤ a) *ℤ (pos 0 -ℤ b) ≡ a *ℤ b
-both_negated a b = same ((num (pos 0) ⊖ num a) ⊗ (num (pos 0) ⊖ num b)) (num a ⊗ num b) (omega arith)
 
 more_less : (a b : ℤ) → pos 0 ≤ℤ a → b ≤ℤ pos 0 → (a *ℤ b) ≤ℤ pos 0
 more_less a b h k = let m : (a *ℤ b) ≤ℤ (a *ℤ pos 0) = mono a b (pos 0) h k in let z = times_zero a in omega (arith, ints, m, z)
@@ -29,10 +26,6 @@ less_less : (a b : ℤ) → a ≤ℤ pos 0 → b ≤ℤ pos 0 → pos 0 ≤ℤ (
 less_less a b h k =
     let m = product_at_least (pos 0 -ℤ a) (pos 0 -ℤ b) (omega (arith, ints, h)) (omega (arith, ints, k)) in
     let e = both_negated a b in omega (arith, ints, m, e)
-
-below_above : (a b : ℤ) → a <ℤ pos 0 → pos 0 <ℤ b → (a *ℤ b) <ℤ pos 0
-below_above a b h k =
-    let m : (b *ℤ a) <ℤ (b *ℤ pos 0) = mono_lt b a (pos 0) k h in let z = times_zero b in let e = turned a b in omega (arith, ints, m, z, e)
 
 -- x v + y w is -s t, with s above 0
 module _ (x v y w s t : ℤ) (sum : x *ℤ v +ℤ y *ℤ w ≡ pos 0 -ℤ s *ℤ t) (some : pos 0 <ℤ s) where

@@ -10,7 +10,7 @@ use Rattle.tl_geom.proofs.Signs.{cancel_lt, product_above}
 use Rattle.tl_geom.proofs.Places.{place, place_on}
 use Rattle.tl_check_planar.specs.ByHeight.Heights.{turn_at}
 use Rattle.tl_check_planar.proofs.ByHeight.Lying.{turned}
-use Rattle.tl_check_faces.specs.Rays.{CrossesAt}
+use Rattle.tl_geom.specs.Ray.{Crosses}
 use Rattle.tl_check_faces.proofs.Numbers.{above_by}
 
 -- the way from a up to b passes q on the east: the ray to the east crosses it
@@ -47,7 +47,7 @@ rises a b q low high =
     let up : a.y <ℤ b.y = cancel_lt q.d a.y b.y (omega (arith, ints, positive)) (omega (arith, ints, low, high)) in
     omega (arith, ints, up)
 
-pub east_of_crossed : (u : Segment) (q : Rational) → CrossesAt u q → IsEast u q
+pub east_of_crossed : (u : Segment) (q : Rational) → Crosses u q → IsEast u q
 east_of_crossed u q c =
     let r : Rational = c.place in
     let past : (q.x *ℤ r.d) <ℤ (r.x *ℤ q.d) = c.to_the_east.past in
@@ -99,10 +99,10 @@ past_down ax ay bx by x y d =
     same (((e ⊗ (a ⊖ b)) ⊗ p ⊕ (e ⊗ a ⊖ num y) ⊗ (q ⊖ p)) ⊗ e ⊖ num x ⊗ (e ⊗ (a ⊖ b)))
     (e ⊗ ((p ⊖ q) ⊗ (num y ⊖ e ⊗ b) ⊖ (a ⊖ b) ⊗ (num x ⊖ e ⊗ q))) (omega arith)
 
-spread : (d a b : ℤ) → d *ℤ (b -ℤ a) ≡ d *ℤ b -ℤ d *ℤ a
+pub spread : (d a b : ℤ) → d *ℤ (b -ℤ a) ≡ d *ℤ b -ℤ d *ℤ a
 spread d a b = same (num d ⊗ (num b ⊖ num a)) (num d ⊗ num b ⊖ num d ⊗ num a) (omega arith)
 
-pub crossed_of_east : (u : Segment) (q : Rational) → IsEast u q → CrossesAt u q
+pub crossed_of_east : (u : Segment) (q : Rational) → IsEast u q → Crosses u q
 crossed_of_east u q = ⊎_elim
     (λ k.
     let low : (q.d *ℤ u.a.y) ≤ℤ q.y = k.low in

@@ -9,12 +9,11 @@ use Rattle.tl_map_county.specs.TheMap.{MapChain}
 use Rattle.tl_check_planar.specs.Keeping.Apart.{one_found}
 use Rattle.tl_check_inside.specs.declared.flanks.Flanks.{Flanks}
 use Rattle.tl_check_inside.specs.Inside.{flanks_at}
-use Rattle.tl_check_inside.proofs.Sides.{by_points}
+use Rattle.tl_check_inside.proofs.Sides.{by_points, no_lt, is_lt}
 use Rattle.tl_check_planar.specs.ByHeight.Heights.{height, AreNear}
 use Rattle.tl_check_planar.specs.ByHeight.Neighbours.{IsNumbered}
 use Rattle.tl_check_planar.proofs.ByHeight.Rising.{higher, higher_west, near_back}
 use Rattle.tl_check_faces.specs.Lists.{west_side, east_side, sides_by_height, RunsWest}
-use Rattle.tl_check_faces.proofs.Toward.{is_lt, no_lt}
 
 abbrev flanks_if : (left right : Side) → Bool → Flanks
 flanks_if left right t = if t then record { near = left; far = right } else record { near = right; far = left }

@@ -11,10 +11,10 @@ use Rattle.tl_map_county.specs.declared.sides.Side.{Side}
 use Rattle.tl_map_county.specs.declared.sides.Side.TheVariants.{Outside, Polygon}
 use Rattle.tl_map_county.specs.TheMap.{TheMap, MapChain}
 use Rattle.tl_check_inside.specs.declared.flanks.Flanks.{Flanks}
-use Rattle.tl_check_inside.specs.Inside.{flanks_at, flanks_between, flanks_from, flanks_along, flanks_of, is_polygon}
-use Rattle.tl_check_faces.specs.Rays.{IsCountAt}
+use Rattle.tl_check_inside.specs.Inside.{flanks_at, flanks_between, flanks_from, flanks_along, flanks_of, is_polygon, IsCountAt}
 use Rattle.tl_check_faces.specs.Truth.{LiesAt}
-use Rattle.tl_check_faces.specs.Located.{IsKnownSide, HasKnownSides}
+use Rattle.tl_map_county.specs.Sides.{IsSideAmong}
+use Rattle.tl_check_faces.specs.Located.{HasKnownSides}
 
 module _ (S : Side → Bool) where
   -- neither flank is such a side
@@ -94,6 +94,6 @@ is_known m q p known lies = elim (cases_lt p (length m.polygons)) [
       absurd (omega (arith, ints, zero))
 ]
   where
-    other : length m.polygons ≤ p → (side : Side) → IsKnownSide (length m.polygons) side → is_polygon p side ≡ false
+    other : length m.polygons ≤ p → (side : Side) → IsSideAmong (length m.polygons) side → is_polygon p side ≡ false
     other le Outside known = refl
     other le (Polygon r) known = grind (arith, nat_tests)

@@ -4,7 +4,7 @@ use Rattle.std.proofs.lemmas.Int.{ints}
 use Rattle.tl_geom.specs.declared.point.Point.{Point}
 use Rattle.tl_geom.specs.declared.rational.Rational.{Rational}
 use Rattle.tl_geom.specs.declared.segment.Segment.{Segment}
-use Rattle.tl_geom.specs.Plane.{IsOn, IsSame, cross}
+use Rattle.tl_geom.specs.Plane.{IsOn, IsSame}
 use Rattle.tl_geom.proofs.Polynomials.{num, ◌⊕◌, ◌⊖◌, ◌⊗◌, same, same_by_two}
 use Rattle.tl_geom.proofs.Signs.{cancel, product_above, product_at_least, times_zero}
 use Rattle.tl_check_planar.specs.ByHeight.Heights.{height, height_of, low_end, high_end, turn_at}
@@ -13,6 +13,7 @@ use Rattle.tl_check_planar.proofs.ByHeight.Rising.{AreEndsOf}
 use Rattle.tl_check_planar.proofs.ByHeight.Lying.{lies_on}
 use Rattle.tl_check_faces.proofs.Numbers.{above_by, below_by, zero_by}
 use Rattle.tl_check_faces.proofs.Steep.{IsSpanned}
+use Rattle.tl_geom.proofs.Places.{part_straight as straight_by}
 
 -- both have one height
 pub record AreLevel (K : ℤ) (p q : Rational) : Type 0 where
@@ -90,11 +91,6 @@ one_place K p q above level e = record { x = e; y = cancel K (p.y *ℤ q.d) (q.y
     by_heights = let one = spread p.y p.x q.d in let other = spread q.y q.x p.d in let l = level.is in omega (arith, ints, one, other, l, e)
 
 -- ---- where a segment meets the line of a height between those of its ends
-
-pub straight_by : (ux uy ax ay n d : ℤ) → cross ux uy (d *ℤ ax +ℤ n *ℤ ux -ℤ d *ℤ ax) (d *ℤ ay +ℤ n *ℤ uy -ℤ d *ℤ ay) ≡ pos 0
-straight_by ux uy ax ay n d =
-    let u = num ux in let v = num uy in let m = num d in let k = num n in
-    same (u ⊗ (m ⊗ num ay ⊕ k ⊗ v ⊖ m ⊗ num ay) ⊖ v ⊗ (m ⊗ num ax ⊕ k ⊗ u ⊖ m ⊗ num ax)) (num (pos 0)) (omega arith)
 
 pub height_by : (K ax ay bx by n d : ℤ) → K *ℤ (d *ℤ ay +ℤ n *ℤ (by -ℤ ay)) -ℤ (d *ℤ ax +ℤ n *ℤ (bx -ℤ ax)) ≡ d *ℤ (K *ℤ ay -ℤ ax) +ℤ n *ℤ ((K *ℤ by -ℤ bx) -ℤ (K *ℤ ay -ℤ ax))
 height_by K ax ay bx by n d =

@@ -16,7 +16,6 @@ use Rattle.tl_check_inside.proofs.Counting.{one_count}
 use Rattle.tl_check_faces.specs.Facing.{IsOff}
 use Rattle.tl_check_faces.specs.Truth.{LiesAt, HasOnePolygon}
 use Rattle.tl_check_faces.specs.Located.{ListsWhatLies}
-use Rattle.tl_check_faces.proofs.Whole.{counts}
 use Rattle.tl_check_faces.proofs.Known.{is_known}
 
 off_whole : (chains : List MapChain) (q : Point) → IsOffChains chains q → IsOff chains (whole q)
@@ -30,9 +29,9 @@ module _ (chains : List MapChain) (q : Point) where
   module _ (n : ℕ) (xs : List ℕ) (are : AreCounted n (IsPolygonCount chains q) xs) where
     -- each that is listed lies there
     it_lies : (side : Side) → LiesAt chains (whole q) side → (x : ℕ) → HasCount (IsPolygonCount chains q x) → side ≡ Polygon x
-    it_lies Outside lies x has = absurd (no_count x has ((counts chains q (is_polygon x) (pos 0)).0 (lies x)))
+    it_lies Outside lies x has = absurd (no_count x has (lies x))
     it_lies (Polygon p) lies x has =
-        ⊎_elim (λ e. ap Polygon (sym e)) (λ ne. absurd (no_count x has ((counts chains q (is_polygon x) (pos 0)).0 (lies.1 x ne)))) (cases_eq x p)
+        ⊎_elim (λ e. ap Polygon (sym e)) (λ ne. absurd (no_count x has (lies.1 x ne))) (cases_eq x p)
 
     one_of : (x y : ℕ) → Polygon x ≡ Polygon y → x ≡ y
     one_of x y e = cc
@@ -77,7 +76,7 @@ module _ (chains : List MapChain) (q : Point) where
             (λ has. let h : Contains [] p = subst (λ ys. Contains ys p) f has in let no : h.0 < 0 = h.1 in omega (arith, no))
             (λ zero.
             let e : pos 1 ≡ pos 0 =
-            one_count chains q (is_polygon p) (pos 1) (pos 0) ((counts chains q (is_polygon p) (pos 1)).0 there.0) zero in
+            one_count chains q (is_polygon p) (pos 1) (pos 0) there.0 zero in
             omega (arith, ints, e))
             (are.others p lt)))
             (λ k. k.1 ∙ ap (λ y. y ∷ []) (sym (one_of p k.0 (it_lies (Polygon p) there k.0 k.2))))

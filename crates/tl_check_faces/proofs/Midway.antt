@@ -22,8 +22,9 @@ use Rattle.tl_check_planar.proofs.ByHeight.Numbered.{one_segment}
 use Rattle.tl_check_planar.proofs.ByHeight.Walking.{all_head, all_tail}
 use Rattle.tl_check_faces.specs.Lists.{west_side, east_side, AreAllNear}
 use Rattle.tl_check_faces.specs.Disagreements.{facing_west, facing_east, IsFaceDisagreement, IsOutwardDisagreement, IsInSlab, IsMidway, HaveOneHeight, twice_rise, twice_risen}
-use Rattle.tl_check_faces.proofs.Lines.{straight_by, height_by}
-use Rattle.tl_check_faces.proofs.Neighbours.{all_back, neighbours, first, last}
+use Rattle.tl_check_faces.proofs.Lines.{IsWestward, height_by}
+use Rattle.tl_check_faces.proofs.Neighbours.{all_back, neighbours, westward, first, last}
+use Rattle.tl_geom.proofs.Places.{part_straight as straight_by}
 
 -- the rise of a segment from its low end, and its height midway over it
 midway_height : (n a w : ℤ) → (pos 2 *ℤ w) *ℤ a +ℤ (pos 2 *ℤ n +ℤ pos 1 -ℤ pos 2 *ℤ a) *ℤ w ≡ w *ℤ (pos 2 *ℤ n +ℤ pos 1)
@@ -111,7 +112,7 @@ one_height K n u w near near' p q m m' =
 -- ---- of segments that are active in the slab
 
 module _ (K n : ℤ) (chains : List MapChain) (near : AreAllNear K chains) (planar : IsPlanar chains) where
-  own_near : (s : ℕ) (u : Segment) → IsNumbered chains s u → AreNear K u.a u.b
+  pub own_near : (s : ℕ) (u : Segment) → IsNumbered chains s u → AreNear K u.a u.b
   own_near s u is = near is.c is.k is.c (is.k + 1) u.a u.b
       (record { chain = is.joins.chain; is = is.joins.is; point = is.joins.from }) (record { chain = is.joins.chain; is = is.joins.is; point = is.joins.to })
 
@@ -133,6 +134,16 @@ module _ (K n : ℤ) (chains : List MapChain) (near : AreAllNear K chains) (plan
         neighbours K n chains near planar front back s u is p (on_active s u is (all_head (IsActive K n chains) s (t ∷ back) active) p m) in_slab
         t w is' q (on_active t w is' (all_head (IsActive K n chains) t back (all_tail (IsActive K n chains) s (t ∷ back) active)) q m')
         (one_height K n u w (own_near s u is) (own_near t w is') p q m m') of differ
+      where
+        active : All (IsActive K n chains) (s ∷ (t ∷ back))
+        active = all_back (IsActive K n chains) front (s ∷ (t ∷ back)) of.active
+
+    pub westward_midway : (t : ℕ) (w : Segment) (is' : IsNumbered chains t w) (q : Rational) → IsMidway K n w q →
+        IsListOf K n chains (front ++ (s ∷ (t ∷ back))) → IsWestward p q
+    westward_midway t w is' q m' of =
+        westward K n chains near planar front back s u is p (on_active s u is (all_head (IsActive K n chains) s (t ∷ back) active) p m) in_slab
+        t w is' q (on_active t w is' (all_head (IsActive K n chains) t back (all_tail (IsActive K n chains) s (t ∷ back) active)) q m')
+        (one_height K n u w (own_near s u is) (own_near t w is') p q m m') of
       where
         active : All (IsActive K n chains) (s ∷ (t ∷ back))
         active = all_back (IsActive K n chains) front (s ∷ (t ∷ back)) of.active

@@ -14,7 +14,7 @@ use Rattle.tl_check_planar.specs.Planar.{IsPlanar}
 use Rattle.tl_check_planar.proofs.Numbering.{below_total}
 use Rattle.tl_check_planar.specs.ByHeight.Heights.{AreNear}
 use Rattle.tl_check_planar.specs.ByHeight.Neighbours.{IsNumbered, AreTested, EachTwo}
-use Rattle.tl_check_planar.specs.ByHeight.Slabs.{IsActive, IsListOf, IsPointOf}
+use Rattle.tl_check_planar.specs.ByHeight.Slabs.{IsActive, IsListOf, IsChainPoint}
 use Rattle.tl_check_planar.proofs.ByHeight.Walking.{all_head, all_tail}
 use Rattle.tl_check_faces.specs.Facing.{FacesAgree}
 use Rattle.tl_check_faces.specs.Lists.{west_side, east_side, AreAllNear}
@@ -154,7 +154,7 @@ module _ (K : ℤ) (above : pos 0 <ℤ K) (chains : List MapChain) (near : AreAl
 -- K is above 0 where there is a segment
 pub above_zero : (K : ℤ) (chains : List MapChain) → AreAllNear K chains → (s : ℕ) (u : Segment) → IsNumbered chains s u → pos 0 <ℤ K
 above_zero K chains near s u is =
-    let first : IsPointOf chains is.c is.k u.a = record { chain = is.joins.chain; is = is.joins.is; point = is.joins.from } in
+    let first : IsChainPoint chains is.c is.k u.a = record { chain = is.joins.chain; is = is.joins.is; point = is.joins.from } in
     let own : AreNear K u.a u.a = near is.c is.k is.c is.k u.a u.a first first in
     let west = own.west in omega (arith, ints, west)
 
@@ -172,6 +172,10 @@ module _ (K n : ℤ) (chains : List MapChain) (near : AreAllNear K chains) (plan
       IsFaceDisagreement chains (facing_east K is.joins.chain u p) (facing_west K is'.joins.chain w q)
   neighbours t w is' q on' level of differ =
       facing K above chains near planar n p inside front back s u is p on itself t w is' q on' (record { is = sym level }) of differ
+
+  pub westward : (t : ℕ) (w : Segment) → IsNumbered chains t w → (q : Rational) → IsOn w q → HaveOneHeight K p q →
+      IsListOf K n chains (front ++ (s ∷ (t ∷ back))) → IsWestward p q
+  westward t w is' q on' level of = west K above chains near planar n p inside front back s u is p on itself t w is' q on' (record { is = sym level }) of
 
   pub first : IsListOf K n chains (s ∷ back) → west_side K is.joins.chain u ≢ Outside →
       IsOutwardDisagreement chains (facing_west K is.joins.chain u p) (pos 0 -ℤ K) (pos 0 -ℤ pos 1)

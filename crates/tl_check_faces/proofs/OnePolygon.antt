@@ -14,12 +14,11 @@ use Rattle.tl_map_county.specs.TheMap.{MapChain}
 use Rattle.tl_map_county.specs.Segments.{segments_before}
 use Rattle.tl_tree_index.specs.Hits.{times, AreHits}
 use Rattle.tl_check_planar.proofs.Numbering.{below_total, HaveSameEnds}
-use Rattle.tl_check_inside.specs.Inside.{flanks_at, balance, is_polygon}
+use Rattle.tl_check_inside.specs.Inside.{flanks_at, balance, is_polygon, IsCrossedAt, IsCountAt}
 use Rattle.tl_check_planar.specs.ByHeight.Heights.{low_end, high_end, turn_at}
 use Rattle.tl_check_planar.specs.ByHeight.Neighbours.{IsNumbered}
 use Rattle.tl_check_planar.proofs.ByHeight.Lying.{heights_of, lies_on}
 use Rattle.tl_check_planar.proofs.ByHeight.Numbered.{one_segment}
-use Rattle.tl_check_faces.specs.Rays.{IsCrossedAt, IsCountAt}
 use Rattle.tl_check_faces.specs.Facing.{IsOff}
 use Rattle.tl_check_faces.specs.Truth.{LiesAt, HasOnePolygon}
 use Rattle.tl_check_faces.proofs.Numbers.{le_lt}
@@ -288,10 +287,10 @@ module _ (K : ℤ) (chains : List MapChain) (r : Rational) (steep : IsSteep K ch
 
 -- ---- what lies there
 
-polygon_itself : (p : ℕ) → is_polygon p (Polygon p) ≡ true
+pub polygon_itself : (p : ℕ) → is_polygon p (Polygon p) ≡ true
 polygon_itself p = grind (arith, nat_tests)
 
-polygon_other : (p other : ℕ) → ¬ (other ≡ p) → is_polygon other (Polygon p) ≡ false
+pub polygon_other : (p other : ℕ) → ¬ (other ≡ p) → is_polygon other (Polygon p) ≡ false
 polygon_other p other ne = grind (arith, nat_tests)
 
 pub lies_by : (chains : List MapChain) (q : Rational) (side : Side) → ((S : Side → Bool) → S Outside ≡ false → IsCountAt chains q S (number_of (S side))) → LiesAt chains q side

@@ -14,18 +14,15 @@ use Rattle.tl_check_inside.specs.Inside.{is_polygon}
 use Rattle.tl_check_planar.specs.ByHeight.Neighbours.{IsNumbered}
 use Rattle.tl_check_faces.specs.Facing.{IsOff}
 use Rattle.tl_check_faces.specs.Truth.{LiesAt}
-use Rattle.tl_check_faces.proofs.Crossing.{IsEastUp, IsWestUp}
+use Rattle.tl_check_faces.proofs.Crossing.{IsEastUp, IsWestUp, spread}
 use Rattle.tl_check_faces.proofs.Bounds.{IsBounded, AreBounded}
 use Rattle.tl_check_faces.proofs.Along.{AreFaced}
 use Rattle.tl_check_faces.proofs.OnePolygon.{IsEastHit, IsWestHit, counted_by, west_counted}
 
-spread : (d a b : ℤ) → d *ℤ (b -ℤ a) ≡ d *ℤ b -ℤ d *ℤ a
-spread d a b = same (num d ⊗ (num b ⊖ num a)) (num d ⊗ num b ⊖ num d ⊗ num a) (omega arith)
-
 first_turned : (y z : ℤ) → (pos 0 -ℤ y) *ℤ z ≡ pos 0 -ℤ y *ℤ z
 first_turned y z = same ((num (pos 0) ⊖ num y) ⊗ num z) (num (pos 0) ⊖ num y ⊗ num z) (omega arith)
 
-last_turned : (y z : ℤ) → y *ℤ (pos 0 -ℤ z) ≡ pos 0 -ℤ y *ℤ z
+pub last_turned : (y z : ℤ) → y *ℤ (pos 0 -ℤ z) ≡ pos 0 -ℤ y *ℤ z
 last_turned y z = same (num y ⊗ (num (pos 0) ⊖ num z)) (num (pos 0) ⊖ num y ⊗ num z) (omega arith)
 
 -- a way of u to the east and v to the north, and a place within its latitudes that is at least as far east as both its ends

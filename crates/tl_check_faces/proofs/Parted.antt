@@ -1,21 +1,21 @@
 -- The counts at a point of chains that are parted in two: what both parts tell together tells the counts of all.
-use Rattle.std.proofs.Common.{◌≡◌, ℕ, zero, suc, ◌≤◌, ℤ, pos, ◌+ℤ◌, Bool, true, false, None, Some, List, [], ◌∷◌, ◌++◌, length, map, count_by, refl, sym, ap, subst, ◌∙◌, arith}
-use Rattle.std.specs.Prelude.{not, slice_get, if◌then◌else◌}
+use Rattle.std.proofs.Common.{◌≡◌, ℕ, zero, suc, ◌≤◌, ℤ, ◌+ℤ◌, Bool, true, false, List, [], ◌∷◌, ◌++◌, length, map, refl, subst, ◌∙◌, arith}
+use Rattle.std.specs.Prelude.{not, if◌then◌else◌}
 use Rattle.std.proofs.lemmas.Int.{ints}
 use Rattle.std.proofs.lemmas.List.Sums.{sum_by-append}
 use Rattle.std.proofs.lemmas.Option.{same_Some}
 use Rattle.tl_geom.specs.declared.point.Point.{Point}
 use Rattle.tl_map_county.specs.declared.sides.Side.{Side}
-use Rattle.tl_map_county.specs.Chains.{IsProper}
+use Rattle.tl_map_county.specs.Chains.{IsProperChain}
 use Rattle.tl_map_county.specs.TheMap.{MapChain}
 use Rattle.tl_map_county.specs.Remaining.{remaining}
 use Rattle.tl_check_inside.specs.declared.flanks.Flanks.{Flanks}
-use Rattle.tl_check_inside.specs.Inside.{flanks_at, balance, IsCount}
+use Rattle.tl_check_inside.specs.Inside.{balance, IsCount}
 use Rattle.tl_check_inside.specs.Keeping.Tallies.{TellCounts}
 use Rattle.tl_check_inside.specs.Places.{IsHeldBy, IsOffChains}
 use Rattle.tl_check_faces.specs.Crossings.Headings.{AreProper}
 use Rattle.tl_check_faces.proofs.CrossingsLemmas.Rays.{counted}
-use Rattle.tl_check_faces.proofs.CrossingsLemmas.Weighed.{chain_weight, chains_weight, balance_is}
+use Rattle.tl_check_faces.proofs.CrossingsLemmas.Weighed.{chains_weight, balance_is}
 
 -- the marks the other way round
 abbrev pub others : List Bool → List Bool
@@ -33,14 +33,14 @@ module _ (q : Point) (S : Side → Bool) where
 
 -- ---- the parts are proper
 
-proper_head : (c : MapChain) (chains : List MapChain) → AreProper (c ∷ chains) → IsProper c.points
+proper_head : (c : MapChain) (chains : List MapChain) → AreProper (c ∷ chains) → IsProperChain c.points
 proper_head c chains proper = proper 0 c refl
 
 proper_tail : (c : MapChain) (chains : List MapChain) → AreProper (c ∷ chains) → AreProper chains
 proper_tail c chains proper k chain is = proper (suc k) chain is
 
-proper_more : (c : MapChain) (chains : List MapChain) → IsProper c.points → AreProper chains → AreProper (c ∷ chains)
-proper_more c chains one proper zero chain is = subst (λ (x : MapChain). IsProper x.points) (same_Some c chain is) one
+proper_more : (c : MapChain) (chains : List MapChain) → IsProperChain c.points → AreProper chains → AreProper (c ∷ chains)
+proper_more c chains one proper zero chain is = subst (λ (x : MapChain). IsProperChain x.points) (same_Some c chain is) one
 proper_more c chains one proper (suc k) chain is = proper k chain is
 
 pub proper_part : (marks : List Bool) (chains : List MapChain) → AreProper chains → AreProper (remaining marks chains)

@@ -12,7 +12,7 @@ use Rattle.tl_map_county.specs.TheMap.{MapChain}
 use Rattle.tl_check_planar.specs.Planar.{IsPlanar}
 use Rattle.tl_check_planar.specs.ByHeight.Heights.{height, height_of, low_end, high_end, turn_at}
 use Rattle.tl_check_planar.specs.ByHeight.Neighbours.{IsNumbered}
-use Rattle.tl_check_planar.proofs.ByHeight.Order.{lean}
+use Rattle.tl_check_planar.proofs.ByHeight.Order.{lean, joined, factored}
 use Rattle.tl_check_planar.proofs.ByHeight.Rising.{AreEndsOf}
 use Rattle.tl_check_planar.proofs.ByHeight.Lying.{heights_of, lies_on}
 use Rattle.tl_check_faces.proofs.Numbers.{le_lt, lt_le}
@@ -20,19 +20,6 @@ use Rattle.tl_check_faces.proofs.Steep.{IsSpanned}
 use Rattle.tl_check_faces.proofs.Lines.{AreLevel, IsMet, met}
 use Rattle.tl_check_faces.proofs.Items.{point_level, scaled, scaled_above}
 use Rattle.tl_check_faces.proofs.Alone.{alone}
-
-joined : (U W u w ha hc ax cx h x d : ℤ) →
-    U *ℤ (w *ℤ (h -ℤ d *ℤ hc) -ℤ W *ℤ (x -ℤ d *ℤ cx)) -ℤ W *ℤ (u *ℤ (h -ℤ d *ℤ ha) -ℤ U *ℤ (x -ℤ d *ℤ ax))
-    ≡ (U *ℤ w -ℤ W *ℤ u) *ℤ h +ℤ (U *ℤ (W *ℤ cx -ℤ w *ℤ hc) -ℤ W *ℤ (U *ℤ ax -ℤ u *ℤ ha)) *ℤ d
-joined U W u w ha hc ax cx h x d =
-    let U' = num U in let W' = num W in let u' = num u in let w' = num w in let k = num h in let e = num d in
-    same (U' ⊗ (w' ⊗ (k ⊖ e ⊗ num hc) ⊖ W' ⊗ (num x ⊖ e ⊗ num cx)) ⊖ W' ⊗ (u' ⊗ (k ⊖ e ⊗ num ha) ⊖ U' ⊗ (num x ⊖ e ⊗ num ax)))
-    ((U' ⊗ w' ⊖ W' ⊗ u') ⊗ k ⊕ (U' ⊗ (W' ⊗ num cx ⊖ w' ⊗ num hc) ⊖ W' ⊗ (U' ⊗ num ax ⊖ u' ⊗ num ha)) ⊗ e) (omega arith)
-
-factored : (K U W t v : ℤ) → K *ℤ (U *ℤ v -ℤ W *ℤ t) ≡ U *ℤ (K *ℤ v) -ℤ W *ℤ (K *ℤ t)
-factored K U W t v =
-    let k = num K in
-    same (k ⊗ (num U ⊗ num v ⊖ num W ⊗ num t)) (num U ⊗ (k ⊗ num v) ⊖ num W ⊗ (k ⊗ num t)) (omega arith)
 
 -- ---- a number that is linear in a height, below 0 at one and above 0 at another
 

@@ -12,13 +12,13 @@ use Rattle.tl_map_county.specs.TheMap.{MapChain}
 use Rattle.tl_check_planar.specs.Keeping.Apart.{one_found}
 use Rattle.tl_check_planar.specs.ByHeight.Heights.{height, height_of, AreNear, low_end, high_end}
 use Rattle.tl_check_planar.specs.ByHeight.Neighbours.{IsNumbered}
-use Rattle.tl_check_planar.specs.ByHeight.Slabs.{IsActive, IsPointOf}
+use Rattle.tl_check_planar.specs.ByHeight.Slabs.{IsActive, IsChainPoint}
 use Rattle.tl_check_planar.proofs.ByHeight.Rising.{AreEndsOf, ends_of, higher, higher_west}
 use Rattle.tl_check_faces.specs.Lists.{AreAllNear}
 use Rattle.tl_check_faces.proofs.Steep.{IsNearTo, IsSpanned, north, south, level, not_north, not_south}
 use Rattle.tl_check_faces.proofs.Bounds.{IsBounded, AreBounded, IsSteep, some_bound}
 use Rattle.tl_check_faces.proofs.Items.{IsLine}
-use Rattle.tl_check_faces.proofs.Toward.{is_lt, no_lt}
+use Rattle.tl_check_inside.proofs.Sides.{no_lt, is_lt}
 
 -- a point comes before r: it is further south, or of one latitude and further east; or it comes behind r
 abbrev pub IsBefore : Rational → Point → Type 0
@@ -79,7 +79,7 @@ module _ (K : ℤ) (chains : List MapChain) (near : AreAllNear K chains) (r : Ra
   record IsPoint (p : Point) : Type 0 where
     c : ℕ
     k : ℕ
-    of : IsPointOf chains c k p
+    of : IsChainPoint chains c k p
 
   -- no point that comes behind r has this height, or less
   IsUnder : ℤ → Type 0
@@ -144,7 +144,7 @@ module _ (K : ℤ) (chains : List MapChain) (near : AreAllNear K chains) (r : Ra
   record IsOfChains (cs : List MapChain) (p : Point) : Type 0 where
     c : ℕ
     k : ℕ
-    of : IsPointOf cs c k p
+    of : IsChainPoint cs c k p
 
   by_chains : (n : ℤ) → IsUnder n → (cs : List MapChain) → ((p : Point) → IsOfChains cs p → IsPoint p) → (m : ℤ) × IsRaised n m (IsOfChains cs)
   by_chains n under [] are = (n, record { more = omega (arith, ints); under = under; over = λ p h b. absurd (nothing h.c h.of.chain h.of.is) })
@@ -189,8 +189,8 @@ module _ (K : ℤ) (chains : List MapChain) (near : AreAllNear K chains) (r : Ra
 
   -- a height at or above all points that come before r, and below all that come behind
   pub record IsParting (n : ℤ) : Type 0 where
-    pub over : (c k : ℕ) (p : Point) → IsPointOf chains c k p → IsBefore r p → height K p ≤ℤ n
-    pub under : (c k : ℕ) (p : Point) → IsPointOf chains c k p → IsBehind r p → n <ℤ height K p
+    pub over : (c k : ℕ) (p : Point) → IsChainPoint chains c k p → IsBefore r p → height K p ≤ℤ n
+    pub under : (c k : ℕ) (p : Point) → IsChainPoint chains c k p → IsBehind r p → n <ℤ height K p
 
   pub parting : (n : ℤ) × IsParting n
   unfolding IsUnder
@@ -233,10 +233,10 @@ pub same_high : (K L : ℤ) (u : Segment) → AreNear K u.a u.b → AreNear L u.
 same_high K L u near near' = ap (λ (t : Bool). if t then u.b else u.a) (same_rise K L u near near')
 
 module _ (K : ℤ) (chains : List MapChain) (near : AreAllNear K chains) (L : ℤ) (r : Rational) (steep : IsSteep L chains r) (line : IsLine L chains r) (n : ℤ) (parts : IsParting K chains near r n) (s : ℕ) (u : Segment) (is : IsNumbered chains s u) where
-  first_of : IsPointOf chains is.c is.k u.a
+  first_of : IsChainPoint chains is.c is.k u.a
   first_of = record { chain = is.joins.chain; is = is.joins.is; point = is.joins.from }
 
-  last_of : IsPointOf chains is.c (is.k + 1) u.b
+  last_of : IsChainPoint chains is.c (is.k + 1) u.b
   last_of = record { chain = is.joins.chain; is = is.joins.is; point = is.joins.to }
 
   pub own_near : AreNear K u.a u.b
@@ -249,7 +249,7 @@ module _ (K : ℤ) (chains : List MapChain) (near : AreAllNear K chains) (L : �
   record IsAnEnd (v : Point) : Type 0 where
     c : ℕ
     k : ℕ
-    of : IsPointOf chains c k v
+    of : IsChainPoint chains c k v
     close : IsNearTo L r v
     off : ¬ (r.d *ℤ height L v ≡ height_of L r)
 

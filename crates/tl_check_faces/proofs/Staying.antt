@@ -8,7 +8,7 @@ use Rattle.tl_geom.specs.declared.point.Point.{Point}
 use Rattle.tl_geom.specs.declared.rational.Rational.{Rational}
 use Rattle.tl_geom.specs.declared.segment.Segment.{Segment}
 use Rattle.tl_geom.specs.Plane.{IsOn}
-use Rattle.tl_map_county.specs.Chains.{IsProper}
+use Rattle.tl_map_county.specs.Chains.{IsProperChain}
 use Rattle.tl_map_county.specs.declared.sides.Side.{Side}
 use Rattle.tl_map_county.specs.TheMap.{MapChain}
 use Rattle.tl_map_county.specs.Segments.{segments_before}
@@ -17,14 +17,13 @@ use Rattle.tl_check_planar.specs.Planar.{IsOnChain}
 use Rattle.tl_check_planar.specs.Keeping.Apart.{one_found}
 use Rattle.tl_check_planar.proofs.Numbering.{HaveSameEnds, same_ends}
 use Rattle.tl_check_sides.specs.Sides.{SidesAgree}
-use Rattle.tl_check_inside.specs.Inside.{flanks_at, balance}
+use Rattle.tl_check_inside.specs.Inside.{flanks_at, balance, IsCrossedAt, AreCrossedAt, IsCountAt}
 use Rattle.tl_check_faces.specs.Crossings.Headings.{AreProper, HeadApart}
 use Rattle.tl_check_faces.proofs.CrossingsLemmas.Telescoping.{bit}
 use Rattle.tl_check_faces.proofs.CrossingsLemmas.Located.{IsLocated, located}
 use Rattle.tl_check_faces.proofs.CrossingsLemmas.Listing.{all_hits}
 use Rattle.tl_check_faces.proofs.CrossingsLemmas.Signed.{is_either, all_add, balance_by}
 use Rattle.tl_check_faces.proofs.CrossingsLemmas.Gaining.{AreAllGaining, no_gain}
-use Rattle.tl_check_faces.specs.Rays.{IsCrossedAt, AreCrossedAt, IsCountAt}
 use Rattle.tl_check_faces.specs.Clear.{IsClearAlong}
 use Rattle.tl_check_faces.proofs.Crossing.{IsEast, east_of_crossed, crossed_of_east}
 use Rattle.tl_check_faces.proofs.Touching.{IsApart, apart_turned}
@@ -87,7 +86,7 @@ module _ (chains : List MapChain) (proper : AreProper chains) (S : Side → Bool
     two : a ≢ b
     two e =
         let lt : k + 1 < length chain.points = slice_get_within chain.points (k + 1) b to in
-        let own : IsProper chain.points = proper c chain is in
+        let own : IsProperChain chain.points = proper c chain is in
         let first : a ≡ get_or chain.points k a =
         one_found a (get_or chain.points k a) (slice_get chain.points k) from (slice_get-get_or chain.points k a (omega (arith, lt))) in
         let last : b ≡ get_or chain.points (k + 1) a =

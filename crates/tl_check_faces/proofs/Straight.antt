@@ -13,12 +13,11 @@ use Rattle.tl_map_county.specs.declared.sides.Side.TheVariants.{Outside, Polygon
 use Rattle.tl_map_county.specs.TheMap.{MapChain}
 use Rattle.tl_map_county.specs.Segments.{segments_before}
 use Rattle.tl_tree_index.specs.Hits.{AreHits}
-use Rattle.tl_check_inside.specs.Inside.{flanks_at, balance, is_polygon}
+use Rattle.tl_check_inside.specs.Inside.{flanks_at, balance, is_polygon, IsCountAt}
 use Rattle.tl_check_planar.specs.ByHeight.Heights.{AreNear, turn_at}
 use Rattle.tl_check_planar.specs.ByHeight.Neighbours.{IsNumbered}
 use Rattle.tl_check_planar.proofs.ByHeight.Rising.{higher, near_back}
 use Rattle.tl_check_planar.proofs.ByHeight.Lying.{lies_on}
-use Rattle.tl_check_faces.specs.Rays.{IsCountAt}
 use Rattle.tl_check_faces.specs.Facing.{IsOff}
 use Rattle.tl_check_faces.specs.Truth.{LiesAt}
 use Rattle.tl_check_faces.proofs.Means.{mean, mean_turn, mean_north, mean_south, mean_past, mean_before}

@@ -21,7 +21,7 @@ use Rattle.tl_check_faces.proofs.Sorting.{IsSorted, numbers}
 
 -- ---- the list of a slab holds no number twice
 
-active_in : (P : ℕ → Type 0) (s : ℕ) (xs : List ℕ) → All P xs → IsIn s xs → P s
+pub active_in : (P : ℕ → Type 0) (s : ℕ) (xs : List ℕ) → All P xs → IsIn s xs → P s
 active_in P s [] all i = absurd i
 active_in P s (x ∷ xs) all i = ⊎_elim (λ e. subst P (sym e) (all_head P x xs all)) (λ later. active_in P s xs (all_tail P x xs all) later) i
 

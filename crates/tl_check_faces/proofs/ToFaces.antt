@@ -11,14 +11,14 @@ use Rattle.tl_map_county.specs.declared.sides.Side.TheVariants.{Outside}
 use Rattle.tl_map_county.specs.TheMap.{MapChain}
 use Rattle.tl_check_planar.specs.Planar.{IsPlanar}
 use Rattle.tl_check_faces.specs.Facing.{IsOfChain, IsOff, IsStrictlyOn, IsClearBetween, IsClearFrom, IsSideToward, FacesAgree, step_x, step_y}
-use Rattle.tl_check_faces.specs.Truth.{LiesAt, IsNearer, IsTrueAbout, AreSidesTrue, side_of}
+use Rattle.tl_check_faces.specs.Truth.{LiesAt, IsNearer, IsTrueAbout, AreSidesTrue, turn_about}
 use Rattle.tl_check_faces.proofs.Bounds.{AreBounded, IsFar, far, some_bound}
 use Rattle.tl_check_faces.proofs.Along.{AreFaced}
 use Rattle.tl_check_faces.proofs.TrueSides.{true_sides}
 use Rattle.tl_check_faces.proofs.Unique.{unique}
 use Rattle.tl_check_faces.proofs.Means.{mean}
 use Rattle.tl_check_faces.proofs.Straight.{alike}
-use Rattle.tl_check_faces.proofs.Outside.{outside, outside_west}
+use Rattle.tl_check_faces.proofs.Outside.{outside, outside_west, last_turned as times_minus}
 
 -- ---- the straight line from a place
 
@@ -30,10 +30,10 @@ weighed m n u v w t p q x y e f =
     same (M ⊗ (num u ⊗ num p ⊕ num v ⊗ num q) ⊕ N ⊗ (num w ⊗ num p ⊕ num t ⊗ num q))
     ((M ⊗ num u ⊕ N ⊗ num w) ⊗ num p ⊕ (M ⊗ num v ⊕ N ⊗ num t) ⊗ num q) (omega arith))
 
-both_above : (m n u w : ℤ) → pos 0 <ℤ m → pos 0 <ℤ n → pos 0 <ℤ u → pos 0 <ℤ w → pos 0 <ℤ (m *ℤ u +ℤ n *ℤ w)
+pub both_above : (m n u w : ℤ) → pos 0 <ℤ m → pos 0 <ℤ n → pos 0 <ℤ u → pos 0 <ℤ w → pos 0 <ℤ (m *ℤ u +ℤ n *ℤ w)
 both_above m n u w a b c d = let one = product_above m u a c in let other = product_above n w b d in omega (arith, ints, one, other)
 
-step_of : (x d X D m n : ℤ) → (m *ℤ x +ℤ n *ℤ X) *ℤ d -ℤ x *ℤ (m *ℤ d +ℤ n *ℤ D) ≡ n *ℤ (X *ℤ d -ℤ x *ℤ D)
+pub step_of : (x d X D m n : ℤ) → (m *ℤ x +ℤ n *ℤ X) *ℤ d -ℤ x *ℤ (m *ℤ d +ℤ n *ℤ D) ≡ n *ℤ (X *ℤ d -ℤ x *ℤ D)
 step_of x d X D m n =
     let M = num m in let N = num n in
     same ((M ⊗ num x ⊕ N ⊗ num X) ⊗ num d ⊖ num x ⊗ (M ⊗ num d ⊕ N ⊗ num D)) (N ⊗ (num X ⊗ num d ⊖ num x ⊗ num D)) (omega arith)
@@ -44,13 +44,10 @@ one_times z = same (num (pos 1) ⊗ num z) (num z) (omega arith)
 times_one : (z : ℤ) → z *ℤ pos 1 ≡ z
 times_one z = same (num z ⊗ num (pos 1)) (num z) (omega arith)
 
-times_minus : (y z : ℤ) → y *ℤ (pos 0 -ℤ z) ≡ pos 0 -ℤ y *ℤ z
-times_minus y z = same (num y ⊗ (num (pos 0) ⊖ num z)) (num (pos 0) ⊖ num y ⊗ num z) (omega arith)
-
-exchanged : (y z : ℤ) → y *ℤ z ≡ z *ℤ y
+pub exchanged : (y z : ℤ) → y *ℤ z ≡ z *ℤ y
 exchanged y z = same (num y ⊗ num z) (num z ⊗ num y) (omega arith)
 
-turn_ahead : (u v ax ay px py pd x y d m : ℤ) →
+pub turn_ahead : (u v ax ay px py pd x y d m : ℤ) →
     pd *ℤ (u *ℤ ((m *ℤ py +ℤ pos 1 *ℤ y) -ℤ (m *ℤ pd +ℤ pos 1 *ℤ d) *ℤ ay) -ℤ v *ℤ ((m *ℤ px +ℤ pos 1 *ℤ x) -ℤ (m *ℤ pd +ℤ pos 1 *ℤ d) *ℤ ax)) ≡
     (m *ℤ pd +ℤ pos 1 *ℤ d) *ℤ (u *ℤ (py -ℤ pd *ℤ ay) -ℤ v *ℤ (px -ℤ pd *ℤ ax)) +ℤ (u *ℤ (y *ℤ pd -ℤ py *ℤ d) -ℤ v *ℤ (x *ℤ pd -ℤ px *ℤ d))
 turn_ahead u v ax ay px py pd x y d m =
@@ -58,7 +55,7 @@ turn_ahead u v ax ay px py pd x y d m =
     same (p ⊗ (U ⊗ ((M ⊗ num py ⊕ one ⊗ num y) ⊖ (M ⊗ p ⊕ one ⊗ e) ⊗ b) ⊖ V ⊗ ((M ⊗ num px ⊕ one ⊗ num x) ⊖ (M ⊗ p ⊕ one ⊗ e) ⊗ a)))
     ((M ⊗ p ⊕ one ⊗ e) ⊗ (U ⊗ (num py ⊖ p ⊗ b) ⊖ V ⊗ (num px ⊖ p ⊗ a)) ⊕ (U ⊗ (num y ⊗ p ⊖ num py ⊗ e) ⊖ V ⊗ (num x ⊗ p ⊖ num px ⊗ e))) (omega arith)
 
-wide : (m p d : ℤ) → pos 0 <ℤ m → pos 0 <ℤ p → pos 0 ≤ℤ d → m ≤ℤ (p *ℤ (m *ℤ p +ℤ pos 1 *ℤ d))
+pub wide : (m p d : ℤ) → pos 0 <ℤ m → pos 0 <ℤ p → pos 0 ≤ℤ d → m ≤ℤ (p *ℤ (m *ℤ p +ℤ pos 1 *ℤ d))
 wide m p d some_m some_p at_least =
     let one : (m *ℤ pos 1) ≤ℤ (m *ℤ p) = mono m (pos 1) p (omega (arith, ints, some_m)) (omega (arith, ints, some_p)) in
     let two = times_one m in let three = one_times d in
@@ -140,22 +137,22 @@ module _ (p : Rational) (x y d : ℤ) (at_least : pos 0 ≤ℤ d) where
 
   -- on which side of a segment through p it lies, the direction tells
   module _ (u : Segment) (on : IsStrictlyOn u p) (m : ℤ) (some_m : pos 0 <ℤ m) (one : pos 0 <ℤ pos 1) where
-    side_is : p.d *ℤ side_of u (ahead m (pos 1) some_m one) ≡ cross (u.b.x -ℤ u.a.x) (u.b.y -ℤ u.a.y) step_east step_north
+    side_is : p.d *ℤ turn_about u (ahead m (pos 1) some_m one) ≡ cross (u.b.x -ℤ u.a.x) (u.b.y -ℤ u.a.y) step_east step_north
     side_is =
         let all = turn_ahead (u.b.x -ℤ u.a.x) (u.b.y -ℤ u.a.y) u.a.x u.a.y p.x p.y p.d x y d m in
-        let none : (m *ℤ p.d +ℤ pos 1 *ℤ d) *ℤ side_of u p ≡ pos 0 =
+        let none : (m *ℤ p.d +ℤ pos 1 *ℤ d) *ℤ turn_about u p ≡ pos 0 =
         ap (λ z. (m *ℤ p.d +ℤ pos 1 *ℤ d) *ℤ z) on.on.straight ∙ times_zero (m *ℤ p.d +ℤ pos 1 *ℤ d) in
         omega (arith, ints, all, none)
 
-    left_of : pos 0 <ℤ cross (u.b.x -ℤ u.a.x) (u.b.y -ℤ u.a.y) step_east step_north → pos 0 <ℤ side_of u (ahead m (pos 1) some_m one)
+    left_of : pos 0 <ℤ cross (u.b.x -ℤ u.a.x) (u.b.y -ℤ u.a.y) step_east step_north → pos 0 <ℤ turn_about u (ahead m (pos 1) some_m one)
     left_of h =
         let is = side_is in let a : pos 0 <ℤ p.d = p.above_zero in
-        above_of_product p.d (side_of u (ahead m (pos 1) some_m one)) (omega (arith, ints, a)) (omega (arith, ints, is, h))
+        above_of_product p.d (turn_about u (ahead m (pos 1) some_m one)) (omega (arith, ints, a)) (omega (arith, ints, is, h))
 
-    right_of : cross (u.b.x -ℤ u.a.x) (u.b.y -ℤ u.a.y) step_east step_north <ℤ pos 0 → side_of u (ahead m (pos 1) some_m one) <ℤ pos 0
+    right_of : cross (u.b.x -ℤ u.a.x) (u.b.y -ℤ u.a.y) step_east step_north <ℤ pos 0 → turn_about u (ahead m (pos 1) some_m one) <ℤ pos 0
     right_of h =
-        let is = side_is in let a : pos 0 <ℤ p.d = p.above_zero in let back = times_minus p.d (side_of u (ahead m (pos 1) some_m one)) in
-        let k = above_of_product p.d (pos 0 -ℤ side_of u (ahead m (pos 1) some_m one)) (omega (arith, ints, a)) (omega (arith, ints, is, back, h)) in
+        let is = side_is in let a : pos 0 <ℤ p.d = p.above_zero in let back = times_minus p.d (turn_about u (ahead m (pos 1) some_m one)) in
+        let k = above_of_product p.d (pos 0 -ℤ turn_about u (ahead m (pos 1) some_m one)) (omega (arith, ints, a)) (omega (arith, ints, is, back, h)) in
         omega (arith, ints, k)
 
   -- so what the side of the segment names lies on the line, if the line meets no chain
@@ -198,8 +195,8 @@ module _ (p : Rational) (x y d : ℤ) (at_least : pos 0 ≤ℤ d) where
             great = omega (arith, ints)
 
             by_place : (t : Rational) → IsAhead t → IsNearer e p t →
-                (pos 0 <ℤ cross (u.b.x -ℤ u.a.x) (u.b.y -ℤ u.a.y) step_east step_north → pos 0 <ℤ side_of u t) →
-                (cross (u.b.x -ℤ u.a.x) (u.b.y -ℤ u.a.y) step_east step_north <ℤ pos 0 → side_of u t <ℤ pos 0) → IsSeen chains side
+                (pos 0 <ℤ cross (u.b.x -ℤ u.a.x) (u.b.y -ℤ u.a.y) step_east step_north → pos 0 <ℤ turn_about u t) →
+                (cross (u.b.x -ℤ u.a.x) (u.b.y -ℤ u.a.y) step_east step_north <ℤ pos 0 → turn_about u t <ℤ pos 0) → IsSeen chains side
             by_place t there near left right = record {
               place = t;
               on_line = there;

@@ -140,8 +140,8 @@ module _ (K : ℤ) (above : pos 0 <ℤ K) (chains : List MapChain) (near : AreAl
     item_there : IsFound K chains p t xs
     item_there = item_of K chains p through xs all t w is' (spanned_by K chains p through t w is' q on' level)
 
-    same_place : (y : Item K chains p) → t ≡ y.s → q.x *ℤ y.at.place.d ≡ y.at.place.x *ℤ q.d
-    same_place y e =
+    same_point : (y : Item K chains p) → t ≡ y.s → q.x *ℤ y.at.place.d ≡ y.at.place.x *ℤ q.d
+    same_point y e =
         let own : IsNumbered chains t y.segment = subst (λ m. IsNumbered chains m y.segment) (sym e) (numbered K chains p y) in
         let here : IsOn y.segment q = on_same w y.segment q (one_segment chains t w y.segment is' own) on' in
         one_longitude K chains p through t y.segment own q y.at.place here y.at.on (level_with K q y.at.place p level y.at.level)
@@ -149,12 +149,12 @@ module _ (K : ℤ) (above : pos 0 <ℤ K) (chains : List MapChain) (near : AreAl
     -- what is west or east of the item is so of the place
     to_west : (y z : Item K chains p) → t ≡ y.s → IsWestward z.at.place y.at.place → IsWestward z.at.place q
     to_west y z e west =
-        let a : Rational = z.at.place in let b : Rational = y.at.place in let f = same_place y e in
+        let a : Rational = z.at.place in let b : Rational = y.at.place in let f = same_point y e in
         lt_le a.x a.d b.x b.d q.x q.d a.above_zero b.above_zero q.above_zero west (omega (arith, ints, f))
 
     to_east : (y z : Item K chains p) → t ≡ y.s → IsWestward y.at.place z.at.place → IsWestward q z.at.place
     to_east y z e west =
-        let a : Rational = z.at.place in let b : Rational = y.at.place in let f = same_place y e in
+        let a : Rational = z.at.place in let b : Rational = y.at.place in let f = same_point y e in
         le_lt q.x q.d b.x b.d a.x a.d q.above_zero b.above_zero a.above_zero (omega (arith, ints, f)) west
 
   own : IsFound K chains p s xs
@@ -211,9 +211,9 @@ module _ (K : ℤ) (above : pos 0 <ℤ K) (chains : List MapChain) (near : AreAl
     -- the other isn't this one, nor west of it
     not_here : ¬ (y ≡ x)
     not_here e =
-        let here = same_place s u is p on itself x own.is in
+        let here = same_point s u is p on itself x own.is in
         let there : q.x *ℤ x.at.place.d ≡ x.at.place.x *ℤ q.d =
-        subst (λ (z : Item K chains p). q.x *ℤ z.at.place.d ≡ z.at.place.x *ℤ q.d) e (same_place t w is' q on' level y other.is) in
+        subst (λ (z : Item K chains p). q.x *ℤ z.at.place.d ≡ z.at.place.x *ℤ q.d) e (same_point t w is' q on' level y other.is) in
         let a : Rational = x.at.place in
         let less : (p.x *ℤ a.d) <ℤ (a.x *ℤ p.d) = lt_le p.x p.d q.x q.d a.x a.d p.above_zero q.above_zero a.above_zero west (omega (arith, ints, there)) in
         omega (arith, ints, less, here)
@@ -223,7 +223,7 @@ module _ (K : ℤ) (above : pos 0 <ℤ K) (chains : List MapChain) (near : AreAl
         let one : IsWestward y.at.place p = to_west s u is p on itself x y own.is back in
         let b : Rational = y.at.place in
         let two : (b.x *ℤ q.d) <ℤ (q.x *ℤ b.d) = le_lt b.x b.d p.x p.d q.x q.d b.above_zero p.above_zero q.above_zero (omega (arith, ints, one)) west in
-        let same_there = same_place t w is' q on' level y other.is in
+        let same_there = same_point t w is' q on' level y other.is in
         omega (arith, ints, two, same_there)
 
     behind : Has K chains p y parted.back

@@ -1,5 +1,5 @@
--- On planar chains whose faces agree each slab has a list of which neighbours are tested, and facing sides agree along it.
-use Rattle.std.proofs.Common.{◌≡◌, inl, ℕ, ℤ, pos, ◌+ℤ◌, ◌-ℤ◌, ◌*ℤ◌, ◌<ℤ◌, if◌then◌else◌, Some, List, [], ◌∷◌, refl, sym, subst, ◌∙◌, arith}
+-- On planar chains each slab has a list of which neighbours are tested; and where faces agree, facing sides agree along it.
+use Rattle.std.proofs.Common.{◌≡◌, inl, ℕ, ℤ, pos, ◌+ℤ◌, ◌-ℤ◌, ◌*ℤ◌, ◌<ℤ◌, if◌then◌else◌, Some, List, [], ◌∷◌, length, refl, sym, subst, ◌∙◌, arith}
 use Rattle.std.specs.Prelude.{int_lt, slice_get}
 use Rattle.std.proofs.lemmas.Int.{ints}
 use Rattle.tl_geom.specs.declared.point.Point.{Point}
@@ -10,12 +10,13 @@ use Rattle.tl_geom.proofs.Polynomials.{num, ◌⊕◌, ◌⊖◌, ◌⊗◌, sam
 use Rattle.tl_map_county.specs.declared.sides.Side.{Side}
 use Rattle.tl_map_county.specs.declared.sides.Side.TheVariants.{Outside}
 use Rattle.tl_map_county.specs.TheMap.{MapChain}
+use Rattle.tl_map_county.specs.Segments.{segments_before}
 use Rattle.tl_check_planar.specs.Planar.{IsPlanar}
 use Rattle.tl_check_planar.specs.Keeping.Apart.{one_found}
 use Rattle.tl_check_planar.proofs.Numbering.{below_total, one_chain, HaveSameEnds}
 use Rattle.tl_check_planar.specs.ByHeight.Heights.{height, height_of, low_end, high_end, turn_at}
 use Rattle.tl_check_planar.specs.ByHeight.Neighbours.{IsNumbered, IsWestOf, AreTested, EachTwo, AreApartOrAtEnds}
-use Rattle.tl_check_planar.specs.ByHeight.Slabs.{IsListOf}
+use Rattle.tl_check_planar.specs.ByHeight.Slabs.{IsListOf, AreSlabsTested}
 use Rattle.tl_check_planar.proofs.ByHeight.Rising.{AreEndsOf}
 use Rattle.tl_check_planar.proofs.ByHeight.Lying.{heights_of}
 use Rattle.tl_check_planar.proofs.ByHeight.Numbered.{one_segment, on_same}
@@ -25,7 +26,7 @@ use Rattle.tl_check_faces.specs.Disagreements.{IsInSlab}
 use Rattle.tl_check_faces.proofs.Steep.{IsSpanned}
 use Rattle.tl_check_faces.proofs.Lines.{IsWestward, level_with, turn_of_west}
 use Rattle.tl_check_faces.proofs.Items.{Item, IsLine, numbered, ends, one_longitude}
-use Rattle.tl_check_faces.proofs.Sorting.{IsSorted, numbers, spanned_same}
+use Rattle.tl_check_faces.proofs.Sorting.{IsSorted, IsListed, numbers, spanned_same, all as items_on_line}
 use Rattle.tl_check_faces.proofs.Toward.{near_side, far_side}
 use Rattle.tl_check_faces.proofs.Along.{AreFacing, IsFacedOn, on_line}
 use Rattle.tl_check_faces.proofs.Tests.{is_west, are_free}
@@ -38,7 +39,7 @@ west_of K chain a b = if int_lt (height K a) (height K b) then chain.left else c
 abbrev east_of : ℤ → MapChain → (a b : Point) → Side
 east_of K chain a b = if int_lt (height K a) (height K b) then chain.right else chain.left
 
-module _ (K : ℤ) (above : pos 0 <ℤ K) (chains : List MapChain) (near : AreAllNear K chains) (planar : IsPlanar chains) (agree : FacesAgree chains) (n : ℤ) where
+module _ (K : ℤ) (above : pos 0 <ℤ K) (chains : List MapChain) (near : AreAllNear K chains) (planar : IsPlanar chains) (n : ℤ) where
   -- a place midway between the height and the next
   middle : Rational
   middle = record { x = pos 0 -ℤ (n +ℤ n +ℤ pos 1); y = pos 0; d = pos 2; above_zero = omega (arith, ints) }
@@ -145,19 +146,25 @@ module _ (K : ℤ) (above : pos 0 <ℤ K) (chains : List MapChain) (near : AreAl
 
   -- ---- the list
 
-  listed : (list : List ℕ) × IsListOf K n chains list × AreFacingFrom K chains Outside list
-  listed = go (on_line chains planar agree K middle on_middle)
+  -- all that meets the line has the numbers of the slab's list
+  list_of : (xs : List (Item K chains middle)) → IsListed K chains middle (segments_before chains (length chains)) xs → IsListOf K n chains (numbers K chains middle xs)
+  list_of xs all = record {
+    active = all_active K above chains near n middle inside xs;
+    once = λ s a. all.once s a.segment (below_total chains s a.is.c a.is.k a.is.number) a.is (spanned_of K above chains near n middle inside a.segment a.begun a.lasting);
+    tested = all_tested xs all.sorted;
+  }
+
+  tested : (list : List ℕ) × IsListOf K n chains list
+  tested = let found = items_on_line K chains middle on_middle planar in (numbers K chains middle found.0, list_of found.0 found.1)
+
+  listed : FacesAgree chains → (list : List ℕ) × IsListOf K n chains list × AreFacingFrom K chains Outside list
+  listed agree = go (on_line chains planar agree K middle on_middle)
     where
       go : IsFacedOn K chains middle on_middle → (list : List ℕ) × IsListOf K n chains list × AreFacingFrom K chains Outside list
-      go f = (
-        numbers K chains middle f.items,
-        record {
-          active = all_active K above chains near n middle inside f.items;
-          once = λ s a. f.listed.once s a.segment (below_total chains s a.is.c a.is.k a.is.number) a.is (spanned_of K above chains near n middle inside a.segment a.begun a.lasting);
-          tested = all_tested f.items f.listed.sorted;
-        },
-        facing_numbers Outside f.items f.along,
-      )
+      go f = (numbers K chains middle f.items, list_of f.items f.listed, facing_numbers Outside f.items f.along)
 
 pub to_slabs : (K : ℤ) (chains : List MapChain) → pos 0 <ℤ K → AreAllNear K chains → IsPlanar chains → FacesAgree chains → AreSlabsFacing K chains
-to_slabs K chains above near planar agree n = listed K above chains near planar agree n
+to_slabs K chains above near planar agree n = listed K above chains near planar n agree
+
+pub lists : (K : ℤ) (chains : List MapChain) → pos 0 <ℤ K → AreAllNear K chains → IsPlanar chains → AreSlabsTested K chains
+lists K chains above near planar n = tested K above chains near planar n

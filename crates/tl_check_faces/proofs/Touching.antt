@@ -11,6 +11,7 @@ use Rattle.tl_geom.proofs.Places.{place, place_on, on_same}
 use Rattle.tl_check_planar.specs.ByHeight.Heights.{turn_at}
 use Rattle.tl_check_faces.specs.Facing.{IsStrictlyBetween, step_x, step_y}
 use Rattle.tl_check_faces.proofs.Means.{mean, mean_turn, mean_north, mean_south}
+use Rattle.tl_check_faces.proofs.Crossing.{spread}
 
 -- neither place lies on the segment, nor does a place between them
 pub record IsApart (p q : Rational) (u : Segment) : Type 0 where
@@ -186,9 +187,6 @@ level_y : (uy ay y d : ℤ) → ((d *ℤ uy) *ℤ ay +ℤ (y -ℤ d *ℤ ay) *�
 level_y uy ay y d =
     let v = num uy in let D = num d in
     same (((D ⊗ v) ⊗ num ay ⊕ (num y ⊖ D ⊗ num ay) ⊗ v) ⊗ D) (num y ⊗ (D ⊗ v)) (omega arith)
-
-spread : (d a b : ℤ) → d *ℤ (b -ℤ a) ≡ d *ℤ b -ℤ d *ℤ a
-spread d a b = same (num d ⊗ (num b ⊖ num a)) (num d ⊗ num b ⊖ num d ⊗ num a) (omega arith)
 
 on_by_latitude : (u : Segment) (r : Rational) → u.a.y <ℤ u.b.y → (r.d *ℤ u.a.y) ≤ℤ r.y → r.y ≤ℤ (r.d *ℤ u.b.y) → turn_at u.a u.b r ≡ pos 0 → IsOn u r
 on_by_latitude u r up low high none =

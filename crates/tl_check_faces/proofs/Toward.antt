@@ -1,5 +1,5 @@
 -- The sides of a segment to the west and to the east of it along a line that it meets.
-use Rattle.std.proofs.Common.{◌≡◌, ◌⊎◌, inl, inr, ⊎_elim, ℤ, pos, ◌+ℤ◌, ◌-ℤ◌, ◌*ℤ◌, ◌<ℤ◌, ◌≤ℤ◌, Bool, true, false, T, if◌then◌else◌, List, refl, sym, ap, ◌∙◌, arith}
+use Rattle.std.proofs.Common.{◌≡◌, ◌⊎◌, inl, inr, ⊎_elim, ℤ, pos, ◌+ℤ◌, ◌-ℤ◌, ◌*ℤ◌, ◌<ℤ◌, Bool, true, false, if◌then◌else◌, List, refl, sym, ap, ◌∙◌, arith}
 use Rattle.std.specs.Prelude.{int_lt}
 use Rattle.std.proofs.lemmas.Int.{ints}
 use Rattle.tl_geom.specs.declared.point.Point.{Point}
@@ -11,27 +11,13 @@ use Rattle.tl_map_county.specs.declared.sides.Side.{Side}
 use Rattle.tl_map_county.specs.TheMap.{MapChain}
 use Rattle.tl_check_inside.specs.declared.flanks.Flanks.{Flanks}
 use Rattle.tl_check_inside.specs.Inside.{flanks_at}
-use Rattle.tl_check_inside.proofs.Sides.{by_points}
+use Rattle.tl_check_inside.proofs.Sides.{by_points, no_lt, is_lt}
 use Rattle.tl_check_planar.specs.ByHeight.Heights.{height, height_of, AreNear}
 use Rattle.tl_check_planar.proofs.ByHeight.Rising.{le_of, lt_of, one_higher, higher, near_back}
 use Rattle.tl_check_faces.specs.Facing.{IsSideToward, IsStrictlyBetween, IsOnRay, step_x, step_y}
 use Rattle.tl_check_faces.proofs.Numbers.{above_by, below_by}
 use Rattle.tl_check_faces.proofs.Lines.{AreLevel, IsWestward}
 use Rattle.tl_check_faces.proofs.Items.{Item, numbered, IsLine}
-
-pub is_lt : (x y : ℤ) → x <ℤ y → int_lt x y ≡ true
-is_lt x y h = go (int_lt x y) h.lt
-  where
-    go : (b : Bool) → T b → b ≡ true
-    go true t = refl
-    go false t = absurd t
-
-pub no_lt : (x y : ℤ) → y ≤ℤ x → int_lt x y ≡ false
-no_lt x y h = go (int_lt x y) refl
-  where
-    go : (b : Bool) → int_lt x y ≡ b → b ≡ false
-    go false e = refl
-    go true e = absurd (let lt : x <ℤ y = lt_of x y e in omega (arith, ints, lt, h))
 
 -- ---- the turn from a segment to a step along a line of one height
 

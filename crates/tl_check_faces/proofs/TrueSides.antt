@@ -21,9 +21,9 @@ use Rattle.tl_check_planar.specs.ByHeight.Heights.{height, low_end, high_end, tu
 use Rattle.tl_check_planar.specs.ByHeight.Neighbours.{IsNumbered}
 use Rattle.tl_check_planar.proofs.ByHeight.Lying.{heights_of, turned}
 use Rattle.tl_check_planar.proofs.ByHeight.Numbered.{one_segment, on_same}
-use Rattle.tl_check_faces.specs.Rays.{IsCountAt}
+use Rattle.tl_check_inside.specs.Inside.{IsCountAt}
 use Rattle.tl_check_faces.specs.Facing.{IsOfChain, IsOff, IsStrictlyOn, step_y}
-use Rattle.tl_check_faces.specs.Truth.{LiesAt, IsNearer, IsTrueAbout, AreSidesTrue, side_of}
+use Rattle.tl_check_faces.specs.Truth.{LiesAt, IsNearer, IsTrueAbout, AreSidesTrue, turn_about}
 use Rattle.tl_check_faces.proofs.Numbers.{le_lt, lt_le}
 use Rattle.tl_check_faces.proofs.Crossing.{IsEast}
 use Rattle.tl_check_faces.proofs.Bounds.{AreBounded, IsSteep, some_bound, some_steepness}
@@ -218,12 +218,12 @@ module _ (chains : List MapChain) (planar : IsPlanar chains) (faced : AreFaced c
     lies_far t = lies_by chains q far_of (λ S none. by_lt_z (step_y r q) (pos 0) (λ south. south_east south t S none) (λ north. north_east north t S none))
 
     -- on the left and on the right of the segment
-    by_sides : (pos 0 <ℤ side_of x.segment q → LiesAt chains q x.chain.left) × (side_of x.segment q <ℤ pos 0 → LiesAt chains q x.chain.right)
+    by_sides : (pos 0 <ℤ turn_about x.segment q → LiesAt chains q x.chain.left) × (turn_about x.segment q <ℤ pos 0 → LiesAt chains q x.chain.right)
     by_sides = go (int_lt (height K x.segment.a) (height K x.segment.b)) lies_near lies_far
       where
         go : (t : Bool) → (pos 0 <ℤ turn_at (if t then x.segment.a else x.segment.b) (if t then x.segment.b else x.segment.a) q → LiesAt chains q (if t then x.chain.left else x.chain.right)) →
             (turn_at (if t then x.segment.a else x.segment.b) (if t then x.segment.b else x.segment.a) q <ℤ pos 0 → LiesAt chains q (if t then x.chain.right else x.chain.left)) →
-            (pos 0 <ℤ side_of x.segment q → LiesAt chains q x.chain.left) × (side_of x.segment q <ℤ pos 0 → LiesAt chains q x.chain.right)
+            (pos 0 <ℤ turn_about x.segment q → LiesAt chains q x.chain.left) × (turn_about x.segment q <ℤ pos 0 → LiesAt chains q x.chain.right)
         go true near_lies far_lies = (near_lies, far_lies)
         go false near_lies far_lies =
             let back = turned x.segment.a x.segment.b q in
@@ -246,7 +246,7 @@ module _ (chains : List MapChain) (planar : IsPlanar chains) (faced : AreFaced c
     right = λ q near off h. subst (λ (z : MapChain). LiesAt chains q z.right) one (about.right q near off (subst (λ z. z <ℤ pos 0) (sides q) h));
   }
     where
-      sides : (q : Rational) → side_of w q ≡ side_of u q
+      sides : (q : Rational) → turn_about w q ≡ turn_about u q
       sides q = rw (same.first, same.last) refl
 
   same_strictly : (u w : Segment) → HaveSameEnds u w → IsStrictlyOn u r → IsStrictlyOn w r
@@ -298,8 +298,8 @@ module _ (chains : List MapChain) (planar : IsPlanar chains) (faced : AreFaced c
           (record { chain = chain; is = of.is; place = slice_get_within chain.points (of.k + 1) u.b of.to; number = sym found_x.is }) in
           one_found x.chain chain (slice_get chains of.c) (subst (λ m. slice_get chains m ≡ Some x.chain) c x.is) of.is
 
-      same_place : (y : Item k.0 chains r) → x.at.place.x *ℤ r.d ≡ r.x *ℤ x.at.place.d
-      same_place y = one_longitude k.0 chains r line x.s x.segment (numbered k.0 chains r x) x.at.place r x.at.on on_x.on x.at.level
+      same_point : (y : Item k.0 chains r) → x.at.place.x *ℤ r.d ≡ r.x *ℤ x.at.place.d
+      same_point y = one_longitude k.0 chains r line x.s x.segment (numbered k.0 chains r x) x.at.place r x.at.on on_x.on x.at.level
 
       by_split : IsSplit k.0 chains r x list.items → IsTrueAbout chains chain u r (nearness r bound.0)
       by_split p =
@@ -307,10 +307,10 @@ module _ (chains : List MapChain) (planar : IsPlanar chains) (faced : AreFaced c
           (about chains planar faced bound.0 bound.1 k.0 r k.1 line x on_x p.front p.back
           (subst (IsListed k.0 chains r (segments_before chains (length chains))) p.are list.listed) (subst (AreFacing k.0 chains r line Outside) p.are list.along)
           (λ y has. turn_east k.0 chains r k.1 line y
-          (let w = p.west y has in let t : Rational = x.at.place in let v : Rational = y.at.place in let e = same_place y in
+          (let w = p.west y has in let t : Rational = x.at.place in let v : Rational = y.at.place in let e = same_point y in
           lt_le v.x v.d t.x t.d r.x r.d v.above_zero t.above_zero r.above_zero w (omega (arith, ints, e))))
           (λ y has. turn_west k.0 chains r k.1 line y
-          (let w = p.east y has in let t : Rational = x.at.place in let v : Rational = y.at.place in let e = same_place y in
+          (let w = p.east y has in let t : Rational = x.at.place in let v : Rational = y.at.place in let e = same_point y in
           le_lt r.x r.d t.x t.d v.x v.d r.above_zero t.above_zero v.above_zero (omega (arith, ints, e)) w)))
 
 pub true_sides : (chains : List MapChain) → IsPlanar chains → AreFaced chains → AreSidesTrue chains

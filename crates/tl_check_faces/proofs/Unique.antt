@@ -6,8 +6,7 @@ use Rattle.tl_geom.specs.declared.rational.Rational.{Rational}
 use Rattle.tl_map_county.specs.declared.sides.Side.{Side}
 use Rattle.tl_map_county.specs.declared.sides.Side.TheVariants.{Outside, Polygon}
 use Rattle.tl_map_county.specs.TheMap.{MapChain}
-use Rattle.tl_check_inside.specs.Inside.{is_polygon}
-use Rattle.tl_check_faces.specs.Rays.{IsPolygonCountAt}
+use Rattle.tl_check_inside.specs.Inside.{is_polygon, IsPolygonCountAt}
 use Rattle.tl_check_faces.specs.Truth.{LiesAt}
 use Rattle.tl_check_faces.proofs.Whole.{one_count}
 

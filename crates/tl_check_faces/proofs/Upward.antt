@@ -12,13 +12,16 @@ use Rattle.tl_geom.proofs.Polynomials.{num, ◌⊗◌, same}
 use Rattle.tl_geom.proofs.Signs.{cancel_lt}
 use Rattle.tl_check_planar.specs.ByHeight.Heights.{turn_at}
 use Rattle.tl_check_planar.proofs.ByHeight.Lying.{turned}
-use Rattle.tl_check_faces.proofs.CrossingsLemmas.Telescoping.{bit, int_lt-true, int_lt-false, lt_of, le_of}
+use Rattle.tl_check_faces.proofs.CrossingsLemmas.Telescoping.{bit}
 use Rattle.tl_check_faces.proofs.CrossingsLemmas.Signed.{adds}
 use Rattle.tl_check_faces.specs.Facing.{step_y}
 use Rattle.tl_check_faces.proofs.Numbers.{le_lt, lt_le}
 use Rattle.tl_check_faces.proofs.Crossing.{IsEastUp}
 use Rattle.tl_check_faces.proofs.Touching.{IsApart, apart_turned, line_to, one_side}
 use Rattle.tl_check_faces.proofs.Beside.{IsAbove, IsNoHigher, last_east, passed_by_last, first_east, passed_by_first, both_east, both_east_back}
+use Rattle.tl_check_faces.proofs.ToFaces.{exchanged}
+use Rattle.tl_check_inside.proofs.Sides.{is_lt as int_lt-true, no_lt as int_lt-false}
+use Rattle.tl_check_planar.proofs.ByHeight.Rising.{lt_of, le_of}
 
 -- ---- the tests
 
@@ -72,9 +75,6 @@ same_test x y z w to back =
 
 times_one : (z : ℤ) → z *ℤ pos 1 ≡ z
 times_one z = same (num z ⊗ num (pos 1)) (num z) (omega arith)
-
-exchanged : (y z : ℤ) → y *ℤ z ≡ z *ℤ y
-exchanged y z = same (num y ⊗ num z) (num z ⊗ num y) (omega arith)
 
 once : (t : Bool) → cond t (pos 1) (pos 0) -ℤ pos 0 ≡ pos (bit t) -ℤ pos 0
 once true = refl

@@ -1,5 +1,5 @@
 -- When a map has faces that disagree, as a fault tells.
-use Rattle.std.specs.Prelude.{◌≡◌, ℕ, ℤ, pos, ◌-ℤ◌, Option, None, Some, List, option_map, slice_get}
+use Rattle.std.specs.Prelude.{◌≡◌, ℕ, ℤ, pos, ◌-ℤ◌, ◌≤ℤ◌, Option, None, Some, List, option_map, slice_get}
 use Rattle.tl_geom.specs.declared.rational.Rational.{Rational}
 use Rattle.tl_geom.specs.declared.segment.Segment.{Segment}
 use Rattle.tl_geom.specs.Lowest.{IsLowest, IsLowestOf}
@@ -8,12 +8,11 @@ use Rattle.tl_map_county.specs.declared.polygons.Polygon.{Polygon}
 use Rattle.tl_map_county.specs.declared.sides.Side.{Side}
 use Rattle.tl_map_county.specs.declared.sides.Side.TheVariants as side
 use Rattle.tl_map_county.specs.TheMap.{TheMap, MapChain}
-use Rattle.tl_check_planar.specs.ByHeight.Heights.{height, widest}
+use Rattle.tl_check_planar.specs.ByHeight.Heights.{widest}
 use Rattle.tl_check_planar.specs.ByHeight.Neighbours.{IsNumbered}
 use Rattle.tl_check_faces.specs.Lists.{west_side, east_side}
 use Rattle.tl_check_faces.specs.Disagreements.{FacingSide, IsMidway, IsFaceDisagreement, IsOutwardDisagreement}
-use Rattle.tl_check_faces.specs.Odd.{IsLowestOddGap}
-use Rattle.tl_check_faces.specs.declared.odd.OddGap.{OddGap}
+use Rattle.tl_check_faces.specs.Level.{DifferAlong}
 use Rattle.tl_check_faces.specs.declared.fault.NamedFace.{NamedFace}
 use Rattle.tl_check_faces.specs.declared.fault.Way.{Way}
 use Rattle.tl_check_faces.specs.declared.fault.Way.TheVariants.{West, East}
@@ -66,7 +65,7 @@ abbrev pub IsTrueInPlane : TheMap → FaceFault → Type 0
 IsTrueInPlane m (Facing first last) = IsTrueFacing m first last
 IsTrueInPlane m (Outward face way) = IsTrueOutward m face way
 
--- ---- of a gap
+-- ---- along lines of one height
 
 -- the place is the segment's place midway between height n and the next, in lowest terms
 pub record IsLowestMidway (K n : ℤ) (u : Segment) (at : Rational) : Type 0 where
@@ -88,25 +87,28 @@ pub record IsEastFace (K : ℤ) (m : TheMap) (n : ℤ) (s : ℕ) (face : NamedFa
   pub midway : IsLowestMidway K n segment face.at
   pub named : IsNamed m is.joins.chain (east_side K is.joins.chain segment) face
 
--- the fault is of what stands west and east of a gap above height n: of two segments what each names toward the other, of one alone
--- what it names toward the gap
-abbrev pub IsBetween : ℤ → TheMap → ℤ → (west east : Option ℕ) → FaceFault → Type 0
-IsBetween K m n (Some s) (Some t) (Facing first last) = IsEastFace K m n s first × IsWestFace K m n t last
-IsBetween K m n (Some s) (Some t) (Outward face way) = ⊥
-IsBetween K m n (Some s) None (Facing first last) = ⊥
-IsBetween K m n (Some s) None (Outward face way) = IsEastFace K m n s face × (way ≡ East)
-IsBetween K m n None (Some t) (Facing first last) = ⊥
-IsBetween K m n None (Some t) (Outward face way) = IsWestFace K m n t face × (way ≡ West)
-IsBetween K m n None None fault = ⊥
+-- the fault is of what stands west and east, above height n: of two segments what each names toward the other, of one alone what it
+-- names toward the outside
+abbrev pub IsOfBothSides : ℤ → TheMap → ℤ → (west east : Option ℕ) → FaceFault → Type 0
+IsOfBothSides K m n (Some s) (Some t) (Facing first last) = IsEastFace K m n s first × IsWestFace K m n t last
+IsOfBothSides K m n (Some s) (Some t) (Outward face way) = ⊥
+IsOfBothSides K m n (Some s) None (Facing first last) = ⊥
+IsOfBothSides K m n (Some s) None (Outward face way) = IsEastFace K m n s face × (way ≡ East)
+IsOfBothSides K m n None (Some t) (Facing first last) = ⊥
+IsOfBothSides K m n None (Some t) (Outward face way) = IsWestFace K m n t face × (way ≡ West)
+IsOfBothSides K m n None None fault = ⊥
 
--- the fault is of this gap
-abbrev pub IsOfGap : ℤ → TheMap → OddGap → FaceFault → Type 0
-IsOfGap K m gap fault = IsBetween K m (height K gap.at) gap.west gap.east fault
+-- the fault is of what stands west and east: it is told at the lowest height above which they name different sides along a line
+pub record IsFaultBetween (m : TheMap) (west east : Option ℕ) (fault : FaceFault) : Type 0 where
+  pub n : ℤ
+  pub differ : DifferAlong widest n m.chains west east
+  pub lowest : (k : ℤ) → DifferAlong widest k m.chains west east → n ≤ℤ k
+  pub of : IsOfBothSides widest m n west east fault
 
--- the fault is true of the map: what it says of the plane is, and it is told of the lowest gap between its segments. So one
--- fault at most is true of what stands on both sides
+-- the fault is true of the map: what it says of the plane is, and it is of two segments, or of one and the outside. So one fault at
+-- most is true of what stands on both sides
 pub record IsTrueFaceFault (m : TheMap) (fault : FaceFault) : Type 0 where
   pub in_plane : IsTrueInPlane m fault
-  pub gap : OddGap
-  pub lowest : IsLowestOddGap widest m.chains gap
-  pub of : IsOfGap widest m gap fault
+  pub west : Option ℕ
+  pub east : Option ℕ
+  pub between : IsFaultBetween m west east fault

@@ -1,5 +1,4 @@
 -- What the laws cite.
-pub mod Rays
 pub mod Facing
 pub mod Clear
 pub mod Truth
@@ -7,6 +6,8 @@ pub mod Lists
 pub mod Located
 pub mod Disagreements
 pub mod Odd
+pub mod Level
 pub mod Faults
+pub mod AllFaults
 pub mod FaultTexts
 pub mod Crossings

@@ -8,7 +8,7 @@ use Rattle.tl_map_county.specs.TheMap.{MapChain}
 use Rattle.tl_check_inside.specs.declared.flanks.Flanks.{Flanks}
 use Rattle.tl_check_planar.specs.ByHeight.Heights.{height, AreNear}
 use Rattle.tl_check_planar.specs.ByHeight.Neighbours.{IsNumbered}
-use Rattle.tl_check_planar.specs.ByHeight.Slabs.{IsListOf, IsPointOf}
+use Rattle.tl_check_planar.specs.ByHeight.Slabs.{IsListOf, IsChainPoint}
 
 -- the side that a segment of a chain has to the west, along lines of one height, and the one that it has to the east. Of a
 -- level segment the first is the southern one
@@ -39,4 +39,4 @@ AreSlabsFacing K chains = (n : ℤ) → (list : List ℕ) × IsListOf K n chains
 
 -- K is above the difference of the longitudes of any two points of chains
 abbrev pub AreAllNear : ℤ → List MapChain → Type 0
-AreAllNear K chains = (c k d j : ℕ) (p q : Point) → IsPointOf chains c k p → IsPointOf chains d j q → AreNear K p q
+AreAllNear K chains = (c k d j : ℕ) (p q : Point) → IsChainPoint chains c k p → IsChainPoint chains d j q → AreNear K p q

@@ -2,23 +2,18 @@
 use Rattle.std.specs.Prelude.{◌≡◌, ⊤, ◌↔◌, ℕ, ◌<◌, ◌≤◌, Some, List, [], ◌∷◌, length, slice_get}
 use Rattle.tl_geom.specs.declared.point.Point.{Point}
 use Rattle.tl_geom.specs.Plane.{whole}
-use Rattle.tl_map_county.specs.declared.sides.Side.{Side}
 use Rattle.tl_map_county.specs.declared.sides.Side.TheVariants.{Outside, Polygon}
 use Rattle.tl_map_county.specs.TheMap.{TheMap, MapChain}
+use Rattle.tl_map_county.specs.Sides.{IsSideAmong}
 use Rattle.tl_check_inside.specs.declared.place.Place.{Place}
 use Rattle.tl_check_inside.specs.declared.place.Place.TheVariants.{OnChain, In}
 use Rattle.tl_check_faces.specs.Truth.{LiesAt}
-
--- the side is the outside, or one of n polygons
-abbrev pub IsKnownSide : ℕ → Side → Type 0
-IsKnownSide n Outside = ⊤
-IsKnownSide n (Polygon p) = p < n
 
 -- each side of each chain is the outside or a polygon of the map
 abbrev pub HasKnownSides : TheMap → Type 0
 HasKnownSides m =
     (c : ℕ) (chain : MapChain) → slice_get m.chains c ≡ Some chain →
-    IsKnownSide (length m.polygons) chain.left × IsKnownSide (length m.polygons) chain.right
+    IsSideAmong (length m.polygons) chain.left × IsSideAmong (length m.polygons) chain.right
 
 -- these polygons are what lies at the point: one at most; one alone exactly where that polygon lies there; and none exactly where the
 -- outside does, if sides name polygons of the map

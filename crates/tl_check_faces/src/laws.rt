@@ -4,7 +4,7 @@ ghost use Rattle.std.specs.Prelude.{◌≡◌, ◌≢◌, ◌↔◌, ℕ, ℤ, p
 ghost use Rattle.tl_geom.specs.declared.point.Point.{Point};
 ghost use Rattle.tl_geom.specs.declared.rational.Rational.{Rational};
 ghost use Rattle.tl_geom.specs.declared.segment.Segment.{Segment};
-ghost use Rattle.tl_geom.specs.Plane.{IsOn, IsSame, whole};
+ghost use Rattle.tl_geom.specs.Plane.{IsOn, IsSame};
 ghost use Rattle.tl_map_county.specs.declared.sides.Side.{Side};
 ghost use Rattle.tl_map_county.specs.declared.sides.Side.TheVariants.{Outside};
 ghost use Rattle.tl_map_county.specs.TheMap.{TheMap, MapChain};
@@ -12,12 +12,11 @@ ghost use Rattle.tl_check_planar.specs.Planar.{IsPlanar};
 ghost use Rattle.tl_check_sides.specs.Sides.{SidesAgree};
 ghost use Rattle.tl_check_faces.specs.Crossings.Headings.{AreProper, HeadApart};
 ghost use Rattle.tl_check_inside.specs.declared.place.Place.{Place};
-ghost use Rattle.tl_check_inside.specs.Inside.{IsCount, flanks_at};
+ghost use Rattle.tl_check_inside.specs.Inside.{IsCountAt, flanks_at};
 ghost use Rattle.tl_check_inside.specs.Places.{IsPlaceOf};
 ghost use Rattle.tl_check_planar.specs.ByHeight.Heights.{height, AreNear, low_end, high_end};
 ghost use Rattle.tl_check_planar.specs.ByHeight.Neighbours.{IsNumbered};
-ghost use Rattle.tl_check_planar.specs.ByHeight.Slabs.{IsListOf};
-ghost use Rattle.tl_check_faces.specs.Rays.{IsCountAt};
+ghost use Rattle.tl_check_planar.specs.ByHeight.Slabs.{IsListOf, AreSlabsTested};
 ghost use Rattle.tl_check_faces.specs.Facing.{FacesAgree, IsClearBetween, IsClearFrom, step_x};
 ghost use Rattle.tl_check_faces.specs.Clear.{IsClearAlong};
 ghost use Rattle.tl_check_faces.specs.Lists.{AreSlabsFacing, AreAllNear, RunsWest, sides_by_height, west_side, east_side};
@@ -27,11 +26,6 @@ ghost use Rattle.tl_check_faces.specs.Faults.{IsTrueFaceFault};
 ghost use Rattle.tl_check_faces.specs.Located.{ListsWhatLies};
 ghost use Rattle.tl_check_faces.specs.declared.fault.FaceFault.{FaceFault};
 ghost use Rattle.tl_check_faces.specs.Truth.{LiesAt, HasOnePolygon, AreSidesTrue, AreFacesTrue};
-
-/// The counts of rational points are those of whole points, where both speak of one point.
-pub fn counts_of_a_whole_point()
-    ensures { (chains : List MapChain) (q : Point) (S : Side → Bool) (n : ℤ) → IsCountAt chains (whole q) S n ↔ IsCount chains q S n }
-{}
 
 /// Any sides have one count at a rational point.
 pub fn sides_have_one_count_at_a_place()
@@ -90,7 +84,12 @@ pub fn true_sides_by_slabs()
     ensures { (K : ℤ) (chains : List MapChain) → AreAllNear K chains → IsPlanar chains → AreSlabsFacing K chains → AreSidesTrue chains }
 {}
 
-/// Where chains are planar and faces agree, all slabs have lists along which facing sides agree.
+/// Where chains are planar, all slabs have lists of which each two neighbours are tested.
+pub fn planar_chains_have_lists()
+    ensures { (K : ℤ) (chains : List MapChain) → pos 0 <ℤ K → AreAllNear K chains → IsPlanar chains → AreSlabsTested K chains }
+{}
+
+/// Where faces agree, too, facing sides agree along them.
 pub fn slabs_have_lists()
     ensures { (K : ℤ) (chains : List MapChain) → pos 0 <ℤ K → AreAllNear K chains → IsPlanar chains → FacesAgree chains →
         AreSlabsFacing K chains }

@@ -16,7 +16,7 @@ use Rattle.tl_check_faces.proofs.ToFaces as faces
 use Rattle.tl_check_gaps.specs.declared.watch.Gaps.{Gaps}
 use Rattle.tl_check_gaps.specs.declared.watch.Gaps.TheVariants.{First, All}
 use Rattle.tl_check_gaps.specs.declared.watch.Watch.{Watch}
-use Rattle.tl_check_gaps.specs.Gaps.{AreAtOdds, AreLowestOfEach, AreAllOddGaps}
+use Rattle.tl_check_gaps.specs.Gaps.{DifferAcross, AreLowestOfEach, AreAllOddGaps}
 use Rattle.tl_check_gaps.specs.Keeping.Watched.{IsOpen, AreToldOfSlabs, IsWatchedToEnd, AreTrueGaps}
 use Rattle.tl_check_gaps.proofs.Keeping.{all_of_lowest}
 use Rattle.tl_check_gaps.proofs.Lowest.{all_lowest, first_lowest}
@@ -33,7 +33,7 @@ one_side (Polygon p) (Polygon q) h = ⊎_elim (λ e. ap Polygon e) (λ ne. absur
 
 module _ (chains : List MapChain) where
   facing : (front back : List ℕ) (west : Side) → IsNamedWest widest chains (last_number front) west →
-      ((xs ys : List ℕ) → front ++ back ≡ xs ++ ys → ¬ AreAtOdds widest chains (last_number xs) (first_number ys)) → AreFacingFrom widest chains west back
+      ((xs ys : List ℕ) → front ++ back ≡ xs ++ ys → ¬ DifferAcross widest chains (last_number xs) (first_number ys)) → AreFacingFrom widest chains west back
   facing front [] west named none =
       one_side west Outside (λ differ. none front [] refl (record { side = west; opposite = Outside; named_west = named; named_east = refl; differ = differ }))
   facing front (s ∷ back) west named none = λ u is. (

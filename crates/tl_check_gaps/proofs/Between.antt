@@ -26,13 +26,14 @@ use Rattle.tl_check_gaps.specs.Beside.{IsNoVertex, IsEastOf, IsWestOfIt, IsEastO
 use Rattle.tl_check_planar.proofs.ByHeight.Order.{turn_whole}
 use Rattle.tl_check_planar.proofs.ByHeight.Rising.{AreEndsOf, ends_of, one_higher, higher, higher_west}
 use Rattle.tl_check_faces.specs.Lists.{RunsWest}
-use Rattle.tl_check_faces.proofs.Toward.{is_lt}
 use Rattle.tl_check_planar.proofs.ByHeight.Lying.{heights_of}
 use Rattle.tl_check_planar.proofs.ByHeight.Transport.{strictly_west, strictly_east}
 use Rattle.tl_check_planar.proofs.ByHeight.Numbered.{one_segment}
 use Rattle.tl_check_planar.proofs.ByHeight.Walking.{IsIn, in_by_times, all_head, all_tail, two_front, two_back, spans_of}
 use Rattle.tl_check_gaps.proofs.Crossed.{IsPassed, passed, crosses}
 use Rattle.tl_check_gaps.proofs.Flanked.{balance_is}
+use Rattle.tl_check_faces.proofs.OnePolygon.{polygon_itself, polygon_other}
+use Rattle.tl_check_inside.proofs.Sides.{is_lt}
 
 -- ---- lists
 
@@ -229,12 +230,6 @@ module _ (K : ℤ) (chains : List MapChain) (wide : IsWide K chains) (q : Point)
     counted facing S none = record { crossed = back; are = crossed; counted = balance_is chains S none back facing }
 
 -- ---- in a map
-
-polygon_itself : (p : ℕ) → is_polygon p (Polygon p) ≡ true
-polygon_itself p = grind (arith, nat_tests)
-
-polygon_other : (p other : ℕ) → ¬ (other ≡ p) → is_polygon other (Polygon p) ≡ false
-polygon_other p other ne = grind (arith, nat_tests)
 
 pub placed : (K : ℤ) (m : TheMap) (q : Point) (front back : List ℕ) (p : ℕ) → IsWide K m.chains → IsNoVertex K m.chains q → IsBetween K m.chains q front back → AreFacing m.chains back → seen_side m.chains back ≡ Polygon p → IsPlacedIn m q p
 placed K m q front back p wide clear between facing sees = record {

@@ -9,7 +9,7 @@ use Rattle.tl_map_county.specs.TheMap.{MapChain}
 use Rattle.tl_check_inside.specs.Inside.{flanks_at}
 use Rattle.tl_check_gaps.specs.Beside.{AreFacing, seen_side}
 use Rattle.tl_check_gaps.specs.Keeping.Facing.{gap, gaps_between, gaps_of, last_far}
-use Rattle.tl_check_blocks.specs.Lined.{last_of}
+use Rattle.tl_check_active.specs.Blocks.Lined.{last_of}
 use Rattle.tl_check_active.proofs.Lining.{last_more}
 
 -- ---- two sides

@@ -4,19 +4,15 @@ use Rattle.std.proofs.Common.{◌≡◌, ◌⊎◌, inl, inr, ⊎_elim, ℤ, pos
 use Rattle.std.proofs.lemmas.Int.{ints, by_lt_z}
 use Rattle.tl_geom.specs.declared.point.Point.{Point}
 use Rattle.tl_geom.specs.declared.segment.Segment.{Segment}
-use Rattle.tl_geom.specs.Plane.{turn_of}
+use Rattle.tl_geom.specs.Plane.{turn_of, whole}
 use Rattle.tl_geom.specs.Ray.{Crosses}
+use Rattle.tl_geom.proofs.AtPoints.{parted_by}
 use Rattle.tl_geom.proofs.Polynomials.{num, ◌⊖◌, ◌⊗◌, same}
 use Rattle.tl_geom.proofs.Signs.{product_at_least}
 use Rattle.tl_geom.proofs.Rays.{crossed_up, crossed_down}
 use Rattle.tl_check_planar.specs.ByHeight.Heights.{height, AreNear, low_end, high_end, turn_to}
 use Rattle.tl_check_planar.proofs.ByHeight.Rising.{AreEndsOf, ends_of, higher, higher_west, near_back}
-
--- the turn the other way
-turn_back : (a b q : Point) → turn_of b a q ≡ pos 0 -ℤ turn_of a b q
-turn_back a b q =
-    let ax = num a.x in let ay = num a.y in let bx = num b.x in let by = num b.y in let x = num q.x in let y = num q.y in
-    same ((ax ⊖ bx) ⊗ (y ⊖ by) ⊖ (ay ⊖ by) ⊗ (x ⊖ bx)) (num (pos 0) ⊖ ((bx ⊖ ax) ⊗ (y ⊖ ay) ⊖ (by ⊖ ay) ⊗ (x ⊖ ax))) (omega arith)
+use Rattle.tl_check_faces.proofs.CrossingsLemmas.Across.{turned_back as turn_back}
 
 -- the turn to a point of the first point's latitude, or of the last point's
 level_first : (a b q : Point) → a.y ≡ q.y → turn_of a b q ≡ (b.y -ℤ a.y) *ℤ (a.x -ℤ q.x)
@@ -100,7 +96,7 @@ module _ (K : ℤ) (s : Segment) (q : Point) (near : AreNear K s.a s.b) (near_a 
         west = subst (λ z. pos 0 <ℤ z) (sym (ap₂ (λ x y. turn_of x y q) straight.0 straight.1)) west;
       }
 
-  pub passed : Crosses s q → IsPassed K s q
+  pub passed : Crosses s (whole q) → IsPassed K s q
   passed c =
       let ends : AreEndsOf K s (low_end K s) (high_end K s) = ends_of K s near in
       ⊎_elim
@@ -111,9 +107,9 @@ module _ (K : ℤ) (s : Segment) (q : Point) (near : AreNear K s.a s.b) (near_a 
       let back : turn_of s.a s.b q <ℤ pos 0 = (crossed_down s q down.0 down.1).1 c in
       let west : pos 0 <ℤ turn_of s.b s.a q = let t = turn_back s.a s.b q in omega (arith, ints, back, t) in
       by_ends s.b s.a ends (inr ((λ i. s.b), λ i. s.a)) (low_by_latitude K q s.b s.a near_b near_a west down.0 down.1) (high_by_latitude K q s.b s.a near_b near_a west down.1) west)
-      c.parted
+      (parted_by q s.a s.b c.parted)
 
-  pub crosses : height K (low_end K s) ≤ℤ height K q → height K q <ℤ height K (high_end K s) → pos 0 <ℤ turn_to K s q → Crosses s q
+  pub crosses : height K (low_end K s) ≤ℤ height K q → height K q <ℤ height K (high_end K s) → pos 0 <ℤ turn_to K s q → Crosses s (whole q)
   crosses from to west =
       let ends : AreEndsOf K s (low_end K s) (high_end K s) = ends_of K s near in
       ⊎_elim

@@ -16,7 +16,7 @@ use Rattle.tl_check_faces.specs.Crossings.Headings.{AreProper}
 use Rattle.tl_check_active.specs.declared.events.Event.{Event}
 use Rattle.tl_check_planar.specs.ByHeight.Heights.{height, widest, low_end, high_end}
 use Rattle.tl_check_planar.specs.ByHeight.Neighbours.{IsNumbered, IsWide}
-use Rattle.tl_check_planar.specs.ByHeight.Slabs.{IsPointOf, AreVerticesTested}
+use Rattle.tl_check_planar.specs.ByHeight.Slabs.{IsChainPoint, AreVerticesTested}
 use Rattle.tl_check_active.specs.Events.{end_at, IsEvent, begins_at, ends_at, AreEvents}
 use Rattle.tl_check_active.specs.Vertices.{IsAtPlace, IsEndOfChain, MayMeet}
 use Rattle.tl_check_gaps.specs.Keeping.Vertices.{AreInOrderUpTo}
@@ -180,7 +180,7 @@ module _ (chains : List MapChain) (events : List Event) (order : AreInOrderUpTo 
           by false j k points u from to same is = one_found u.b point (slice_get points (j + 1)) to (ap (λ n. slice_get points (n + 1)) same ∙ is)
 
       module _ (proper : AreProper chains) where
-        find : (c k : ℕ) (p : Point) → IsPointOf chains c k p → IsFound c k p
+        find : (c k : ℕ) (p : Point) → IsChainPoint chains c k p → IsFound c k p
         find c k p one =
             let several = (proper c one.chain one.is).several in
             let within = slice_get_within one.chain.points k p one.point in

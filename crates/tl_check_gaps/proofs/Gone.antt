@@ -11,7 +11,7 @@ use Rattle.tl_check_planar.specs.ByHeight.Heights.{height, widest}
 use Rattle.tl_check_planar.specs.ByHeight.Neighbours.{AreTested, EachTwo}
 use Rattle.tl_check_planar.specs.ByHeight.Slabs.{IsListOf}
 use Rattle.tl_check_active.specs.Gathered.{AreGathered}
-use Rattle.tl_check_active.specs.Events.{AreAt, begins_at, ends_at, AreEvents, AreRising, joined, between, before}
+use Rattle.tl_check_active.specs.Events.{AreAt, begins_at, ends_at, AreEvents, AreEventsRising, joined, between, before}
 use Rattle.tl_check_gaps.specs.Keeping.Swept.{AreAbove, AreBelow, IsSwept}
 use Rattle.tl_check_gaps.specs.Keeping.Watched.{AreReached, IsBelowNext}
 use Rattle.tl_check_active.proofs.Joining.{before_past, before_within, part_is, level_there, first_behind}
@@ -29,7 +29,7 @@ pub all_before : (events : List (List Event)) (from : ℕ) → length events ≤
 all_before events from all = let same : before from events ≡ length (joined events) = ap (λ l. length (joined l)) (every events from all) in omega (arith, same)
 
 module _ (chains : List MapChain) (events : List (List Event)) (from to : ℕ) (list next outs ins : List ℕ) (are : AreEvents chains (joined events))
-    (rising : AreRising (joined events)) (swept : IsSwept chains (joined events) (before from events) list)
+    (rising : AreEventsRising (joined events)) (swept : IsSwept chains (joined events) (before from events) list)
     (gathered : AreGathered events from to outs ins) (moved : (s : ℕ) → times s next + times s outs ≡ times s list + times s ins)
     (tested : EachTwo (AreTested widest chains) next) where
   le : from ≤ to

@@ -20,9 +20,10 @@ use Rattle.tl_check_planar.specs.Planar.{IsPlanar}
 use Rattle.tl_check_planar.specs.ByHeight.Heights.{height, widest}
 use Rattle.tl_check_faces.specs.declared.odd.OddGap.{OddGap}
 use Rattle.tl_check_faces.specs.Odd.{IsOddGap}
-use Rattle.tl_check_meets.specs.Orders.{IsPairBefore}
-use Rattle.tl_check_gaps.specs.Gaps.{order_of, IsListed, AreLowestOfEach, AreAllOddGaps}
-use Rattle.tl_check_gaps.specs.Keeping.Kept.{comes_first, AreSorted, IsRepeated, StandsBefore, AreKeptOf, AreKept}
+use Rattle.tl_check_planar.specs.Listing.Orders.{IsPairBefore}
+use Rattle.tl_check_faces.specs.AllFaults.{order_of}
+use Rattle.tl_check_gaps.specs.Gaps.{IsListed, AreLowestOfEach, AreAllOddGaps}
+use Rattle.tl_check_gaps.specs.Keeping.Kept.{comes_first, AreSorted, IsGapRepeated, StandsBefore, AreKeptOf, AreKept}
 use Rattle.tl_check_gaps.specs.Keeping.Watched.{AreToldOfSlabs}
 use Rattle.tl_check_gaps.specs.Telling.{IsKept}
 use Rattle.tl_check_gaps.proofs.Unique.{one_list}
@@ -146,7 +147,7 @@ module _ (gaps : List OddGap) (k : ℕ) (gap : OddGap) (within : k < length gaps
       (subst (λ (g : OddGap). ¬ IsAhead g (get_or gaps i gap)) (here gap) (not_behind gaps sorted i k gap le within))
 
   -- it is between the same two as the one before it
-  pub passed_by : AreSorted gaps → IsRepeated gaps k → AreKeptOf (k + 1) gaps kept
+  pub passed_by : AreSorted gaps → IsGapRepeated gaps k → AreKeptOf (k + 1) gaps kept
   passed_by sorted same =
       let some = same.some in
       let last : OddGap = get_or gaps (k - 1) gap in
@@ -167,7 +168,7 @@ module _ (gaps : List OddGap) (k : ℕ) (gap : OddGap) (within : k < length gaps
       }
 
   -- it is kept
-  module _ (sorted : AreSorted gaps) (fresh : ¬ IsRepeated gaps k) where
+  module _ (sorted : AreSorted gaps) (fresh : ¬ IsGapRepeated gaps k) where
     last_before : (some : 0 < k) → IsBefore (get_or gaps (k - 1) gap) gap
     last_before some =
         let last : OddGap = get_or gaps (k - 1) gap in

@@ -19,3 +19,4 @@ pub mod Spotting
 pub mod Unmarked
 pub mod Turning
 pub mod Ranges
+pub mod FaceFaults

@@ -10,13 +10,14 @@ use Rattle.tl_check_planar.specs.ByHeight.Heights.{height, widest}
 use Rattle.tl_check_faces.specs.declared.odd.OddGap.{OddGap}
 use Rattle.tl_check_faces.specs.Lists.{AreAllNear}
 use Rattle.tl_check_faces.specs.Odd.{IsNamedWest, IsNamedEast, IsOddGap, IsLowestOddGap, first_number, last_number}
-use Rattle.tl_check_meets.specs.Orders.{IsPairBefore}
-use Rattle.tl_check_gaps.specs.Gaps.{order_of, AreAtOdds, AreAllOddGaps}
+use Rattle.tl_check_planar.specs.Listing.Orders.{IsPairBefore}
+use Rattle.tl_check_faces.specs.AllFaults.{order_of}
+use Rattle.tl_check_gaps.specs.Gaps.{DifferAcross, AreAllOddGaps}
 use Rattle.tl_check_gaps.specs.Keeping.Watched.{IsFirst, IsSlabTold}
 use Rattle.tl_check_gaps.proofs.Unique.{one_list}
 
 -- the sides that differ at a gap
-pub at_odds : (K : ℤ) (chains : List MapChain) (gap : OddGap) (odd : IsOddGap K chains gap) → AreAtOdds K chains (last_number odd.front) (first_number odd.back)
+pub at_odds : (K : ℤ) (chains : List MapChain) (gap : OddGap) (odd : IsOddGap K chains gap) → DifferAcross K chains (last_number odd.front) (first_number odd.back)
 at_odds K chains gap odd = record {
   side = odd.west;
   opposite = odd.east;

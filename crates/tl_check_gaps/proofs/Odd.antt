@@ -9,7 +9,7 @@ use Rattle.tl_map_county.specs.declared.sides.Side.TheVariants.{Outside}
 use Rattle.tl_map_county.specs.TheMap.{MapChain}
 use Rattle.tl_check_inside.specs.declared.flanks.Flanks.{Flanks}
 use Rattle.tl_check_inside.specs.Inside.{flanks_at}
-use Rattle.tl_check_blocks.specs.Lined.{last_of}
+use Rattle.tl_check_active.specs.Blocks.Lined.{last_of}
 use Rattle.tl_check_active.proofs.Lining.{last_more}
 use Rattle.tl_check_planar.specs.ByHeight.Heights.{widest}
 use Rattle.tl_check_planar.specs.ByHeight.Neighbours.{IsNumbered}

@@ -15,7 +15,7 @@ use Rattle.tl_check_active.specs.declared.events.Event.{Event}
 use Rattle.tl_check_planar.specs.ByHeight.Heights.{height, widest, low_end, high_end}
 use Rattle.tl_check_planar.specs.ByHeight.Neighbours.{IsNumbered, AreTested, EachTwo}
 use Rattle.tl_check_planar.specs.ByHeight.Slabs.{IsActive, IsListOf, AreSlabsTested}
-use Rattle.tl_check_active.specs.Events.{IsEvent, begins_at, ends_at, AreEvents, AreRising}
+use Rattle.tl_check_active.specs.Events.{IsEvent, begins_at, ends_at, AreEvents, AreEventsRising}
 use Rattle.tl_check_gaps.specs.Keeping.Swept.{AreAbove, IsSwept}
 use Rattle.tl_check_active.proofs.Bits.{bit}
 use Rattle.tl_check_gaps.proofs.Found.{no_event, found, both_true, is_number, not_true}
@@ -168,7 +168,7 @@ begins chains events list are e = subst (IsSwept chains events 0) (sym e) (recor
   slabs = λ n above. ([], list_of_slab chains events are 0 [] (λ s. refl) n (λ k lt. absurd (omega (arith, lt))) above tt);
 })
 
-module _ (chains : List MapChain) (events : List Event) (from to : ℕ) (list next : List ℕ) (are : AreEvents chains events) (rising : AreRising events)
+module _ (chains : List MapChain) (events : List Event) (from to : ℕ) (list next : List ℕ) (are : AreEvents chains events) (rising : AreEventsRising events)
     (swept : IsSwept chains events from list) (past : from < to) (within : to ≤ length events)
     (level : (k : ℕ) (d : Event) → from ≤ k → k < to → (get_or events k d).height ≡ (get_or events from d).height)
     (moved : (s : ℕ) → times s next + count_by (ends_at s) (take (to - from) (drop from events)) ≡ times s list + count_by (begins_at s)

@@ -19,8 +19,8 @@ use Rattle.tl_check_planar.specs.ByHeight.Heights.{height, widest, low_end, high
 use Rattle.tl_check_planar.specs.ByHeight.Neighbours.{IsNumbered, IsWide}
 use Rattle.tl_check_planar.specs.ByHeight.Slabs.{IsListOf}
 use Rattle.tl_check_gaps.specs.Keeping.Facing.{gaps_of, raised}
-use Rattle.tl_check_blocks.specs.Lined.{last_of}
-use Rattle.tl_check_active.specs.Events.{begins_at, ends_at, AreEvents, AreRising}
+use Rattle.tl_check_active.specs.Blocks.Lined.{last_of}
+use Rattle.tl_check_active.specs.Events.{begins_at, ends_at, AreEvents, AreEventsRising}
 use Rattle.tl_check_active.specs.Ranges.{IsInRange, AreInRange}
 use Rattle.tl_check_gaps.specs.Keeping.Swept.{IsSwept}
 use Rattle.tl_check_gaps.proofs.Between.{placed, turn_same, active_behind, not_west}
@@ -35,7 +35,7 @@ use Rattle.tl_check_active.proofs.Tests.{low_height, high_height}
 
 -- ---- a height between the events before a place and those from it on
 
-module _ (chains : List MapChain) (events : List Event) (are : AreEvents chains events) (rising : AreRising events) (from : ℕ) (within : from ≤ length events) (h : ℤ)
+module _ (chains : List MapChain) (events : List Event) (are : AreEvents chains events) (rising : AreEventsRising events) (from : ℕ) (within : from ≤ length events) (h : ℤ)
     (below : (d : Event) → 0 < from → from ≤ length events → (get_or events (from - 1) d).height <ℤ h)
     (above : (d : Event) → from < length events → h <ℤ (get_or events from d).height) where
   pub before : (k : ℕ) → k < from → (get_or events k no_event).height <ℤ h
@@ -114,7 +114,7 @@ module _ (K : ℤ) (chains : List MapChain) (q : Point) where
 
 -- ---- in a map
 
-pub spotted : (m : TheMap) (events : List Event) (from : ℕ) (list front back : List ℕ) (q : Point) (h : ℤ) (p : ℕ) → AreEvents m.chains events → AreRising events → AreInRange m.chains → IsInRange q →
+pub spotted : (m : TheMap) (events : List Event) (from : ℕ) (list front back : List ℕ) (q : Point) (h : ℤ) (p : ℕ) → AreEvents m.chains events → AreEventsRising events → AreInRange m.chains → IsInRange q →
     IsSwept m.chains events from list → h ≡ height widest q +ℤ pos 2147483647 →
     ((d : Event) → 0 < from → from ≤ length events → (get_or events (from - 1) d).height <ℤ h) →
     ((d : Event) → from < length events → h <ℤ (get_or events from d).height) →

@@ -16,14 +16,14 @@ use Rattle.tl_check_planar.specs.ByHeight.Neighbours.{IsNumbered, AreTested, Eac
 use Rattle.tl_check_planar.specs.ByHeight.Slabs.{IsActive, IsListOf}
 use Rattle.tl_check_planar.proofs.ByHeight.Rising.{above_zero}
 use Rattle.tl_check_planar.proofs.ByHeight.Numbered.{one_segment, on_same}
-use Rattle.tl_check_planar.proofs.ByHeight.Walking.{IsIn, in_by_times, all_head, all_tail}
+use Rattle.tl_check_planar.proofs.ByHeight.Walking.{in_by_times, all_head}
 use Rattle.tl_check_faces.specs.Lists.{AreAllNear}
 use Rattle.tl_check_faces.specs.Disagreements.{IsInSlab, IsMidway}
 use Rattle.tl_check_faces.proofs.Numbers.{le_lt}
 use Rattle.tl_check_faces.proofs.Lines.{IsWestward, level_with, met}
 use Rattle.tl_check_faces.proofs.Items.{Item, IsLine, item_with, numbered, ends, one_longitude}
 use Rattle.tl_check_faces.proofs.Sorting.{IsSorted, numbers, found, IsFound}
-use Rattle.tl_check_faces.proofs.Tested.{at_most_once, items_of, numbers_of, sorted_items}
+use Rattle.tl_check_faces.proofs.Tested.{at_most_once, items_of, numbers_of, sorted_items, active_in as in_all}
 use Rattle.tl_check_faces.proofs.Within.{line, spanned_of}
 use Rattle.tl_check_faces.proofs.Midway.{some_midway, inside}
 
@@ -80,10 +80,6 @@ module _ (K : ℤ) (chains : List MapChain) (r : Rational) (on_line : IsLine K c
       never_both x y w.item z.item z.is w.is (sorted.0 w.item w.has) (sorted'.0 z.item z.has)))
 
 -- ---- the lists of a slab
-
-in_all : (P : ℕ → Type 0) (s : ℕ) (xs : List ℕ) → All P xs → IsIn s xs → P s
-in_all P s [] all i = absurd i
-in_all P s (x ∷ xs) all i = ⊎_elim (λ e. subst P (sym e) (all_head P x xs all)) (λ later. in_all P s xs (all_tail P x xs all) later) i
 
 module _ (K n : ℤ) (chains : List MapChain) (xs ys : List ℕ) (one : IsListOf K n chains xs) (other : IsListOf K n chains ys) where
   same_times : (i : ℕ) → times i xs ≡ times i ys

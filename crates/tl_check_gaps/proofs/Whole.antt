@@ -14,16 +14,12 @@ use Rattle.tl_check_planar.specs.ByHeight.Heights.{height, widest}
 use Rattle.tl_check_planar.specs.ByHeight.Slabs.{IsListOf}
 use Rattle.tl_check_faces.specs.declared.odd.OddGap.{OddGap}
 use Rattle.tl_check_faces.specs.Odd.{IsOddGap, first_number, last_number}
-use Rattle.tl_tree_index.specs.Hits.{times}
-use Rattle.tl_check_blocks.specs.Lined.{TheLine, list_of, last_of}
-use Rattle.tl_check_active.proofs.Lining.{moved, before_tested}
-use Rattle.tl_check_planar.specs.ByHeight.Neighbours.{AreTested, EachTwo}
+use Rattle.tl_check_active.specs.Blocks.Lined.{last_of}
 use Rattle.tl_check_gaps.specs.declared.watch.Watch.{Watch}
-use Rattle.tl_check_gaps.specs.Keeping.Facing.{IsCounted}
-use Rattle.tl_check_gaps.specs.Keeping.Passing.{HasLooked, HasPassed}
+use Rattle.tl_check_gaps.specs.Keeping.Passing.{HasLooked}
 use Rattle.tl_check_gaps.specs.Keeping.Watched.{IsOpen}
 use Rattle.tl_check_gaps.proofs.Odd.{parted, last_is, first_is}
-use Rattle.tl_check_gaps.specs.Gaps.{AreAtOdds, IsListed}
+use Rattle.tl_check_gaps.specs.Gaps.{DifferAcross, IsListed}
 use Rattle.tl_check_gaps.specs.Telling.{IsToldAlong, IsKept, IsAt, IsToldAt, ListAbout, front_of, back_of, AreToldAbout}
 use Rattle.tl_check_gaps.proofs.Splits.{last_behind, parted_or, EndsWithin}
 
@@ -36,7 +32,7 @@ listed_more gap old n west east a =
 
 module _ (chains : List MapChain) (p : Point) (west east : Option ℕ) (front back : List ℕ) (old : List OddGap) (is_west : west ≡ last_of front)
     (is_east : east ≡ slice_get back 0) where
-  pub told_there : AreAtOdds widest chains west east → IsToldAt chains p front back old (old ++ record { at = p; west = west; east = east } ∷ [])
+  pub told_there : DifferAcross widest chains west east → IsToldAt chains p front back old (old ++ record { at = p; west = west; east = east } ∷ [])
   told_there odd = record {
     kept = listed_more (record { at = p; west = west; east = east }) old;
     told = λ _. Any-push (λ (g : OddGap). (g.west ≡ last_number front) × (g.east ≡ first_number back) × (height widest g.at ≤ℤ height widest p)) old
@@ -56,11 +52,11 @@ module _ (chains : List MapChain) (p : Point) (west east : Option ℕ) (front ba
     here = λ all. All-push (IsAt p) old (record { at = p; west = west; east = east }) all refl;
   }
 
-  pub none_there : ¬ AreAtOdds widest chains west east → IsToldAt chains p front back old old
+  pub none_there : ¬ DifferAcross widest chains west east → IsToldAt chains p front back old old
   none_there never = record {
     kept = λ n w e listed. listed;
-    told = λ odd. absurd (never (subst (λ o. AreAtOdds widest chains o east) (sym (is_west ∙ last_is front))
-        (subst (λ o. AreAtOdds widest chains (last_number front) o) (sym (is_east ∙ first_is back)) odd)));
+    told = λ odd. absurd (never (subst (λ o. DifferAcross widest chains o east) (sym (is_west ∙ last_is front))
+        (subst (λ o. DifferAcross widest chains (last_number front) o) (sym (is_east ∙ first_is back)) odd)));
     true_ones = λ of all. all;
     here = λ all. all;
   }
@@ -80,7 +76,7 @@ pub one_more : (chains : List MapChain) (p : Point) (list : ListAbout) (k : ℕ)
 one_more chains p list k old mid new before here = record {
   kept = λ n w e listed. here.kept n w e (before.kept n w e listed);
   told = λ j lt. ⊎_elim
-      (λ (same : j ≡ k). subst (λ m. AreAtOdds widest chains (last_number (front_of list m)) (first_number (back_of list m)) →
+      (λ (same : j ≡ k). subst (λ m. DifferAcross widest chains (last_number (front_of list m)) (first_number (back_of list m)) →
       IsListed widest (height widest p) (last_number (front_of list m)) (first_number (back_of list m)) new) (sym same) here.told)
       (λ w. ⊎_elim (λ less. λ odd. here.kept _ _ _ (before.told j less odd)) (λ more. absurd (omega (arith, lt, more))) w)
       (cases_order j k);
@@ -96,7 +92,7 @@ module _ (chains : List MapChain) (p : Point) (west outs ins east : List ℕ) (o
     (about : AreToldAbout chains p (record { west = west; ins = ins; east = east }) (length ins + 1) old new) where
   -- the sides differ there, and it is told
   abbrev IsSure : (one other : Option ℕ) → Type 0
-  IsSure one other = AreAtOdds widest chains one other → IsListed widest (height widest p) one other new
+  IsSure one other = DifferAcross widest chains one other → IsListed widest (height widest p) one other new
 
   in_west : (front back : List ℕ) → EndsWithin west (ins ++ east) front back → IsSure (last_number front) (first_number back)
   in_west front back w =
@@ -176,42 +172,4 @@ looked chains p west outs ins east gaps old told about some still = record {
   here = about.here;
   quiet = λ none. absurd (some none);
   closed = λ never. absurd (never still);
-}
-
--- ---- a step
-
-module _ (chains : List MapChain) (p : Point) (line after : TheLine) (outs ins : List ℕ) (was gaps : Option ℕ) (old new : Watch)
-    (front : after.front ≡ line.front ++ ins) (back : line.back ≡ outs ++ after.back) where
-  pub list_is : list_of line ≡ line.front ++ (outs ++ after.back)
-  list_is = ap (λ b. line.front ++ b) back
-
-  pub after_is : list_of after ≡ (line.front ++ ins) ++ after.back
-  after_is = ap (λ f. f ++ after.back) front
-
-  pub passed : (EachTwo (AreTested widest chains) line.front → EachTwo (AreTested widest chains) after.back →
-      EachTwo (AreTested widest chains) (list_of after)) → (IsCounted chains was (list_of line) → IsCounted chains gaps (list_of after)) →
-      (IsCounted chains gaps ((line.front ++ ins) ++ after.back) →
-      HasLooked chains p (line.front ++ (outs ++ after.back)) ((line.front ++ ins) ++ after.back) gaps old new) →
-      HasPassed chains p (list_of line) (list_of after) outs ins was gaps old new
-  passed tested counted looked = record {
-    moved = λ s. moved s line.front outs ins after.back (list_of line) (list_of after) list_is after_is;
-    tested = λ two. let both = before_tested (AreTested widest chains) line.front outs after.back (list_of line) list_is two in tested both.0 both.1;
-    counted = counted;
-    watched = λ before.
-        subst (λ l. HasLooked chains p l (list_of after) gaps old new) (sym list_is)
-        (subst (λ l. HasLooked chains p (line.front ++ (outs ++ after.back)) l gaps old new) (sym after_is)
-        (looked (subst (IsCounted chains gaps) after_is (counted before))));
-  }
-
--- with the segments in another order, and from a list that is the same
-pub passed_from : (chains : List MapChain) (p : Point) (list same next outs outs' ins ins' : List ℕ) (was gaps : Option ℕ) (old new : Watch) → list ≡ same →
-    ((s : ℕ) → times s outs ≡ times s outs') → ((s : ℕ) → times s ins ≡ times s ins') → HasPassed chains p list next outs ins was gaps old new →
-    HasPassed chains p same next outs' ins' was gaps old new
-passed_from chains p list same next outs outs' ins ins' was gaps old new e off on step = record {
-  moved = λ s.
-      let is = step.moved s in let o = off s in let n = on s in let l : times s list ≡ times s same = ap (times s) e in omega (arith, is, o, n, l);
-  tested = λ two. step.tested (subst (EachTwo (AreTested widest chains)) (sym e) two);
-  counted = λ before. step.counted (subst (IsCounted chains was) (sym e) before);
-  watched = λ before.
-      subst (λ l. HasLooked chains p l next gaps old new) e (step.watched (subst (IsCounted chains was) (sym e) before));
 }

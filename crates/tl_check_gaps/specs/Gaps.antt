@@ -1,16 +1,17 @@
 -- All gaps of slabs' lists whose facing sides differ.
-use Rattle.std.specs.Prelude.{◌≡◌, ◌≢◌, ℕ, ◌+◌, ℤ, ◌≤ℤ◌, Option, None, Some, List, ◌++◌, All, Contains}
+use Rattle.std.specs.Prelude.{◌≡◌, ◌≢◌, ℕ, ℤ, ◌≤ℤ◌, Option, List, ◌++◌, All, Contains}
 use Rattle.std.specs.List.{Any}
 use Rattle.tl_map_county.specs.declared.sides.Side.{Side}
 use Rattle.tl_map_county.specs.TheMap.{MapChain}
 use Rattle.tl_check_planar.specs.ByHeight.Heights.{height}
 use Rattle.tl_check_planar.specs.ByHeight.Slabs.{IsListOf, AreSlabsTested}
 use Rattle.tl_check_faces.specs.declared.odd.OddGap.{OddGap}
+use Rattle.tl_check_faces.specs.AllFaults.{order_of}
 use Rattle.tl_check_faces.specs.Odd.{IsNamedWest, IsNamedEast, IsOddGap, first_number, last_number}
-use Rattle.tl_check_meets.specs.Orders.{AreRising}
+use Rattle.tl_check_planar.specs.Listing.Orders.{AreRising}
 
 -- the sides differ that are named on both sides of a gap between two segments, or between one and the outside
-pub record AreAtOdds (K : ℤ) (chains : List MapChain) (west east : Option ℕ) : Type 0 where
+pub record DifferAcross (K : ℤ) (chains : List MapChain) (west east : Option ℕ) : Type 0 where
   pub side : Side
   pub opposite : Side
   pub named_west : IsNamedWest K chains west side
@@ -20,11 +21,6 @@ pub record AreAtOdds (K : ℤ) (chains : List MapChain) (west east : Option ℕ)
 -- a gap between these is listed, of the slab above height n or a lower one
 abbrev pub IsListed : (K n : ℤ) → (west east : Option ℕ) → List OddGap → Type 0
 IsListed K n west east gaps = Any (λ gap. (gap.west ≡ west) × (gap.east ≡ east) × (height K gap.at ≤ℤ n)) gaps
-
--- the order of what stands on one side of a gap: where there is no segment it comes before all
-abbrev pub order_of : Option ℕ → ℕ
-order_of None = 0
-order_of (Some s) = s + 1
 
 -- gaps rise strictly by what stands west of them, and of the same by what stands east, so that no two segments stand there twice
 abbrev pub AreInOrder : List OddGap → Type 0
@@ -43,5 +39,5 @@ pub record AreAllOddGaps (K : ℤ) (chains : List MapChain) (gaps : List OddGap)
   pub slabs : AreSlabsTested K chains
   pub true_ones : All (IsOddGap K chains) gaps
   pub complete : (n : ℤ) (front back : List ℕ) → IsListOf K n chains (front ++ back) →
-      AreAtOdds K chains (last_number front) (first_number back) → IsListed K n (last_number front) (first_number back) gaps
+      DifferAcross K chains (last_number front) (first_number back) → IsListed K n (last_number front) (first_number back) gaps
   pub in_order : AreInOrder gaps

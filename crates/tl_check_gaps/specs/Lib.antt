@@ -3,3 +3,4 @@ pub mod Beside
 pub mod Gaps
 pub mod Telling
 pub mod Keeping
+pub mod FaceFaults

@@ -6,12 +6,12 @@ use Rattle.tl_check_planar.specs.ByHeight.Heights.{height, widest}
 use Rattle.tl_check_planar.specs.ByHeight.Slabs.{IsListOf}
 use Rattle.tl_check_faces.specs.declared.odd.OddGap.{OddGap}
 use Rattle.tl_check_faces.specs.Odd.{IsOddGap, first_number, last_number}
-use Rattle.tl_check_gaps.specs.Gaps.{AreAtOdds, IsListed}
+use Rattle.tl_check_gaps.specs.Gaps.{DifferAcross, IsListed}
 
 -- each gap of the list where sides differ is told, of the slab above height n or a lower one
 abbrev pub IsToldAlong : List MapChain → ℤ → List ℕ → List OddGap → Type 0
 IsToldAlong chains n list gaps =
-    (front back : List ℕ) → list ≡ front ++ back → AreAtOdds widest chains (last_number front) (first_number back) →
+    (front back : List ℕ) → list ≡ front ++ back → DifferAcross widest chains (last_number front) (first_number back) →
     IsListed widest n (last_number front) (first_number back) gaps
 
 -- what was told between two segments is told
@@ -34,7 +34,7 @@ StaysAt p old new = All (IsAt p) old → All (IsAt p) new
 -- the gap between two parts of a list is told if sides differ there
 pub record IsToldAt (chains : List MapChain) (p : Point) (front back : List ℕ) (old new : List OddGap) : Type 0 where
   pub kept : IsKept old new
-  pub told : AreAtOdds widest chains (last_number front) (first_number back) →
+  pub told : DifferAcross widest chains (last_number front) (first_number back) →
       IsListed widest (height widest p) (last_number front) (first_number back) new
   pub true_ones : StaysTrue chains p (front ++ back) old new
   pub here : StaysAt p old new
@@ -58,7 +58,7 @@ back_of list k = drop k list.ins ++ list.east
 -- each of the first n gaps about the numbers that came in is told if sides differ there
 pub record AreToldAbout (chains : List MapChain) (p : Point) (list : ListAbout) (n : ℕ) (old new : List OddGap) : Type 0 where
   pub kept : IsKept old new
-  pub told : (k : ℕ) → k < n → AreAtOdds widest chains (last_number (front_of list k)) (first_number (back_of list k)) →
+  pub told : (k : ℕ) → k < n → DifferAcross widest chains (last_number (front_of list k)) (first_number (back_of list k)) →
       IsListed widest (height widest p) (last_number (front_of list k)) (first_number (back_of list k)) new
   pub true_ones : StaysTrue chains p (whole_of list) old new
   pub here : StaysAt p old new

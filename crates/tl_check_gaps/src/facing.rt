@@ -6,20 +6,20 @@ ghost use Rattle.tl_map_county.specs.declared.sides.Side.TheVariants.{Outside};
 ghost use Rattle.tl_map_county.specs.Segments.{segments_before};
 ghost use Rattle.tl_check_inside.specs.declared.flanks.Flanks.{Flanks};
 ghost use Rattle.tl_check_inside.specs.Inside.{flanks_at};
-ghost use Rattle.tl_check_blocks.specs.Lined.{last_of};
+ghost use Rattle.tl_check_active.specs.Blocks.Lined.{last_of};
 ghost use Rattle.tl_check_planar.specs.ByHeight.Heights.{widest};
 ghost use Rattle.tl_check_planar.specs.ByHeight.Neighbours.{IsNumbered};
 ghost use Rattle.tl_check_faces.specs.Odd.{NamesWest, NamesEast, IsNamedWest, IsNamedEast};
 ghost use Rattle.tl_check_gaps.specs.Beside.{seen_side};
 ghost use Rattle.tl_check_gaps.specs.Keeping.Facing.{gap as gap_of, gaps_between, last_far, raised};
 
+use tl_check_active::blocks::Line;
 use tl_check_active::is_lower;
-use tl_check_blocks::Line;
 use tl_check_inside::Flanks;
 use tl_map_county::{Map, Side};
 
 /// What a segment names on both sides of it along the lines of one height: near to the west, and far to the east.
-pub fn flanks_of(map: &Map, s: u32) -> Flanks
+pub fn flanks_by_height(map: &Map, s: u32) -> Flanks
     requires known { s < segments_before map.now.chains (length map.now.chains) }
     ensures west { NamesWest widest map.now.chains s result.near }
     ensures east { NamesEast widest map.now.chains s result.far }
@@ -48,7 +48,7 @@ fn find_flanks(map: &Map, s: u32) -> Option<Flanks>
     if s >= map.segments() {
         return None;
     }
-    Some(flanks_of(map, s))
+    Some(flanks_by_height(map, s))
 }
 
 /// Whether two sides are one.

@@ -2,8 +2,9 @@
 ghost use Rattle.std.specs.Prelude.{◌≡◌, ◌<◌, ◌↔◌, IfOk, OnOk, IsTrue, length};
 ghost use Rattle.std.specs.List.Sorted.{IsPermutation};
 ghost use Rattle.tl_check_planar.specs.ByHeight.Heights.{widest};
-ghost use Rattle.tl_check_gaps.specs.Gaps.{order_of, AreLowestOfEach};
-ghost use Rattle.tl_check_gaps.specs.Keeping.Kept.{AreSorted, IsRepeated, AreKept};
+ghost use Rattle.tl_check_faces.specs.AllFaults.{order_of};
+ghost use Rattle.tl_check_gaps.specs.Gaps.{AreLowestOfEach};
+ghost use Rattle.tl_check_gaps.specs.Keeping.Kept.{AreSorted, IsGapRepeated, AreKept};
 
 use std::alloc::{AllocError, Global};
 use tl_check_active::height;
@@ -48,7 +49,7 @@ fn are_alike(one: OddGap, other: OddGap) -> bool
 /// Whether the gap at a place is between the same two segments as the one before it.
 fn repeats(gaps: &[OddGap], k: usize) -> bool
     requires { k < length gaps.now }
-    ensures { IsTrue result ↔ IsRepeated gaps.now k }
+    ensures { IsTrue result ↔ IsGapRepeated gaps.now k }
 {
     k > 0 && are_alike(gaps[k - 1], gaps[k])
 }

@@ -9,7 +9,7 @@ use tl_map_county::Map;
 
 /// Looks at each point of a map's chains once, so that it is known of all of them that their coordinates are signed numbers of
 /// 32 bits.
-pub fn look_at_points(map: &Map)
+pub fn has_near_points(map: &Map)
     ensures { AreAllNear widest map.now.chains }
 {
     for c in 0..map.chains() {

@@ -5,16 +5,16 @@ ghost use Rattle.tl_check_active.specs.declared.events.Event.{Event};
 ghost use Rattle.tl_check_gaps.specs.Beside.{IsEastOf, IsWestOfIt, IsEastOfLast, IsWestOfFirst, seen_side};
 ghost use Rattle.tl_check_planar.specs.ByHeight.Heights.{widest};
 ghost use Rattle.tl_check_gaps.specs.Keeping.Facing.{IsCounted, raised};
-ghost use Rattle.tl_check_blocks.specs.Lined.{list_of};
-ghost use Rattle.tl_check_active.specs.Events.{before, joined, AreEvents, AreRising};
+ghost use Rattle.tl_check_active.specs.Blocks.Lined.{list_of};
+ghost use Rattle.tl_check_active.specs.Events.{before, joined, AreEvents, AreEventsRising};
 ghost use Rattle.tl_check_active.specs.Ranges.{AreInRange};
 ghost use Rattle.tl_check_gaps.specs.Keeping.Spotted.{IsPlacedPolygon};
 ghost use Rattle.tl_check_gaps.specs.Keeping.Swept.{IsSwept};
 
 use crate::facing::near_side;
 use std::alloc::AllocError;
+use tl_check_active::blocks::Line;
 use tl_check_active::{Events, ends, go_to, height};
-use tl_check_blocks::Line;
 use tl_geom::{Point, turn};
 use tl_map_county::{Map, Side};
 
@@ -29,7 +29,7 @@ pub fn is_placed(
     polygon: u32,
 ) -> Result<bool, AllocError>
     requires events { AreEvents map.now.chains (joined events.now) }
-    requires rising { AreRising (joined events.now) }
+    requires rising { AreEventsRising (joined events.now) }
     requires ranges { AreInRange map.now.chains }
     requires within { from < length events.now }
     requires swept { IsSwept map.now.chains (joined events.now) (before from events.now) (list_of line.old) }

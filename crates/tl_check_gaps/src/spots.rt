@@ -2,38 +2,23 @@
 ghost use Rattle.std.specs.Prelude.{◌≡◌, ◌⊎◌, ◌<◌, ℕ, false, true, All, Contains, IfOk, IsTrue, length, slice_index_or};
 ghost use Rattle.tl_check_inside.specs.Placed.{ArePlaced};
 ghost use Rattle.tl_check_gaps.specs.Keeping.Facing.{IsCounted};
-ghost use Rattle.tl_check_blocks.specs.Lined.{list_of};
-ghost use Rattle.tl_check_active.specs.Events.{before, joined, AreEvents, AreRising};
+ghost use Rattle.tl_check_active.specs.Blocks.Lined.{list_of};
+ghost use Rattle.tl_check_active.specs.Events.{before, joined, AreEvents, AreEventsRising};
 ghost use Rattle.tl_check_active.specs.Ranges.{AreInRange};
 ghost use Rattle.tl_check_gaps.specs.Keeping.Spotted.{AreMarks};
 ghost use Rattle.tl_check_gaps.specs.Keeping.Swept.{IsSwept};
 
 use crate::placing::is_placed;
+use crate::rising::RisingPoints;
 use std::alloc::{AllocError, Global};
-use tl_check_active::{Events, height};
-use tl_check_blocks::Line;
-use tl_map_county::{Map, Ranked, presort_by_rank};
-
-/// The point of a polygon, by its height.
-#[derive(Clone, Copy)]
-struct InnerPoint {
-    height: i64,
-    latitude: i32,
-    polygon: u32,
-}
-
-impl Ranked for InnerPoint {
-    /// Its height above the least that there is.
-    fn rank(&self) -> u64 {
-        self.height.abs_diff(i64::MIN)
-    }
-}
+use tl_check_active::Events;
+use tl_check_active::blocks::Line;
+use tl_map_county::Map;
 
 /// The points of polygons from the lowest to the highest, and the polygons whose points were found to be placed.
 #[derive(Drop)]
 pub struct InnerPoints {
-    spots: Vec<InnerPoint>,
-    next: usize,
+    points: RisingPoints,
     /// A mark for each polygon whose point was found to be placed.
     pub marks: Vec<bool>,
 }
@@ -43,18 +28,13 @@ impl InnerPoints {
     pub fn new(alloc: Global, map: &Map) -> Result<InnerPoints, AllocError>
         ensures { IfOk result (λ spots. AreMarks map.now spots.marks.items) }
     {
-        let mut spots = list_spots(alloc, map)?;
-        presort_by_rank(alloc, &mut spots)?;
+        let points = list_points(alloc, map)?;
         let marks = vec![in alloc; false; map.polygons() as usize]?;
-        Ok(InnerPoints {
-            spots,
-            next: 0,
-            marks,
-        })
+        Ok(InnerPoints { points, marks })
     }
 
-    /// Looks at the points below the next event by the list of the segments that are active there.
-    pub fn look(
+    /// Marks the polygons whose points are below the next event and are found to be placed, by the list of the segments that are active there.
+    pub fn mark_below(
         &mut self,
         map: &Map,
         line: &mut Line,
@@ -63,7 +43,7 @@ impl InnerPoints {
         gaps: Option<u64>,
     ) -> Result<(), AllocError>
         requires events { AreEvents map.now.chains (joined events.now) }
-        requires rising { AreRising (joined events.now) }
+        requires rising { AreEventsRising (joined events.now) }
         requires ranges { AreInRange map.now.chains }
         requires within { from < length events.now }
         requires swept { IsSwept map.now.chains (joined events.now) (before from events.now) (list_of line.old) }
@@ -72,9 +52,7 @@ impl InnerPoints {
         ensures list { IfOk result (λ done. list_of line.new ≡ list_of line.old) }
         ensures marks { IfOk result (λ done. AreMarks map.now self.new.marks.items) }
     {
-        while self.next < self.spots.len() && is_below(self.spots[self.next], events, from) {
-            let polygon = self.spots[self.next].polygon;
-            self.next += 1;
+        while let Some(polygon) = self.points.next_below(events, from) {
             if is_placed(map, line, events, from, gaps, polygon)? {
                 mark(&mut self.marks, polygon);
             }
@@ -125,24 +103,13 @@ fn is_marked(marks: &[bool], polygon: u32) -> bool
 }
 
 /// The points of a map's polygons.
-fn list_spots(alloc: Global, map: &Map) -> Result<Vec<InnerPoint>, AllocError> {
-    let mut spots = Vec::with_capacity(alloc, map.polygons() as usize)?;
+fn list_points(alloc: Global, map: &Map) -> Result<RisingPoints, AllocError> {
+    let mut points = RisingPoints::with_capacity(alloc, map.polygons() as usize)?;
     for polygon in 0..map.polygons() {
-        let point = map.polygon(polygon).point;
-        spots.push(InnerPoint {
-            height: height(point),
-            latitude: point.y,
-            polygon,
-        })?;
+        points.push(map.polygon(polygon).point)?;
     }
-    Ok(spots)
-}
-
-/// Whether a point is below the events from a place on.
-fn is_below(spot: InnerPoint, events: &Events, from: usize) -> bool {
-    from < events.len()
-        && spot.latitude <= events.point(from).y
-        && spot.height < height(events.point(from))
+    points.sort(alloc)?;
+    Ok(points)
 }
 
 /// Marks a polygon.

@@ -1,8 +1,8 @@
 //! The gaps of a list whose facing sides differ, told about the segments that came in at a vertex.
 ghost use Rattle.std.specs.Prelude.{◌≡◌, ◌+◌, ◌≤◌, ◌++◌, ◌↔◌, List, ℕ, IfOk, IsTrue, length, take, drop, slice_get};
 ghost use Rattle.tl_check_planar.specs.ByHeight.Heights.{widest};
-ghost use Rattle.tl_check_blocks.specs.Lined.{last_of};
-ghost use Rattle.tl_check_gaps.specs.Gaps.{AreAtOdds};
+ghost use Rattle.tl_check_active.specs.Blocks.Lined.{last_of};
+ghost use Rattle.tl_check_gaps.specs.Gaps.{DifferAcross};
 ghost use Rattle.tl_check_gaps.specs.Telling.{IsToldAt, AreToldAbout};
 
 use crate::facing::{are_same, far_of, near_of};
@@ -35,7 +35,7 @@ fn east_of(ins: &[u32], k: usize, back: Option<u32>) -> Option<u32>
 
 /// Whether the sides differ that are named on both sides of a gap.
 fn are_at_odds(map: &Map, west: Option<u32>, east: Option<u32>) -> bool
-    ensures { IsTrue result ↔ AreAtOdds widest map.now.chains west east }
+    ensures { IsTrue result ↔ DifferAcross widest map.now.chains west east }
 {
     match (far_of(map, west), near_of(map, east)) {
         (Some(one), Some(other)) => !are_same(one, other),

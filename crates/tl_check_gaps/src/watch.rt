@@ -3,7 +3,7 @@ ghost use Rattle.std.specs.Prelude.{◌≡◌, ◌⊎◌, ◌↔◌, ◌++◌, [
 ghost use Rattle.tl_check_planar.specs.ByHeight.Heights.{widest};
 ghost use Rattle.tl_check_planar.specs.Planar.{IsPlanar};
 ghost use Rattle.tl_check_faces.specs.Lists.{AreAllNear};
-ghost use Rattle.tl_check_blocks.specs.Lined.{last_of};
+ghost use Rattle.tl_check_active.specs.Blocks.Lined.{last_of};
 ghost use Rattle.tl_check_gaps.specs.Keeping.Facing.{IsCounted};
 ghost use Rattle.tl_check_gaps.specs.Keeping.Passing.{HasLooked};
 ghost use Rattle.tl_check_gaps.specs.Keeping.Watched.{IsOpen, IsWatchedToEnd, AreTrueGaps};

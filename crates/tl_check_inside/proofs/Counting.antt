@@ -27,7 +27,7 @@ removed-other : (x y : ℕ) (ys : List ℕ) → (x ≡ y → ⊥) → removed x 
 unfolding removed
 removed-other x y ys ne = grind (arith, nat_tests)
 
-times-cons : (i x : ℕ) (xs : List ℕ) → times i (x ∷ xs) ≡ cond (eqb i x) 1 0 + times i xs
+pub times-cons : (i x : ℕ) (xs : List ℕ) → times i (x ∷ xs) ≡ cond (eqb i x) 1 0 + times i xs
 times-cons i x xs = refl
 
 times-removed : (i x : ℕ) (ys : List ℕ) → 1 ≤ times x ys → times i ys ≡ cond (eqb i x) 1 0 + times i (removed x ys)
@@ -49,7 +49,7 @@ sum-removed f x (y ∷ ys) h =
     rw (removed-other x y ys ne) (let long = sum_by-cons f y ys in let short = sum_by-cons f y (removed x ys) in omega (arith, rest, long, short)))
 
 -- two lists in which each number stands equally often have one sum
-same_sum : (f : ℕ → ℕ) (xs ys : List ℕ) → ((i : ℕ) → times i xs ≡ times i ys) → sum_by f xs ≡ sum_by f ys
+pub same_sum : (f : ℕ → ℕ) (xs ys : List ℕ) → ((i : ℕ) → times i xs ≡ times i ys) → sum_by f xs ≡ sum_by f ys
 same_sum f [] [] h = refl
 same_sum f [] (y ∷ ys) h = absurd (let none : 0 ≡ times y (y ∷ ys) = h y in let one = times-same y y ys refl in omega (arith, none, one))
 same_sum f (x ∷ xs) ys h =
@@ -59,7 +59,7 @@ same_sum f (x ∷ xs) ys h =
     let less = sum-removed f x ys some in
     omega (arith, rest, more, less)
 
-sum-map : {X Y : Type 0} (f : Y → ℕ) (g : X → Y) (xs : List X) → sum_by f (map g xs) ≡ sum_by (λ x. f (g x)) xs
+pub sum-map : {X Y : Type 0} (f : Y → ℕ) (g : X → Y) (xs : List X) → sum_by f (map g xs) ≡ sum_by (λ x. f (g x)) xs
 sum-map f g [] = refl
 sum-map f g (x ∷ xs) =
     let rest = sum-map f g xs in
@@ -67,7 +67,7 @@ sum-map f g (x ∷ xs) =
     let plain = sum_by-cons (λ x. f (g x)) x xs in
     omega (arith, rest, mapped, plain)
 
-same_times : (n : ℕ) (hit : ℕ → Type 0) (xs ys : List ℕ) → AreHits n hit xs → AreHits n hit ys → (i : ℕ) → times i xs ≡ times i ys
+pub same_times : (n : ℕ) (hit : ℕ → Type 0) (xs ys : List ℕ) → AreHits n hit xs → AreHits n hit ys → (i : ℕ) → times i xs ≡ times i ys
 same_times n hit xs ys a b i = elim (cases_lt i n) [
   | inl lt ↦
       same_or (times i xs) (times i ys) (λ e. e)

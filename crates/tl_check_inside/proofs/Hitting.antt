@@ -16,14 +16,14 @@ use Rattle.tl_check_planar.proofs.Rects.{rect_by_number}
 use Rattle.tl_check_inside.specs.Inside.{IsCrossed}
 use Rattle.tl_check_inside.specs.Keeping.Probing.{IsHolding, IsReached, IsTouching}
 
-on_same : (s t : Segment) (r : Rational) → HaveSameEnds s t → IsOn s r → IsOn t r
+pub on_same : (s t : Segment) (r : Rational) → HaveSameEnds s t → IsOn s r → IsOn t r
 on_same s t r e on = record {
   straight = rw (sym e.first, sym e.last) on.straight;
   x_between = rw (sym e.first, sym e.last) on.x_between;
   y_between = rw (sym e.first, sym e.last) on.y_between;
 }
 
-crosses_same : (s t : Segment) (q : Point) → HaveSameEnds s t → Crosses s q → Crosses t q
+crosses_same : (s t : Segment) (q : Point) → HaveSameEnds s t → Crosses s (whole q) → Crosses t (whole q)
 crosses_same s t q e c = record {
   parted = rw (sym e.first, sym e.last) c.parted;
   place = c.place;
@@ -46,7 +46,7 @@ meets_back chains q s c k segment number joins m = record {
   in_second = subst (λ r. Holds r m.point) (sym (rect_by_number chains s c k segment number joins)) m.in_first;
 }
 
-pub ray_hit : (own chains : List MapChain) (q : Point) (s c k : ℕ) (segment : Segment) (hits : Bool) → own ≡ chains → IsSegmentOf own s c k → Joins own c k segment → (Crosses segment q → AreMeeting (rect_of segment) (ray_rect q)) → (IsTrue hits ↔ Crosses segment q) → IsTrue hits ↔ IsReached chains q s
+pub ray_hit : (own chains : List MapChain) (q : Point) (s c k : ℕ) (segment : Segment) (hits : Bool) → own ≡ chains → IsSegmentOf own s c k → Joins own c k segment → (Crosses segment (whole q) → AreMeeting (rect_of segment) (ray_rect q)) → (IsTrue hits ↔ Crosses segment (whole q)) → IsTrue hits ↔ IsReached chains q s
 ray_hit own chains q s c k segment hits same number joins meets told =
     subst (λ cs. IsTrue hits ↔ IsReached cs q s) same (
       (λ hit. record {
@@ -63,7 +63,7 @@ strip_hit own chains strip rect s c k segment hits same number joins is told =
     subst (λ cs. IsTrue hits ↔ IsTouching cs strip s) same
     (subst (λ r. IsTrue hits ↔ AreMeeting strip r) (is ∙ sym (rect_by_number own s c k segment number joins)) told)
 
-pub is_crossed : (chains : List MapChain) (q : Point) (s c k : ℕ) (segment : Segment) (told : Bool) → IsSegmentOf chains s c k → Joins chains c k segment → (IsTrue told ↔ Crosses segment q) → IsTrue told ↔ IsCrossed chains q s
+pub is_crossed : (chains : List MapChain) (q : Point) (s c k : ℕ) (segment : Segment) (told : Bool) → IsSegmentOf chains s c k → Joins chains c k segment → (IsTrue told ↔ Crosses segment (whole q)) → IsTrue told ↔ IsCrossed chains q s
 is_crossed chains q s c k segment told number joins is = (
   (λ true. record { c = c; k = k; segment = segment; number = number; joins = joins; crosses = is.0 true }),
   (λ x. is.1 (crosses_same x.segment segment q (same_ends chains s x.c x.k c k x.segment segment x.number x.joins number joins) x.crosses)),

@@ -90,7 +90,3 @@ passed_by P n old new is fails same =
 pub pushed : {X T E : Type 0} (r : Result T E) (old more new : List X) → new ≡ (if is_ok r then more else old) → is_err r ≡ false → new ≡ more
 pushed (Ok x) old more new is ok = is
 pushed (Err e) old more new is bad = absurd (false≢true (sym bad))
-
--- a count that has come to an end is at it
-pub at_end : (i end : ℕ) → end ≤ i → i ≤ end → i ≡ end
-at_end i end past within = omega (arith, past, within)

@@ -63,14 +63,14 @@ by_points cs s c k p q number e f =
     after : (k : ℕ) → suc k ≡ k + 1
     after k = omega arith
 
-is_lt : (x y : ℤ) → x <ℤ y → int_lt x y ≡ true
+pub is_lt : (x y : ℤ) → x <ℤ y → int_lt x y ≡ true
 is_lt x y h = go (int_lt x y) h.lt
   where
     go : (b : Bool) → T b → b ≡ true
     go true t = refl
     go false t = absurd t
 
-no_lt : (x y : ℤ) → y ≤ℤ x → int_lt x y ≡ false
+pub no_lt : (x y : ℤ) → y ≤ℤ x → int_lt x y ≡ false
 no_lt x y h = go (int_lt x y) refl
   where
     go : (b : Bool) → int_lt x y ≡ b → b ≡ false

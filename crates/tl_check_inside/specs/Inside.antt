@@ -3,7 +3,9 @@
 use Rattle.std.specs.Prelude.{◌≡◌, ℕ, Bool, false, ◌==◌, if◌then◌else◌, ℤ, pos, ◌+ℤ◌, ◌-ℤ◌, int_lt, List, [], ◌∷◌, ◌++◌, length, map, count_by, slice_index_or}
 use Rattle.std.specs.List.{list_any}
 use Rattle.tl_geom.specs.declared.point.Point.{Point}
+use Rattle.tl_geom.specs.declared.rational.Rational.{Rational}
 use Rattle.tl_geom.specs.declared.segment.Segment.{Segment}
+use Rattle.tl_geom.specs.Plane.{whole}
 use Rattle.tl_geom.specs.Ray.{Crosses}
 use Rattle.tl_map_county.specs.declared.sides.Side.{Side}
 use Rattle.tl_map_county.specs.declared.sides.Side.TheVariants.{Outside, Polygon}
@@ -40,7 +42,7 @@ abbrev pub flanks_at : List MapChain → ℕ → Flanks
 flanks_at chains s = slice_index_or (flanks_of chains) s (record { near = Outside; far = Outside })
 
 -- the ray from q to the east crosses segment s
-pub record IsCrossed (chains : List MapChain) (q : Point) (s : ℕ) : Type 0 where
+pub record IsCrossedAt (chains : List MapChain) (q : Rational) (s : ℕ) : Type 0 where
   pub c : ℕ
   pub k : ℕ
   pub segment : Segment
@@ -49,18 +51,28 @@ pub record IsCrossed (chains : List MapChain) (q : Point) (s : ℕ) : Type 0 whe
   pub crosses : Crosses segment q
 
 -- the segments that it crosses, each once
-abbrev pub AreCrossed : List MapChain → Point → List ℕ → Type 0
-AreCrossed chains q crossed = AreHits (segments_before chains (length chains)) (IsCrossed chains q) crossed
+abbrev pub AreCrossedAt : List MapChain → Rational → List ℕ → Type 0
+AreCrossedAt chains q crossed = AreHits (segments_before chains (length chains)) (IsCrossedAt chains q) crossed
 
 -- of these crossed segments, how many have such a side near, less how many have one far
 abbrev pub balance : (Side → Bool) → List Flanks → ℤ
 balance S crossed = pos (count_by (λ f. S f.near) crossed) -ℤ pos (count_by (λ f. S f.far) crossed)
 
 -- the count of such sides at q: over all segments that the ray from q to the east crosses, each once
-pub record IsCount (chains : List MapChain) (q : Point) (S : Side → Bool) (n : ℤ) : Type 0 where
+pub record IsCountAt (chains : List MapChain) (q : Rational) (S : Side → Bool) (n : ℤ) : Type 0 where
   pub crossed : List ℕ
-  pub are : AreCrossed chains q crossed
+  pub are : AreCrossedAt chains q crossed
   pub counted : n ≡ balance S (map (flanks_at chains) crossed)
+
+-- the same of a point
+abbrev pub IsCrossed : List MapChain → Point → ℕ → Type 0
+IsCrossed chains q s = IsCrossedAt chains (whole q) s
+
+abbrev pub AreCrossed : List MapChain → Point → List ℕ → Type 0
+AreCrossed chains q crossed = AreCrossedAt chains (whole q) crossed
+
+abbrev pub IsCount : List MapChain → Point → (Side → Bool) → ℤ → Type 0
+IsCount chains q S n = IsCountAt chains (whole q) S n
 
 -- the side is polygon p
 abbrev pub is_polygon : ℕ → Side → Bool
@@ -76,6 +88,10 @@ is_among polygons (Polygon other) = list_any (λ p. other == p) polygons
 abbrev pub total : (ℕ → ℤ) → List ℕ → ℤ
 total counts [] = pos 0
 total counts (p ∷ polygons) = counts p +ℤ total counts polygons
+
+-- the count of polygon p at a place
+abbrev pub IsPolygonCountAt : List MapChain → Rational → ℕ → ℤ → Type 0
+IsPolygonCountAt chains q p n = IsCountAt chains q (is_polygon p) n
 
 -- the count of polygon p at q, and that of a landmark that these polygons are linked to
 abbrev pub IsPolygonCount : List MapChain → Point → ℕ → ℤ → Type 0

@@ -26,7 +26,7 @@ pub use held::chain_at;
 pub use locating::locate;
 pub use misplaced::{Misplaced, find_among, find_misplaced, misplaced_by, on_chain};
 pub use place::Place;
-pub use reach::look_at_points;
+pub use reach::has_points_in_reach;
 pub use sifting::sift_all;
 pub use strips::{Site, list_in_strip, push_site, sites_of};
 pub use tallies::{no_counts, take_back, tally};

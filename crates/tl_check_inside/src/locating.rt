@@ -15,7 +15,7 @@ use crate::held::chain_at;
 use crate::landmarks::unbalanced_landmarks;
 use crate::listing::unbalanced;
 use crate::place::Place;
-use crate::reach::look_at_points;
+use crate::reach::has_points_in_reach;
 use crate::tallies::{no_counts, tally};
 use std::alloc::Global;
 use tl_geom::Point;
@@ -41,7 +41,7 @@ pub fn locate<X: BoxIndex>(
         Some(c) => return Ok(Place::OnChain(c)),
         None => {}
     }
-    look_at_points(map);
+    has_points_in_reach(map);
     list_crossed(map, index, point, &mut hits)?;
     place_by(alloc, map, &hits)
 }

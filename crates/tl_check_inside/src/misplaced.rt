@@ -11,7 +11,7 @@ ghost use Rattle.tl_check_inside.specs.Keeping.Strips.{IsSiteOf, IsPlacedSite, A
 ghost use Rattle.tl_check_inside.specs.Keeping.Tallies.{AreTallies, TellCounts, AreNone, AreClear, IsEven, IsOdd};
 
 use crate::flanks::Flanks;
-use crate::reach::look_at_points;
+use crate::reach::has_points_in_reach;
 use crate::sifting::sift;
 use crate::strips::{Site, list_in_strip, sites_of, sort_northward};
 use crate::tallies::{no_counts, take_back, tally};
@@ -64,7 +64,7 @@ pub fn find_among<X: BoxIndex>(
     // other; what is found is true.
     ensures { IfOk result (λ found. MatchOption found (All (IsPlacedSite map.now) sites.old.items) (IsTrueMisplaced map.now)) }
 {
-    look_at_points(map);
+    has_points_in_reach(map);
     sort_northward(sites);
     let polygons = map.polygons() as usize;
     let mut near = no_counts(alloc, polygons)?;

@@ -7,7 +7,7 @@ use tl_map_county::Map;
 
 /// Looks at each point of a map once, so that it is known of all of them that none lies east of the greatest `i32`, where
 /// the rectangles of rays end.
-pub fn look_at_points(map: &Map)
+pub fn has_points_in_reach(map: &Map)
     ensures { ChainsAreInReach map.now.chains }
 {
     for c in 0..map.chains() {

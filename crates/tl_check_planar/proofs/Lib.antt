@@ -7,3 +7,4 @@ pub mod Sharing
 pub mod Telling
 pub mod Meetings
 pub mod ByHeight
+pub mod ListingLemmas

@@ -3,7 +3,7 @@ use Rattle.std.proofs.Common.{◌≡◌, ℕ, Some, List, length, ap, subst, ◌
 use Rattle.std.specs.Prelude.{slice_get}
 use Rattle.tl_map_county.specs.TheMap.{MapChain}
 use Rattle.tl_map_county.specs.Segments.{segments_before, IsSegmentOf}
-use Rattle.tl_tree_index.specs.Searches.{IsConflict, IsClear}
+use Rattle.tl_tree_index.specs.Searches.{IsConflict, IsFreeOfConflicts}
 use Rattle.tl_check_planar.specs.declared.meet.Meet.{Meet}
 use Rattle.tl_check_planar.specs.Rectangles.{segment_rect}
 use Rattle.tl_check_planar.specs.Searching.{MayTell, IsTrueMeet, ArePlanarWithin}
@@ -36,10 +36,10 @@ true_meet chains cs m e conflict first second =
       other = one_tlid chains m.t m.other k.told.meet.shared.d k.told.meet.shared.j second k.told.meet.shared.second;
     }
 
-pub planar_within : (chains cs : List MapChain) (budget : ℕ) → cs ≡ chains → IsClear (segments_before cs (length cs)) (segment_rect cs) (MayTell cs) budget → ArePlanarWithin chains budget
+pub planar_within : (chains cs : List MapChain) (budget : ℕ) → cs ≡ chains → IsFreeOfConflicts (segments_before cs (length cs)) (segment_rect cs) (MayTell cs) budget → ArePlanarWithin chains budget
 planar_within chains cs budget e clear =
-    let k : IsClear (segments_before chains (length chains)) (segment_rect chains) (MayTell chains) budget =
-    subst (λ (z : List MapChain). IsClear (segments_before z (length z)) (segment_rect z) (MayTell z) budget) e clear in
+    let k : IsFreeOfConflicts (segments_before chains (length chains)) (segment_rect chains) (MayTell chains) budget =
+    subst (λ (z : List MapChain). IsFreeOfConflicts (segments_before z (length z)) (segment_rect z) (MayTell z) budget) e clear in
     record {
       planar = free_planar chains (λ s t lt r m. k.none s t lt (below_total chains t m.d m.j m.second) r m);
       within = k.within;

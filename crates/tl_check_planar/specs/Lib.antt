@@ -4,3 +4,4 @@ pub mod Rectangles
 pub mod Searching
 pub mod Keeping
 pub mod ByHeight
+pub mod Listing

@@ -25,7 +25,7 @@ IsContactAllowed chains s t one other =
     (q : Rational) × (m : IsSharedBy chains s t q) × IsContactPoint one other q × IsAllowed chains s t q m
 
 -- segments s and t conflict, and it is told by the point of their contact, unless that one is allowed
-pub record IsTold (chains : List MapChain) (s t : ℕ) (r : Rational) : Type 0 where
+pub record IsConflictToldBy (chains : List MapChain) (s t : ℕ) (r : Rational) : Type 0 where
   pub meet : IsMeet chains s t r
   pub one : Segment
   pub other : Segment
@@ -36,12 +36,12 @@ pub record IsTold (chains : List MapChain) (s t : ℕ) (r : Rational) : Type 0 w
 -- what may be told of segments s and t: a point by which they conflict, or that they don't
 abbrev pub MayTell : List MapChain → (s t : ℕ) → Option Rational → Type 0
 MayTell chains s t None = AreFree chains s t
-MayTell chains s t (Some r) = IsTold chains s t r
+MayTell chains s t (Some r) = IsConflictToldBy chains s t r
 
 -- the meet is of two segments, in order, that conflict by its point, and names their chains
 pub record IsTrueMeet (chains : List MapChain) (m : Meet) : Type 0 where
   pub ordered : m.s < m.t
-  pub told : IsTold chains m.s m.t m.at
+  pub told : IsConflictToldBy chains m.s m.t m.at
   pub tlid : m.tlid ≡ told.meet.shared.first.chain.tlid
   pub other : m.other ≡ told.meet.shared.second.chain.tlid
 

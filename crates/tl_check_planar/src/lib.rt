@@ -4,12 +4,13 @@
 //! search that finds no conflict says that the map's chains are planar, and one that finds a conflict names a point where
 //! they aren't.
 //!
-//! Nothing here takes memory.
+//! Nothing here takes memory but the lists of [`listing`].
 #![tactic(auto)]
 
 mod allowed;
 pub mod by_height;
 pub mod laws;
+pub mod listing;
 mod meet;
 mod pair;
 mod segments;

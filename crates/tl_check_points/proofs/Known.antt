@@ -14,7 +14,7 @@ use Rattle.tl_check_inside.specs.Inside.{IsCount, balance}
 use Rattle.tl_check_inside.specs.Places.{IsOffChains}
 use Rattle.tl_check_inside.specs.Keeping.Tallies.{TellCounts}
 use Rattle.tl_check_points.specs.declared.labels.Gap.{Gap}
-use Rattle.tl_check_points.specs.declared.looking.Visit.{Visit}
+use Rattle.tl_check_points.specs.declared.visits.Visit.{Visit}
 use Rattle.tl_check_points.specs.Counts.{AreCountsAt}
 use Rattle.tl_check_points.specs.Keeping.Balances.{HaveOneBalance}
 use Rattle.tl_check_points.specs.Keeping.Ways.{TellGap}

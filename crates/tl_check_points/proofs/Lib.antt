@@ -6,7 +6,6 @@ pub mod Gapped
 pub mod Entering
 pub mod Going
 pub mod Shortening
-pub mod Passed
 pub mod Seen
 pub mod Visiting
 pub mod Weighed
@@ -16,3 +15,4 @@ pub mod Parted
 pub mod Known
 pub mod Leaving
 pub mod Suspecting
+pub mod ListingLemmas

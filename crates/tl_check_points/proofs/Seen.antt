@@ -14,7 +14,7 @@ use Rattle.tl_check_inside.specs.Inside.{flanks_at}
 use Rattle.tl_check_inside.specs.Places.{IsOffChains}
 use Rattle.tl_check_inside.specs.Keeping.Tallies.{flanks_in, TellCounts}
 use Rattle.tl_check_active.specs.declared.events.Event.{Event}
-use Rattle.tl_check_active.specs.Events.{AreEvents, AreRising}
+use Rattle.tl_check_active.specs.Events.{AreEvents, AreEventsRising}
 use Rattle.tl_check_active.specs.Ranges.{IsInRange, AreInRange}
 use Rattle.tl_check_gaps.specs.Beside.{IsNoVertex, IsEastOfLast, IsWestOfFirst, IsBetween}
 use Rattle.tl_check_gaps.specs.Keeping.Facing.{raised}
@@ -24,20 +24,20 @@ use Rattle.tl_check_gaps.proofs.Raised.{same_flanks}
 use Rattle.tl_check_gaps.proofs.Slab.{list_of_slab}
 use Rattle.tl_check_gaps.proofs.Spotting as spotting
 use Rattle.tl_check_points.specs.declared.labels.Gap.{Gap}
-use Rattle.tl_check_points.specs.declared.looking.Visit.{Visit}
+use Rattle.tl_check_points.specs.declared.visits.Visit.{Visit}
 use Rattle.tl_check_points.specs.Keeping.Ways.{TellGap}
 use Rattle.tl_check_points.specs.Keeping.Visits.{IsVisit}
 
 -- ---- a height between the events before a place and those from it on
 
-pub no_vertex_at : (chains : List MapChain) (events : List Event) (from : ℕ) (list : List ℕ) (q : Point) (h : ℤ) → AreEvents chains events → AreRising events →
+pub no_vertex_at : (chains : List MapChain) (events : List Event) (from : ℕ) (list : List ℕ) (q : Point) (h : ℤ) → AreEvents chains events → AreEventsRising events →
     AreInRange chains → IsInRange q → IsSwept chains events from list → h ≡ height widest q +ℤ pos 2147483647 →
     ((d : Event) → 0 < from → from ≤ length events → (get_or events (from - 1) d).height <ℤ h) →
     ((d : Event) → from < length events → h <ℤ (get_or events from d).height) → IsNoVertex widest chains q
 no_vertex_at chains events from list q h are rising ranges range swept at below above =
     spotting.no_vertex chains events are rising from swept.within h below above q at list swept.counted ranges range
 
-pub between_at : (chains : List MapChain) (events : List Event) (from : ℕ) (list front back : List ℕ) (q : Point) (h : ℤ) → AreEvents chains events → AreRising events →
+pub between_at : (chains : List MapChain) (events : List Event) (from : ℕ) (list front back : List ℕ) (q : Point) (h : ℤ) → AreEvents chains events → AreEventsRising events →
     IsSwept chains events from list → h ≡ height widest q +ℤ pos 2147483647 →
     ((d : Event) → 0 < from → from ≤ length events → (get_or events (from - 1) d).height <ℤ h) →
     ((d : Event) → from < length events → h <ℤ (get_or events from d).height) →

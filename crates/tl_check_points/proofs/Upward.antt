@@ -7,12 +7,12 @@ use Rattle.std.proofs.Math.Seq.{get_or-append_right}
 use Rattle.tl_geom.specs.declared.point.Point.{Point}
 use Rattle.tl_check_planar.specs.ByHeight.Heights.{height, widest}
 use Rattle.tl_check_active.specs.declared.events.Event.{Event}
-use Rattle.tl_check_active.specs.Events.{joined, AreRising, AreAt}
+use Rattle.tl_check_active.specs.Events.{joined, AreEventsRising, AreAt}
 use Rattle.tl_check_active.proofs.Joining.{before_further, none_joined}
 
 -- events rise, and none is higher than the point
 pub record AreRisingTo (p : Point) (events : List Event) : Type 0 where
-  pub rising : AreRising events
+  pub rising : AreEventsRising events
   pub below : All (λ e. e.height ≤ℤ (height widest p +ℤ pos 2147483647)) events
 
 -- ---- some events at the height of a point, behind others that are no higher
@@ -52,7 +52,7 @@ module _ (xs ys : List Event) (p q : Point) (before : AreRisingTo p xs) (here : 
 
 -- ---- the events at places
 
-pub none_rising : (events : List (List Event)) → length events ≡ 0 → AreRising (joined events)
+pub none_rising : (events : List (List Event)) → length events ≡ 0 → AreEventsRising (joined events)
 none_rising events none k l d le lt = absurd (let e = ap length (none_joined events none) in omega (arith, lt, e))
 
 nothing_rises : (p : Point) → AreRisingTo p []

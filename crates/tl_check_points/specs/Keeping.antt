@@ -2,7 +2,7 @@
 pub mod Balances
 pub mod Ways
 pub mod Labels
-pub mod Passing
+pub mod UnderWay
 pub mod Visits
 pub mod Short
 pub mod Parts

@@ -5,7 +5,7 @@ ghost use Rattle.tl_check_inside.specs.Keeping.Tallies.{flanks_in};
 ghost use Rattle.tl_check_gaps.specs.Keeping.Facing.{raised};
 ghost use Rattle.tl_check_points.specs.Keeping.Balances.{AreAmong, HaveOneBalance, LeadsTo};
 
-use tl_check_gaps::flanks_of;
+use tl_check_gaps::flanks_by_height;
 use tl_check_inside::Flanks;
 use tl_map_county::{Map, Side};
 
@@ -18,7 +18,7 @@ pub fn find_flanks(map: &Map, s: u32) -> Option<Flanks>
         return None;
     }
     map.names_its_polygons();
-    Some(flanks_of(map, s))
+    Some(flanks_by_height(map, s))
 }
 
 /// Whether two sides are one.

@@ -4,12 +4,12 @@ ghost use Rattle.tl_check_inside.specs.Keeping.Tallies.{AreClear};
 ghost use Rattle.tl_check_points.specs.Counts.{AreCountsAt};
 ghost use Rattle.tl_check_points.specs.Keeping.Visits.{IsVisit};
 
-use crate::labels::{Gap, Labels};
-use crate::looking::Visit;
+use crate::labels::Gap;
 use crate::order::sort_along;
 use crate::rising::are_rising;
 use crate::short::shorten;
-use crate::sweeping::sweep;
+use crate::sweeping::{Visited, sweep};
+use crate::visits::Visit;
 use crate::ways::go;
 use std::alloc::{AllocError, Global};
 use std::marker::Model;
@@ -110,8 +110,11 @@ pub fn count_at(alloc: Global, map: &Map, sites: &[Site]) -> Result<PointCounts,
     if !are_rising(&events) {
         return Ok(counts);
     }
-    let mut labels = Labels::new(alloc, map)?;
-    let mut visits = sweep(alloc, map, &events, sites, &mut labels)?;
+    let Visited {
+        labels,
+        mut visits,
+        ..
+    } = sweep(alloc, map, &events, sites)?;
     sort_along(alloc, &labels.gaps, &mut visits)?;
     visit_all(alloc, map, sites, &labels.gaps, &visits, &mut counts)?;
     Ok(counts)

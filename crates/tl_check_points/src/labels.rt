@@ -1,5 +1,5 @@
 //! The gaps between neighbours of the list of active segments, and the segments' labels.
-ghost use Rattle.std.specs.Prelude.{◌≡◌, ◌≢◌, ℕ, List, ◌∷◌, [], Some, IfOk, IsTrue, length, slice_index};
+ghost use Rattle.std.specs.Prelude.{◌≡◌, ◌≢◌, ℕ, List, ◌∷◌, Some, IfOk, IsTrue, length, slice_index};
 ghost use Rattle.tl_map_county.specs.TheMap.{MapChain};
 ghost use Rattle.tl_check_inside.specs.declared.flanks.Flanks.{Flanks as TheFlanks};
 ghost use Rattle.tl_check_inside.specs.Inside.{flanks_at};
@@ -10,7 +10,7 @@ ghost use Rattle.tl_check_points.specs.Keeping.Labels.{AreLabelled, HasEntered};
 
 use crate::agreeing::find_flanks;
 use std::alloc::{AllocError, Global};
-use tl_check_blocks::Line;
+use tl_check_active::blocks::Line;
 use tl_check_inside::Flanks;
 use tl_map_county::{Map, Side};
 

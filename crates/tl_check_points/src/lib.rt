@@ -19,16 +19,16 @@ mod agreeing;
 mod by_counts;
 mod counts;
 mod labels;
-mod looking;
+pub mod listing;
 mod misplaced;
 mod order;
-mod passing;
 mod rays;
 mod rising;
 mod short;
 mod sites;
 mod sweeping;
 mod vertex;
+mod visits;
 mod ways;
 
 pub use counts::{PointCounts, count_at};

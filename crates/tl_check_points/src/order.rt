@@ -3,7 +3,7 @@ ghost use Rattle.std.specs.Prelude.{OnOk};
 ghost use Rattle.std.specs.List.Sorted.{IsPermutation};
 
 use crate::labels::Gap;
-use crate::looking::Visit;
+use crate::visits::Visit;
 use std::alloc::{AllocError, Global};
 
 /// Sorts points by the places of their gaps on a walk round the tree of gaps. The error is that memory was refused.

@@ -9,8 +9,7 @@ use tl_check_inside::{Misplaced, Site, find_among};
 use tl_check_planar::Segments;
 use tl_map_county::Map;
 use tl_tree::{FlatTree, PlainList};
-use tl_tree_index::{Memory, TreeStop};
-use tl_tree_pack::pack;
+use tl_tree_index::{Memory, TreeStop, pack};
 
 /// For so many points at most no tree is packed: sixteen of them take one pass over the map, and a tree takes about as long as that many
 /// passes.

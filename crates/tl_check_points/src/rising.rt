@@ -1,12 +1,12 @@
 //! Whether events rise.
 ghost use Rattle.std.specs.Prelude.{IsTrue};
-ghost use Rattle.tl_check_active.specs.Events.{joined, AreRising};
+ghost use Rattle.tl_check_active.specs.Events.{joined, AreEventsRising};
 
 use tl_check_active::{Events, is_lower};
 
 /// Whether no event is higher than a later one.
 pub fn are_rising(events: &Events) -> bool
-    ensures { IsTrue result → AreRising (joined events.now) }
+    ensures { IsTrue result → AreEventsRising (joined events.now) }
 {
     let count = events.len();
     if count == 0 {

@@ -1,6 +1,6 @@
 //! The labels at a vertex.
 ghost use Rattle.std.specs.Prelude.{◌≡◌, ℕ, List, ◌++◌, Some, IfOk, IsTrue, length};
-ghost use Rattle.tl_check_blocks.specs.Lined.{list_of};
+ghost use Rattle.tl_check_active.specs.Blocks.Lined.{list_of};
 ghost use Rattle.tl_check_gaps.specs.Keeping.Facing.{raised};
 ghost use Rattle.tl_check_points.specs.Keeping.Ways.{AreKept};
 ghost use Rattle.tl_check_points.specs.Keeping.Labels.{AreLabelled, IsOnce};
@@ -8,7 +8,7 @@ ghost use Rattle.tl_check_points.specs.Keeping.Labels.{AreLabelled, IsOnce};
 use crate::agreeing::{are_alike, are_balanced};
 use crate::labels::Labels;
 use std::alloc::AllocError;
-use tl_check_blocks::Line;
+use tl_check_active::blocks::Line;
 use tl_map_county::Map;
 
 /// Labels the segments that begin at a vertex, where they stand before the place in the stead of those that end there; and, where the

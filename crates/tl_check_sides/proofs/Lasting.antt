@@ -2,7 +2,7 @@
 use Rattle.std.proofs.Common.{◌≡◌, ℕ, ◌<◌, ◌≤◌, List, ◌++◌, length, length-append, arith}
 use Rattle.tl_map_county.specs.TheMap.{MapChain}
 use Rattle.tl_check_sides.specs.Lists.{times_in, and_list, list_at}
-use Rattle.tl_check_sides.specs.Rounds.{IsRepeated}
+use Rattle.tl_check_sides.specs.Rounds.{IsRoundRepeated}
 use Rattle.tl_check_sides.proofs.ListLemmas.{times-more, list-kept}
 use Rattle.tl_check_sides.proofs.TakeFacts.{last_so}
 
@@ -19,7 +19,7 @@ still P lists more k h = (omega (arith, h.0, length-append lists more), rw (list
 pub last_lasts : (P : List ℕ → Type 0) (lists more : List (List ℕ)) (xs : List ℕ) (number : ℕ) → number ≡ length lists → P xs → (number < length (and_list lists xs ++ more)) × P (list_at (and_list lists xs ++ more) number)
 last_lasts P lists more xs number e p = still P (and_list lists xs) more number (last_so P lists xs number e p)
 
-pub repeated_lasts : (chains : List MapChain) (lists more : List (List ℕ)) (r : ℕ) → IsRepeated chains lists r → IsRepeated chains (lists ++ more) r
+pub repeated_lasts : (chains : List MapChain) (lists more : List (List ℕ)) (r : ℕ) → IsRoundRepeated chains lists r → IsRoundRepeated chains (lists ++ more) r
 repeated_lasts chains lists more r h =
     let earlier = h.is_earlier in
     let within = h.within in

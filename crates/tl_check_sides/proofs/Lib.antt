@@ -16,3 +16,4 @@ pub mod Boundaries
 pub mod Lasting
 pub mod Lent
 pub mod CellsLemmas
+pub mod ListingLemmas

@@ -16,7 +16,7 @@ use Rattle.tl_tree_index.proofs.Marks.{times-at}
 use Rattle.tl_check_sides.specs.declared.rounds.Rounds.{Rounds}
 use Rattle.tl_check_sides.specs.Lists.{before, times_in, and_list, list_at, EachList}
 use Rattle.tl_check_sides.specs.Sides.{dart_count}
-use Rattle.tl_check_sides.specs.Rounds.{round_start, HasOneNode, AreRising, IsRepeated}
+use Rattle.tl_check_sides.specs.Rounds.{round_start, HasOneNode, AreHeadingsRising, IsRoundRepeated}
 use Rattle.tl_check_sides.specs.Keeping.Marked.{marked_count, AddMarks, MarkLists}
 use Rattle.tl_check_sides.specs.Keeping.Rounded.{AreLinked, AreHeaded, AreNodeMarks, AreSized, HaveTaken}
 use Rattle.tl_check_sides.proofs.ListLemmas.{times-and, length-and, list-first, list-last, each-and, stands_in, before_stands}
@@ -67,7 +67,7 @@ last_so P lists xs number e p = (omega (arith, e, length-and lists xs), rw (list
 
 module _ (chains : List MapChain) (rounds : List (List ℕ)) (round : List ℕ) where
   -- the round starts at a node that is marked
-  pub repeated : (number : ℕ) (marks : List Bool) (points : List Point) (k : ℕ) → number ≡ length rounds → 0 < length round → AreNodeMarks chains rounds marks → ((nodes : List Point) → AreNodes chains nodes → slice_get nodes k ≡ dart_start chains (slice_index round 0)) → ((nodes : List Point) → AreNodes chains nodes → k < length nodes) → get_or marks k false ≡ true → IsRepeated chains (and_list rounds round) number
+  pub repeated : (number : ℕ) (marks : List Bool) (points : List Point) (k : ℕ) → number ≡ length rounds → 0 < length round → AreNodeMarks chains rounds marks → ((nodes : List Point) → AreNodes chains nodes → slice_get nodes k ≡ dart_start chains (slice_index round 0)) → ((nodes : List Point) → AreNodes chains nodes → k < length nodes) → get_or marks k false ≡ true → IsRoundRepeated chains (and_list rounds round) number
   repeated number marks points k e some m start within marked =
       let r = m.some_round k marked in
       let here : slice_get m.points k ≡ Some (point_at m.points k) = is_point m.points k (within m.points m.are) in
@@ -129,13 +129,13 @@ module _ (chains : List MapChain) (rounds : List (List ℕ)) (round : List ℕ) 
       here
 
   -- one round more was taken
-  pub taken_more : (old new : Rounds) (k : ℕ) → HaveTaken chains rounds old → 0 < length round → AddMarks old.marks.items round new.marks.items → new.nodes.items ≡ set old.nodes.items k true → new.taken ≡ old.taken + 1 → ((nodes : List Point) → AreNodes chains nodes → slice_get nodes k ≡ dart_start chains (slice_index round 0)) → ((nodes : List Point) → AreNodes chains nodes → k < length nodes) → get_or old.nodes.items k false ≡ false → HasOneNode chains round → AreRising chains round → AreHeaded chains round → AreLinked new.next.items round → ((d : ℕ) → times d round ≡ 0 → slice_index new.next.items d ≡ slice_index old.next.items d) → HaveTaken chains (and_list rounds round) new
+  pub taken_more : (old new : Rounds) (k : ℕ) → HaveTaken chains rounds old → 0 < length round → AddMarks old.marks.items round new.marks.items → new.nodes.items ≡ set old.nodes.items k true → new.taken ≡ old.taken + 1 → ((nodes : List Point) → AreNodes chains nodes → slice_get nodes k ≡ dart_start chains (slice_index round 0)) → ((nodes : List Point) → AreNodes chains nodes → k < length nodes) → get_or old.nodes.items k false ≡ false → HasOneNode chains round → AreHeadingsRising chains round → AreHeaded chains round → AreLinked new.next.items round → ((d : ℕ) → times d round ≡ 0 → slice_index new.next.items d ≡ slice_index old.next.items d) → HaveTaken chains (and_list rounds round) new
   taken_more old new k t some added nodes taken start within unmarked one_node rising headed linked others = record {
     taken = omega (arith, taken, t.taken, length-and rounds round);
     marks = mark_more (dart_count chains) rounds old.marks.items round new.marks.items t.marks added;
     nodes = rw nodes (nodes_more old.nodes.items k some t.nodes start within);
     one_node = each-and (HasOneNode chains) rounds round t.one_node one_node;
-    rising = each-and (AreRising chains) rounds round t.rising rising;
+    rising = each-and (AreHeadingsRising chains) rounds round t.rising rising;
     headed = each-and (AreHeaded chains) rounds round t.headed headed;
     linked = linked_more (dart_count chains) old.next.items new.next.items old.marks.items new.marks.items t.marks added t.linked linked others;
     apart = apart_more old.nodes.items k some t.nodes start within unmarked t.apart;

@@ -11,14 +11,14 @@ use Rattle.tl_map_county.specs.TheMap.{MapChain}
 use Rattle.tl_map_county.specs.Darts.{Heads, dart_start}
 use Rattle.tl_check_sides.specs.Lists.{before, HoldOnce, list_at, EachList}
 use Rattle.tl_check_sides.specs.Sides.{dart_count, IsNext}
-use Rattle.tl_check_sides.specs.Rounds.{HeadsBefore, round_start, HasOneNode, AreRising}
+use Rattle.tl_check_sides.specs.Rounds.{HeadsBefore, round_start, HasOneNode, AreHeadingsRising}
 use Rattle.tl_check_sides.specs.Keeping.Rounded.{AreLinked, AreHeaded}
 use Rattle.tl_check_sides.proofs.ListLemmas.{IsIn, list_of}
 use Rattle.tl_check_sides.proofs.Headings.{dart_within, heads_alike, with_heads, never_both, never_one, nothing_within}
 
 -- ---- one round
 
-module _ (chains : List MapChain) (round : List ℕ) (rising : AreRising chains round) where
+module _ (chains : List MapChain) (round : List ℕ) (rising : AreHeadingsRising chains round) where
   at : ℕ → ℕ
   at k = slice_index round k
 
@@ -107,7 +107,7 @@ module _ (chains : List MapChain) (round : List ℕ) (rising : AreRising chains 
 pub record HoldAll (chains : List MapChain) (rounds : List (List ℕ)) : Type 0 where
   pub hold : HoldOnce (dart_count chains) rounds
   pub one_node : EachList (HasOneNode chains) rounds
-  pub rising : EachList (AreRising chains) rounds
+  pub rising : EachList (AreHeadingsRising chains) rounds
   pub headed : EachList (AreHeaded chains) rounds
   pub apart : (r s : ℕ) (node : Point) → r < s → s < length rounds → round_start chains (list_at rounds r) ≡ Some node → round_start chains (list_at rounds s) ≢ Some node
 

@@ -6,3 +6,4 @@ pub mod Rounds
 pub mod Walks
 pub mod Keeping
 pub mod Cells
+pub mod Listing

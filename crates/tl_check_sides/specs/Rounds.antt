@@ -28,15 +28,15 @@ abbrev pub HasOneNode : List MapChain → List ℕ → Type 0
 HasOneNode chains round = (k : ℕ) → k < length round → dart_start chains (slice_index round k) ≡ round_start chains round
 
 -- the headings of its darts rise strictly
-abbrev pub AreRising : List MapChain → List ℕ → Type 0
-AreRising chains round = (k : ℕ) → suc k < length round → HeadsBefore chains (slice_index round k) (slice_index round (suc k))
+abbrev pub AreHeadingsRising : List MapChain → List ℕ → Type 0
+AreHeadingsRising chains round = (k : ℕ) → suc k < length round → HeadsBefore chains (slice_index round k) (slice_index round (suc k))
 
 -- the rounds: each dart once and nothing else, in each round the darts of one node with rising headings, no two rounds of
 -- one node
 pub record AreRounds (chains : List MapChain) (rounds : List (List ℕ)) : Type 0 where
   pub hold : HoldOnce (dart_count chains) rounds
   pub one_node : EachList (HasOneNode chains) rounds
-  pub rising : EachList (AreRising chains) rounds
+  pub rising : EachList (AreHeadingsRising chains) rounds
   pub apart : (r s : ℕ) (node : Point) → r < s → s < length rounds → round_start chains (list_at rounds r) ≡ Some node → round_start chains (list_at rounds s) ≢ Some node
 
 -- two darts of the round start at two points
@@ -50,7 +50,7 @@ pub record HasTwoNodes (chains : List MapChain) (round : List ℕ) : Type 0 wher
   pub differ : one ≢ other
 
 -- the round's first dart starts where the first dart of an earlier round does
-pub record IsRepeated (chains : List MapChain) (rounds : List (List ℕ)) (r : ℕ) : Type 0 where
+pub record IsRoundRepeated (chains : List MapChain) (rounds : List (List ℕ)) (r : ℕ) : Type 0 where
   pub within : r < length rounds
   pub earlier : ℕ
   pub is_earlier : earlier < r
@@ -74,5 +74,5 @@ IsRoundFault chains rounds (UnknownDart d) = (dart_count chains ≤ d) × (1 ≤
 IsRoundFault chains rounds (DartTwice d) = 2 ≤ times_in d rounds
 IsRoundFault chains rounds (DartMissing d) = (d < dart_count chains) × (times_in d rounds ≡ 0)
 IsRoundFault chains rounds (StartsElsewhere r) = (r < length rounds) × HasTwoNodes chains (list_at rounds r)
-IsRoundFault chains rounds (NodeRepeated r) = IsRepeated chains rounds r
+IsRoundFault chains rounds (NodeRepeated r) = IsRoundRepeated chains rounds r
 IsRoundFault chains rounds (OrderNotRising r) = (r < length rounds) × HasFall chains (list_at rounds r)

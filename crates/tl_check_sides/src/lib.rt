@@ -15,6 +15,7 @@ pub mod cells;
 mod fault;
 mod headed;
 pub mod laws;
+pub mod listing;
 mod marks;
 mod next;
 mod rounds;

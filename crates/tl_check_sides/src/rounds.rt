@@ -6,7 +6,7 @@ ghost use Rattle.tl_map_county.specs.Nodes.{AreNodes};
 ghost use Rattle.tl_tree_index.specs.Hits.{times};
 ghost use Rattle.tl_check_sides.specs.Lists.{and_list};
 ghost use Rattle.tl_check_sides.specs.Sides.{dart_count};
-ghost use Rattle.tl_check_sides.specs.Rounds.{AreRounds, HasOneNode, HasTwoNodes, AreRising, HasFall, IsRoundFault};
+ghost use Rattle.tl_check_sides.specs.Rounds.{AreRounds, HasOneNode, HasTwoNodes, AreHeadingsRising, HasFall, IsRoundFault};
 ghost use Rattle.tl_check_sides.specs.Keeping.Rounded.{AreLinked, AreHeaded, AreSized, HaveTaken, KeepNext};
 
 use crate::fault::RoundFault;
@@ -129,7 +129,7 @@ fn has_one_node(map: &Map, round: &[u32]) -> bool
 fn is_rising(map: &Map, round: &[u32]) -> bool
     requires some { zero < length round.now }
     requires darts { (k : ℕ) → k < length round.now → slice_index round.now k < dart_count map.now.chains }
-    ensures rising { IsTrue result → AreRising map.now.chains round.now }
+    ensures rising { IsTrue result → AreHeadingsRising map.now.chains round.now }
     ensures headed { IsTrue result → AreHeaded map.now.chains round.now }
     ensures fall { IsFalse result → HasFall map.now.chains round.now }
 {

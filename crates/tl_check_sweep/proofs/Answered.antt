@@ -11,7 +11,7 @@ use Rattle.tl_check_faces.specs.Crossings.Headings.{AreProper}
 use Rattle.tl_check_planar.specs.Keeping.Apart.{one_found}
 use Rattle.tl_check_planar.specs.ByHeight.Heights.{widest}
 use Rattle.tl_check_planar.specs.ByHeight.Neighbours.{IsNumbered}
-use Rattle.tl_check_planar.specs.ByHeight.Slabs.{IsPointOf}
+use Rattle.tl_check_planar.specs.ByHeight.Slabs.{IsChainPoint}
 use Rattle.tl_check_active.specs.Ranges.{IsInRange, AreInRange}
 use Rattle.tl_check_active.proofs.Wide.{near_by_range}
 use Rattle.tl_check_faces.specs.Lists.{AreAllNear}
@@ -37,7 +37,7 @@ module _ (chains : List MapChain) (proper : AreProper chains) (ranges : AreInRan
         there,
       )
 
-  in_range : (c k : ℕ) (p : Point) → IsPointOf chains c k p → IsInRange p
+  in_range : (c k : ℕ) (p : Point) → IsChainPoint chains c k p → IsInRange p
   in_range c k p one =
       let several = (proper c one.chain one.is).several in
       let within = slice_get_within one.chain.points k p one.point in

@@ -9,7 +9,7 @@ use Rattle.tl_geom.specs.declared.rational.Rational.{Rational}
 use Rattle.tl_geom.specs.declared.segment.Segment.{Segment}
 use Rattle.tl_geom.specs.Plane.{IsOn, whole}
 use Rattle.tl_geom.proofs.Places.{a_on, b_on, same_sym, whole_same}
-use Rattle.tl_map_county.specs.Chains.{IsProper}
+use Rattle.tl_map_county.specs.Chains.{IsProperChain}
 use Rattle.tl_map_county.specs.TheMap.{MapChain}
 use Rattle.tl_map_county.specs.Segments.{segments_before, IsSegmentOf}
 use Rattle.tl_check_planar.specs.Planar.{IsVertex, IsOnSegment, IsChainEnd, MayShareWithin}
@@ -26,7 +26,7 @@ IsAtSegment i p = (p ≡ i) ⊎ (p ≡ i + 1)
 
 -- ---- along one chain
 
-module _ (points : List Point) (proper : IsProper points) (at : Point) where
+module _ (points : List Point) (proper : IsProperChain points) (at : Point) where
   -- neighbours differ
   next_differs : (k : ℕ) → slice_get points k ≡ Some at → slice_get points (k + 1) ≡ Some at → ⊥
   next_differs k one other =
@@ -250,7 +250,7 @@ module _ (chains : List MapChain) (proper : AreProper chains) (at : Point) where
       not_apart : p ≢ q → ¬ (IsEndPlace one.number.chain.points p × IsEndPlace one.number.chain.points q) → ⊥
       not_apart ne never =
           let points : List Point = one.number.chain.points in
-          let good : IsProper points = proper c one.number.chain one.number.is in
+          let good : IsProperChain points = proper c one.number.chain one.number.is in
           ⊎_elim
           (λ k. ⊎_elim
           (λ e. ⊎_elim (λ f. ne (e ∙ k ∙ sym f))

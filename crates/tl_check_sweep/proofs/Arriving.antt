@@ -1,5 +1,5 @@
 -- Where a sweep has come to a vertex, its list is that of the slab below, and what ends and begins there is gathered.
-use Rattle.std.proofs.Common.{◌≡◌, inl, inr, ⊎_elim, ℕ, ◌+◌, ◌-◌, ◌<◌, ◌≤◌, ◌==◌, Bool, not, ℤ, pos, ◌+ℤ◌, ◌-ℤ◌, ◌<ℤ◌, ◌≤ℤ◌, List, length, take, drop, get_or, count_by, sym, ap, subst, ◌∙◌, arith}
+use Rattle.std.proofs.Common.{◌≡◌, inl, inr, ⊎_elim, ℕ, ◌+◌, ◌-◌, ◌<◌, ◌≤◌, ◌==◌, Bool, not, pos, ◌+ℤ◌, ◌-ℤ◌, ◌<ℤ◌, ◌≤ℤ◌, List, length, take, drop, get_or, count_by, sym, ap, subst, ◌∙◌, arith}
 use Rattle.std.specs.Prelude.{All}
 use Rattle.std.proofs.lemmas.Bool.{cases_lt}
 use Rattle.std.proofs.lemmas.Int.{ints, by_lt_z}
@@ -19,7 +19,7 @@ use Rattle.tl_check_planar.proofs.ByHeight.Numbered.{one_segment}
 use Rattle.tl_check_planar.proofs.ByHeight.Rising.{ends_of}
 use Rattle.tl_check_faces.specs.Crossings.Headings.{AreProper}
 use Rattle.tl_check_active.specs.declared.events.Event.{Event}
-use Rattle.tl_check_active.specs.Events.{IsEvent, AreAt, AreEvents, AreRising, begins_at, ends_at, joined, between, before}
+use Rattle.tl_check_active.specs.Events.{IsEvent, AreAt, AreEvents, AreEventsRising, begins_at, ends_at, joined, between, before}
 use Rattle.tl_check_active.specs.Gathered.{AreGathered}
 use Rattle.tl_check_active.specs.Ranges.{IsInRange, AreInRange}
 use Rattle.tl_check_active.proofs.Bits.{bit}
@@ -34,7 +34,7 @@ use Rattle.tl_check_gaps.proofs.Gone.{all_before}
 use Rattle.tl_check_gaps.proofs.Slab.{all_of, ended_by, found_before, in_list, known, list_of_slab, stands_before}
 
 module _ (chains : List MapChain) (events : List (List Event)) (from to : ℕ) (list outs ins : List ℕ) (are : AreEvents chains (joined events))
-    (rising : AreRising (joined events)) (ranges : AreInRange chains) (proper : AreProper chains) (swept : IsSwept chains (joined events) (before from events) list)
+    (rising : AreEventsRising (joined events)) (ranges : AreInRange chains) (proper : AreProper chains) (swept : IsSwept chains (joined events) (before from events) list)
     (gathered : AreGathered events from to outs ins) (p : Point) (here : (e : List Event) → AreAt p (get_or events from e))
     (below : AreBelow (before from events) (joined events)) (range : IsInRange p) where
   abbrev all : List Event

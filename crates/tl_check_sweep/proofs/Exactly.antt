@@ -1,6 +1,6 @@
 -- A step of a sweep at an exact place: what ends at its point stands there side by side, and those that become neighbours are in order if they
 -- are apart or share an end of both.
-use Rattle.std.proofs.Common.{◌≡◌, ◌≢◌, ◌⊎◌, inl, inr, ⊎_elim, ℕ, zero, suc, ◌+◌, ◌-◌, ◌<◌, ◌≤◌, ℤ, pos, ◌-ℤ◌, ◌*ℤ◌, ◌<ℤ◌, ◌≤ℤ◌, Some, List, [], ◌∷◌, ◌++◌, length, get_or, append-nil, refl, sym, ap, subst, ◌∙◌, arith}
+use Rattle.std.proofs.Common.{◌≡◌, ◌≢◌, ◌⊎◌, inl, inr, ⊎_elim, ℕ, zero, suc, ◌-◌, ◌<◌, ◌≤◌, ℤ, pos, ◌-ℤ◌, ◌*ℤ◌, ◌<ℤ◌, ◌≤ℤ◌, Some, List, [], ◌∷◌, ◌++◌, length, get_or, append-nil, refl, sym, ap, subst, ◌∙◌, arith}
 use Rattle.std.specs.Prelude.{slice_get, All}
 use Rattle.std.proofs.lemmas.Bool.{cases_lt}
 use Rattle.std.proofs.lemmas.Int.{ints, by_lt_z}
@@ -26,7 +26,7 @@ use Rattle.tl_check_planar.proofs.ByHeight.Transport.{not_east, on_both, strictl
 use Rattle.tl_check_planar.proofs.ByHeight.Numbered.{one_segment, IsOnIt, on_it, both_ended}
 use Rattle.tl_check_planar.proofs.ByHeight.Walking.{IsIn, in_by_times, all_head, all_tail, two_front, two_back}
 use Rattle.tl_check_planar.proofs.ByHeight.Standing.{west_at}
-use Rattle.tl_check_blocks.specs.Lined.{TheLine, list_of, last_of}
+use Rattle.tl_check_active.specs.Blocks.Lined.{TheLine, list_of, last_of}
 use Rattle.tl_check_active.specs.Ranges.{AreInRange}
 use Rattle.tl_check_active.proofs.Lining.{last_more}
 use Rattle.tl_check_active.proofs.Tests.{low_height, high_height}

@@ -3,9 +3,10 @@ pub mod Freeing
 pub mod Touching
 pub mod Pushing
 pub mod Under
+pub mod UnderWay
 pub mod Answered
 pub mod Deciding
 pub mod Putting
 pub mod Exactly
 pub mod Arriving
-pub mod Passages
+pub mod Parted

@@ -7,7 +7,7 @@ use Rattle.tl_map_county.specs.TheMap.{MapChain}
 use Rattle.tl_check_active.specs.declared.events.Event.{Event}
 use Rattle.tl_geom.specs.declared.point.Point.{Point}
 use Rattle.tl_check_planar.specs.ByHeight.Heights.{height, widest}
-use Rattle.tl_check_active.specs.Events.{AreAt, AreMet, AreRising, before, joined, one_or_two}
+use Rattle.tl_check_active.specs.Events.{AreAt, AreMet, AreEventsRising, before, joined, one_or_two}
 use Rattle.tl_check_active.proofs.Joining.{before_further, before_within, first_there, whole}
 use Rattle.tl_check_gaps.specs.Keeping.Vertices.{IsLast, AreInOrder, AreInOrderUpTo}
 use Rattle.tl_check_active.specs.Vertices.{MayMeet}
@@ -120,7 +120,7 @@ pub in_order_apart : (chains : List MapChain) (e f : Event) → e.height ≤ℤ 
 in_order_apart chains e f up apart = record { rising = up; meets = λ same. absurd (apart same) }
 
 -- the first event at a place isn't lower than the last one before it
-pub rises_before : (gs : List (List Event)) (k : ℕ) (last first : Event) (second : Option Event) → 0 < k → k < length gs → AreRising (joined gs) →
+pub rises_before : (gs : List (List Event)) (k : ℕ) (last first : Event) (second : Option Event) → 0 < k → k < length gs → AreEventsRising (joined gs) →
     IsLast last (get_or gs (k - 1) []) → get_or gs k [] ≡ one_or_two first second → (d : Event) → last.height ≤ℤ first.height
 rises_before gs k last first second some lt rising is are d =
     let one = last_placed gs k last (last_before_place gs k last some lt is) d in

@@ -8,7 +8,7 @@ use Rattle.tl_geom.specs.declared.segment.Segment.{Segment}
 use Rattle.tl_geom.specs.Plane.{IsOn, whole}
 use Rattle.tl_geom.specs.Contact.{AreBothEnded, IsEnd, IsShared}
 use Rattle.tl_geom.proofs.Places.{on_same, same_sym}
-use Rattle.tl_map_county.specs.Chains.{IsProper}
+use Rattle.tl_map_county.specs.Chains.{IsProperChain}
 use Rattle.tl_map_county.specs.TheMap.{MapChain}
 use Rattle.tl_map_county.specs.Segments.{IsSegmentOf}
 use Rattle.tl_check_planar.specs.Planar.{IsVertex, IsOnSegment, IsChainEnd, MayShareWithin}
@@ -45,7 +45,7 @@ module _ (points : List Point) (r : Rational) where
   joining : (i : ℕ) (on : IsOnSegment points i r) → IsJoining points i on.segment
   joining i on = record { from = on.from; to = on.to }
 
-  module _ (proper : IsProper points) where
+  module _ (proper : IsProperChain points) where
     -- a vertex lies on each segment that ends there
     vertex_on : (i p : ℕ) → i + 1 < length points → IsAtSegment i p → IsVertex points p r → IsOnSegment points i r
     vertex_on i p within place v =
@@ -82,7 +82,7 @@ module _ (chains : List MapChain) (proper : AreProper chains) (r : Rational) whe
       IsChainEnd number.chain.points r → IsEnd u r
   chain_end_is_end s c k number u join on free =
       let points : List Point = number.chain.points in
-      let good : IsProper points = proper c number.chain number.is in
+      let good : IsProperChain points = proper c number.chain number.is in
       let there : IsOnSegment points k r = record { segment = u; from = join.from; to = join.to; on = on } in
       let l : ℕ = length points - 2 in
       let last : l + 2 ≡ length points = let several = good.several in omega (arith, several) in

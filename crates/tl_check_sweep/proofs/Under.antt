@@ -8,7 +8,7 @@ use Rattle.tl_map_county.specs.TheMap.{MapChain}
 use Rattle.tl_tree_index.specs.Hits.{times}
 use Rattle.tl_check_active.specs.declared.events.Event.{Event}
 use Rattle.tl_check_active.specs.Gathered.{AreGathered}
-use Rattle.tl_check_active.specs.Events.{AreAt, AreEvents, AreRising, joined, before}
+use Rattle.tl_check_active.specs.Events.{AreAt, AreEvents, AreEventsRising, joined, before}
 use Rattle.tl_check_planar.specs.ByHeight.Heights.{height, widest}
 use Rattle.tl_check_planar.specs.ByHeight.Neighbours.{AreTested, EachTwo}
 use Rattle.tl_check_faces.specs.declared.odd.OddGap.{OddGap}
@@ -51,7 +51,7 @@ begun chains events list watch are e f = record {
 }
 
 module _ (chains : List MapChain) (groups : List (List Event)) (from to : ℕ) (list next outs ins : List ℕ) (are : AreEvents chains (joined groups))
-    (rising : AreRising (joined groups)) (swept : IsSwept chains (joined groups) (before from groups) list)
+    (rising : AreEventsRising (joined groups)) (swept : IsSwept chains (joined groups) (before from groups) list)
     (gathered : AreGathered groups from to outs ins) (moved : (s : ℕ) → times s next + times s outs ≡ times s list + times s ins)
     (tested : EachTwo (AreTested widest chains) next) (p : Point) (here : (e : List Event) → AreAt p (get_or groups from e))
     (gaps : Option ℕ) (old new : Watch) (under : IsWatched chains (joined groups) (before from groups) list old)

@@ -2,3 +2,4 @@
 pub mod Exact
 pub mod Told
 pub mod Pairs
+pub mod UnderWay

@@ -1,3 +1,4 @@
 -- What the contracts of sweeps cite.
-pub mod Deciding
+pub mod Searched
 pub mod Keeping
+pub mod Parts

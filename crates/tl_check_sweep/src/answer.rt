@@ -1,30 +1,26 @@
 //! What a sweep says of a map.
-ghost use Rattle.std.specs.Prelude.{◌≡◌, ◌↔◌, ◌⊎◌, ◌<◌, ℕ, [], None, Some, length, slice_get, All, Contains, IfOk, IfSome};
+ghost use Rattle.std.specs.Prelude.{◌≡◌, ◌⊎◌, ◌<◌, ℕ, None, Some, length, slice_get, All, Contains, IfOk, IfSome};
 ghost use Rattle.tl_map_county.specs.declared.polygons.Polygon.{Polygon};
 ghost use Rattle.tl_map_county.specs.TheMap.{TheMap};
 ghost use Rattle.tl_check_planar.specs.Planar.{IsPlanar};
-ghost use Rattle.tl_check_planar.specs.declared.meet.Meet.{Meet};
 ghost use Rattle.tl_check_planar.specs.Searching.{IsTrueMeet};
-ghost use Rattle.tl_check_inside.specs.Placed.{ArePlaced, IsPlacedIn};
+ghost use Rattle.tl_check_inside.specs.Placed.{IsPlacedIn};
 ghost use Rattle.tl_check_faces.specs.Crossings.Headings.{AreProper};
 ghost use Rattle.tl_check_planar.specs.ByHeight.Heights.{widest};
 ghost use Rattle.tl_check_planar.specs.ByHeight.Neighbours.{IsWide};
 ghost use Rattle.tl_check_planar.specs.ByHeight.Slabs.{AreVerticesTested};
-ghost use Rattle.tl_check_active.specs.Events.{joined, AreEvents, AreRising, AreMet};
+ghost use Rattle.tl_check_active.specs.Events.{joined, AreEvents, AreEventsRising, AreMet};
 ghost use Rattle.tl_check_active.specs.Ranges.{AreInRange};
-ghost use Rattle.tl_check_faces.specs.Facing.{FacesAgree};
-ghost use Rattle.tl_check_faces.specs.Odd.{IsLowestOddGap};
-ghost use Rattle.tl_check_sweep.specs.Deciding.{SaysPlanar};
-ghost use Rattle.tl_check_gaps.specs.Gaps.{AreAllOddGaps};
 ghost use Rattle.tl_check_gaps.specs.Keeping.Spotted.{AreMarks, AreTrueMarks};
-ghost use Rattle.tl_check_sweep.specs.Keeping.Told.{IsTrueAnswer, IsTrueSweep};
+ghost use Rattle.tl_check_sweep.specs.Searched.{IsSearched, IsTrueAnswer};
+ghost use Rattle.tl_check_sweep.specs.Keeping.Told.{IsTrueSweep};
 
 use crate::meets::meet_at_vertex;
-use crate::sweeping::{Care, Passage, sweep_list};
+use crate::sweeping::{Care, Deciding, Findings};
 use std::alloc::{AllocError, Global};
-use tl_check_active::Events;
+use tl_check_active::{Events, sweep_over};
 use tl_check_faces::OddGap;
-use tl_check_gaps::{Gaps, InnerPoints, Watch, list_unmarked};
+use tl_check_gaps::{Gaps, InnerPoints, list_unmarked};
 use tl_check_planar::Meet;
 use tl_map_county::Map;
 
@@ -62,28 +58,10 @@ pub struct Told {
 /// rising numbers of the western one and of one such by those of the eastern one, those with no segment on a side before the others; or
 /// some of these, if there are any. The error is that memory was refused.
 pub fn sweep(alloc: Global, map: &Map, gaps: Gaps) -> Result<SweepReport, AllocError>
-    // Either of `Placed` and `Planar` is answered exactly where the chains are planar, and elsewhere a meet.
-    ensures exactly { IfOk result (λ report. SaysPlanar report.swept ↔ IsPlanar map.now.chains) }
-    // `Placed` is answered only where the chains are planar and the point of each polygon lies where it has to.
-    ensures placed { IfOk result (λ report. report.swept ≡ Swept.Placed → IsPlanar map.now.chains × ArePlaced map.now) }
-    // `Planar` is answered only where the chains are planar.
-    ensures planar { IfOk result (λ report. report.swept ≡ Swept.Planar → IsPlanar map.now.chains) }
-    // A meet that is answered is of two segments, in order, that conflict by its point, and it names their chains.
-    ensures meet { IfOk result (λ report. (meet : Meet) → report.swept ≡ Swept.Meet meet → IsTrueMeet map.now.chains meet) }
-    // The polygons that are listed are polygons of the map.
-    ensures known { IfOk result (λ report. All (λ p. p < length map.now.polygons) report.suspects.items) }
-    // The point of each polygon that isn't listed lies where it has to.
-    ensures others { IfOk result (λ report. (p : ℕ) (polygon : Polygon) → slice_get map.now.polygons p ≡ Some polygon →
-        Contains report.suspects.items p ⊎ IsPlacedIn map.now polygon.point p) }
-    // Where the chains are planar, each gap is one of a slab's list whose facing sides differ, the lowest between its
-    // segments.
-    ensures odd { IfOk result (λ report. IsPlanar map.now.chains → All (IsLowestOddGap widest map.now.chains) report.gaps.items) }
-    // Where they are planar and there is no gap, faces agree.
-    ensures agree { IfOk result (λ report. IsPlanar map.now.chains → report.gaps.items ≡ [] → FacesAgree map.now.chains) }
-    // Where they are planar and all gaps are asked for, there is for each such gap of each slab's list one between the
-    // same two segments, of that slab or a lower one. They rise strictly by what stands west of them, and of one such by
-    // what stands east, so that no two segments stand there twice.
-    ensures all { gaps ≡ Gaps.All → IfOk result (λ report. IsPlanar map.now.chains → AreAllOddGaps widest map.now.chains report.gaps.items) }
+    // What is answered is so: it says that the chains are planar exactly where they are, and elsewhere tells a meet of two segments, in order,
+    // that conflict by its point. The point of each polygon that isn't listed lies where it has to. Where the chains are planar, each gap is
+    // one whose facing sides differ, the lowest between its segments; where there is none, faces agree; and where all are asked for, they are all.
+    ensures { IfOk result (IsSearched map.now gaps) }
 {
     map.has_proper_chains();
     let Told { swept, marks, gaps } = sweep_ends(alloc, map, gaps)?;
@@ -127,7 +105,7 @@ fn sweep_ends(alloc: Global, map: &Map, gaps: Gaps) -> Result<Told, AllocError>
 /// The same by all ends, which are sorted.
 fn sweep_events(alloc: Global, map: &Map, events: &Events, gaps: Gaps) -> Result<Told, AllocError>
     requires events { AreEvents map.now.chains (joined events.now) }
-    requires rising { AreRising (joined events.now) }
+    requires rising { AreEventsRising (joined events.now) }
     requires met { All (AreMet map.now.chains) events.now }
     requires wide { IsWide widest map.now.chains }
     requires ranges { AreInRange map.now.chains }
@@ -144,7 +122,7 @@ fn sweep_events(alloc: Global, map: &Map, events: &Events, gaps: Gaps) -> Result
 /// swept once more by exact places: then a meet is found, or no test fails.
 fn sweep_tested(alloc: Global, map: &Map, events: &Events, gaps: Gaps) -> Result<Told, AllocError>
     requires events { AreEvents map.now.chains (joined events.now) }
-    requires rising { AreRising (joined events.now) }
+    requires rising { AreEventsRising (joined events.now) }
     requires wide { IsWide widest map.now.chains }
     requires ranges { AreInRange map.now.chains }
     requires vertices { AreVerticesTested map.now.chains }
@@ -169,7 +147,7 @@ fn sweep_with(
     care: Care,
 ) -> Result<Option<Told>, AllocError>
     requires events { AreEvents map.now.chains (joined events.now) }
-    requires rising { AreRising (joined events.now) }
+    requires rising { AreEventsRising (joined events.now) }
     requires wide { IsWide widest map.now.chains }
     requires ranges { AreInRange map.now.chains }
     requires vertices { AreVerticesTested map.now.chains }
@@ -177,13 +155,16 @@ fn sweep_with(
     ensures told { IfOk result (λ told. IfSome told (IsTrueSweep map.now gaps)) }
     ensures exact { care ≡ Care.Exact → IfOk result (λ told. ¬ (told ≡ None)) }
 {
-    let mut spots = InnerPoints::new(alloc, map)?;
-    let mut watch = Watch::new(alloc, gaps);
-    match sweep_list(alloc, map, events, care, &mut spots, &mut watch)? {
-        Passage::Passed => {}
-        Passage::Meet(meet) => return Ok(Some(answer_by_meet(alloc, meet))),
-        Passage::Failed => return Ok(None),
+    let mut notes = Findings::new(alloc, map, gaps)?;
+    let deciding = Deciding {
+        alloc,
+        care,
+        asked: gaps,
+    };
+    if !sweep_over(alloc, map, events, &deciding, &mut notes)? {
+        return Ok(stopped(alloc, notes.found));
     }
+    let Findings { spots, watch, .. } = notes;
     let swept = planar(map, &spots);
     let gaps = watch.into_gaps(alloc, map)?;
     Ok(Some(Told {
@@ -191,6 +172,17 @@ fn sweep_with(
         marks: spots.into_marks(),
         gaps,
     }))
+}
+
+/// What is told where a vertex isn't passed, unless no meet was found there.
+fn stopped(alloc: Global, found: Option<Meet>) -> Option<Told>
+    ensures told { (m : TheMap) (gaps : _) → IfSome found (IsTrueMeet m.chains) → IfSome result (IsTrueSweep m gaps) }
+    ensures exact { ¬ (found ≡ None) → ¬ (result ≡ None) }
+{
+    match found {
+        Some(meet) => Some(answer_by_meet(alloc, meet)),
+        None => None,
+    }
 }
 
 /// What is told where two segments meet where they may not.

@@ -8,17 +8,15 @@ ghost use Rattle.tl_check_planar.specs.ByHeight.Heights.{widest};
 ghost use Rattle.tl_check_planar.specs.ByHeight.Neighbours.{AreTested, EachTwo};
 ghost use Rattle.tl_check_planar.specs.Searching.{IsTrueMeet};
 ghost use Rattle.tl_check_faces.specs.Crossings.Headings.{AreProper};
-ghost use Rattle.tl_check_blocks.specs.Lined.{list_of, last_of};
+ghost use Rattle.tl_check_active.specs.Blocks.Lined.{list_of, last_of};
+ghost use Rattle.tl_check_active.specs.Passed.{HasPassed};
 ghost use Rattle.tl_check_gaps.specs.Beside.{IsEastOf};
 ghost use Rattle.tl_check_sweep.specs.Keeping.Exact.{IsNotEastOf, EndsAt, EndsElsewhere, BeginsAt, StandsAt, IsWestOfOther, MayFollow, IsBefore};
-ghost use Rattle.tl_check_gaps.specs.Keeping.Passing.{HasPassed};
 
-use crate::passing::recount_about;
 use crate::suspects::meet_beside;
 use std::alloc::{AllocError, Global};
-use tl_check_active::{are_one, ends, go_to};
-use tl_check_blocks::Line;
-use tl_check_gaps::Watch;
+use tl_check_active::blocks::Line;
+use tl_check_active::{BothSides, are_one, ends, go_to};
 use tl_check_planar::Meet;
 use tl_geom::{Point, turn};
 use tl_map_county::Map;
@@ -197,7 +195,7 @@ fn enter_exactly(map: &Map, line: &mut Line, ins: &[u32]) -> Result<Option<Meet>
     Ok(None)
 }
 
-/// Passes the vertex at a point, with the segments that end there and those that begin there in any order, or tells a meet. The error is that
+/// Passes the vertex at a point, with the segments that end there and those that begin there in any order, or finds a meet. The error is that
 /// memory was refused. It is kept out of where it is called, so that calls of it can be counted.
 #[inline(never)]
 pub fn pass_exactly(
@@ -207,24 +205,28 @@ pub fn pass_exactly(
     line: &mut Line,
     outs: &mut Vec<u32>,
     ins: &mut Vec<u32>,
-    gaps: &mut Option<u64>,
-    watch: &mut Watch,
-) -> Result<Option<Meet>, AllocError>
+    found: &mut Option<Meet>,
+) -> Result<Option<BothSides>, AllocError>
     requires before { IsBefore map.now.chains p (list_of line.old) outs.old.items ins.old.items }
-    ensures meet { IfOk result (λ found. IfSome found (IsTrueMeet map.now.chains)) }
-    ensures none { IfOk result (λ found. found ≡ None → HasPassed map.now.chains p (list_of line.old) (list_of line.new)
-        outs.old.items ins.old.items gaps.old gaps.new watch.old watch.new) }
+    ensures passed { IfOk result (λ passed. IfSome passed (HasPassed map.now.chains (list_of line.old) line.new
+        outs.old.items outs.new.items ins.old.items ins.new.items)) }
+    ensures meet { IfOk result (λ passed. passed ≡ None → IfSome found.new (IsTrueMeet map.now.chains)) }
+    ensures found { IfOk result (λ passed. passed ≡ None → ¬ (found.new ≡ None)) }
 {
     go_exactly(alloc, map, p, line)?;
-    let front = line.previous();
+    let west = line.previous();
     take_ended(map, p, line, outs)?;
     let mut entering = Vec::new(alloc);
     list_by_direction(map, p, ins, &mut entering)?;
-    let found = enter_exactly(map, line, &entering)?;
+    *ins = entering;
+    *found = enter_exactly(map, line, ins)?;
     if found.is_some() {
-        return Ok(found);
+        return Ok(None);
     }
-    let back = line.next();
-    recount_about(map, p, front, outs, &entering, back, gaps, watch)?;
-    Ok(meet_between(map, line.previous(), back))
+    let east = line.next();
+    *found = meet_between(map, line.previous(), east);
+    if found.is_some() {
+        return Ok(None);
+    }
+    Ok(Some(BothSides { west, east }))
 }

@@ -14,9 +14,12 @@
 mod answer;
 mod exact;
 mod meets;
-mod passing;
+mod noting;
+mod remaining;
 mod suspects;
 mod sweeping;
+mod taking;
 
 pub use answer::{SweepReport, Swept, sweep};
 pub use meets::may_meet;
+pub use remaining::{PlanarPart, planar_part};

@@ -6,7 +6,7 @@ ghost use Rattle.tl_check_planar.specs.ByHeight.Heights.{widest};
 ghost use Rattle.tl_check_planar.specs.ByHeight.Neighbours.{IsWide};
 ghost use Rattle.tl_check_planar.specs.ByHeight.Slabs.{AreVerticesTested};
 ghost use Rattle.tl_check_planar.specs.Searching.{IsTrueMeet};
-ghost use Rattle.tl_check_active.specs.Events.{joined, AreEvents, AreRising, IsEvent, one_or_two, AreMet};
+ghost use Rattle.tl_check_active.specs.Events.{joined, AreEvents, AreEventsRising, IsEvent, one_or_two, AreMet};
 ghost use Rattle.tl_check_active.specs.Ranges.{AreInRange};
 ghost use Rattle.tl_check_active.specs.Vertices.{IsAtPlace, IsEndOfChain, MayMeet};
 ghost use Rattle.tl_check_gaps.specs.Keeping.Vertices.{IsLast, AreInOrder, IsInOrderAt};
@@ -89,7 +89,7 @@ fn meet_before(map: &Map, events: &Events, k: usize) -> Option<Meet>
     requires some { 0 < k }
     requires within { k < length events.now }
     requires events { AreEvents map.now.chains (joined events.now) }
-    requires rising { AreRising (joined events.now) }
+    requires rising { AreEventsRising (joined events.now) }
     requires ranges { AreInRange map.now.chains }
     requires proper { AreProper map.now.chains }
     ensures meet { IfSome result (IsTrueMeet map.now.chains) }
@@ -107,7 +107,7 @@ fn meet_before(map: &Map, events: &Events, k: usize) -> Option<Meet>
 /// A meet at a vertex where chains have points that may not be one, if there is such; else vertices are tested.
 pub fn meet_at_vertex(map: &Map, events: &Events) -> Option<Meet>
     requires events { AreEvents map.now.chains (joined events.now) }
-    requires rising { AreRising (joined events.now) }
+    requires rising { AreEventsRising (joined events.now) }
     requires met { All (AreMet map.now.chains) events.now }
     requires wide { IsWide widest map.now.chains }
     requires ranges { AreInRange map.now.chains }

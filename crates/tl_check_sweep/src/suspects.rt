@@ -1,5 +1,5 @@
 //! Segments that may meet where they may not, of which it is asked where a test failed.
-ghost use Rattle.std.specs.Prelude.{◌≡◌, ◌≢◌, ◌+◌, ◌<◌, ◌≤◌, ℕ, None, IfSome, length};
+ghost use Rattle.std.specs.Prelude.{◌≡◌, ◌≢◌, ◌<◌, ◌≤◌, ℕ, None, IfSome, length};
 ghost use Rattle.tl_geom.specs.declared.segment.Segment.{Segment};
 ghost use Rattle.tl_map_county.specs.Segments.{IsSegmentOf, segments_before};
 ghost use Rattle.tl_check_faces.specs.Crossings.Headings.{AreProper};
@@ -9,7 +9,7 @@ ghost use Rattle.tl_check_planar.specs.Searching.{IsTrueMeet};
 ghost use Rattle.tl_check_sweep.specs.Keeping.Pairs.{AreFreeBothWays, IsFreeOfEnds};
 
 use std::alloc::AllocError;
-use tl_check_blocks::Line;
+use tl_check_active::blocks::Line;
 use tl_check_planar::{Meet, Segments};
 use tl_geom::{Contact, contact};
 use tl_map_county::Map;

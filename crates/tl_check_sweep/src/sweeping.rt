@@ -1,25 +1,18 @@
-//! The sweep: from event to event, with the list of active segments.
-ghost use Rattle.std.specs.Prelude.{◌≡◌, [], None, false, IfOk, IfSome, IsTrue};
-ghost use Rattle.tl_check_planar.specs.ByHeight.Heights.{widest};
-ghost use Rattle.tl_check_planar.specs.ByHeight.Neighbours.{IsWide};
+//! What the sweep does that decides: at each vertex it counts how often facing sides differ, tells of gaps and looks for a meet.
+ghost use Rattle.std.specs.Prelude.{◌≡◌, None, Some, [], IfOk, IfSome};
 ghost use Rattle.tl_check_planar.specs.Searching.{IsTrueMeet};
-ghost use Rattle.tl_check_planar.specs.declared.meet.Meet.{Meet};
-ghost use Rattle.tl_check_faces.specs.Crossings.Headings.{AreProper};
-ghost use Rattle.tl_check_active.specs.Events.{joined, AreEvents, AreRising};
-ghost use Rattle.tl_check_blocks.specs.Lined.{list_of};
-ghost use Rattle.tl_check_active.specs.Ranges.{AreInRange};
-ghost use Rattle.tl_check_sweep.specs.Keeping.Exact.{IsBefore, or_failed};
-ghost use Rattle.tl_check_gaps.specs.Keeping.Passing.{HasPassed};
+ghost use Rattle.tl_check_active.specs.Blocks.Lined.{list_of};
+ghost use Rattle.tl_check_active.specs.Passed.{HasPassed};
 ghost use Rattle.tl_check_gaps.specs.Keeping.Spotted.{AreMarks};
-ghost use Rattle.tl_check_gaps.specs.Keeping.Watched.{IsSweptToEnd};
+ghost use Rattle.tl_check_sweep.specs.Keeping.Exact.{IsBefore};
 
 use crate::exact::pass_exactly;
-use crate::passing::pass;
+use crate::noting::note;
 use crate::suspects::{find_meet, list_suspects};
 use std::alloc::{AllocError, Global};
-use tl_check_active::{Events, gather, look_ahead};
-use tl_check_blocks::{Line, Places};
-use tl_check_gaps::{InnerPoints, Watch};
+use tl_check_active::blocks::{Line, Places};
+use tl_check_active::{BothSides, Events, Watcher, pass};
+use tl_check_gaps::{Gaps, InnerPoints, Watch};
 use tl_check_planar::Meet;
 use tl_geom::Point;
 use tl_map_county::Map;
@@ -33,98 +26,97 @@ pub enum Care {
     Exact,
 }
 
-/// How a sweep ends.
+/// A sweep that decides whether chains are planar.
 #[derive(Clone, Copy)]
-pub enum Passage {
-    /// All is passed.
-    Passed,
-    /// Two segments meet where they may not.
-    Meet(Meet),
-    /// A test failed, and no meet was found there.
-    Failed,
+pub struct Deciding {
+    pub alloc: Global,
+    pub care: Care,
+    /// The gaps that are asked for.
+    pub asked: Gaps,
 }
 
-/// Sweeps over all events from the lowest to the highest, looks at the points of polygons on the way, and at gaps. Where a test fails
-/// it ends.
-pub fn sweep_list(
-    alloc: Global,
-    map: &Map,
-    events: &Events,
-    care: Care,
-    spots: &mut InnerPoints,
-    watch: &mut Watch,
-) -> Result<Passage, AllocError>
-    requires events { AreEvents map.now.chains (joined events.now) }
-    requires rising { AreRising (joined events.now) }
-    requires wide { IsWide widest map.now.chains }
-    requires ranges { AreInRange map.now.chains }
-    requires proper { AreProper map.now.chains }
-    requires marks { AreMarks map.now spots.old.marks.items }
-    requires none { watch.old.told.items ≡ [] }
-    ensures passed { IfOk result (λ ending. ending ≡ Passage.Passed → IsSweptToEnd map.now spots.new.marks.items watch.old watch.new) }
-    ensures meet { IfOk result (λ ending. (meet : Meet) → ending ≡ Passage.Meet meet → IsTrueMeet map.now.chains meet) }
-    ensures exact { care ≡ Care.Exact → IfOk result (λ ending. ¬ (ending ≡ Passage.Failed)) }
-{
-    let mut places = Places::new(alloc, map.segments() as usize)?;
-    let mut line = Line::new(alloc);
-    let mut outs = Vec::new(alloc);
-    let mut ins = Vec::new(alloc);
-    sweep_along(
-        alloc,
-        map,
-        events,
-        care,
-        &mut line,
-        &mut outs,
-        &mut ins,
-        &mut places,
-        spots,
-        watch,
-    )
+/// What it notes on its way.
+#[derive(Drop)]
+pub struct Findings {
+    /// How often facing sides differ along the list, if that is counted.
+    pub gaps: Option<u64>,
+    pub spots: InnerPoints,
+    pub watch: Watch,
+    /// Two segments that meet where they may not.
+    pub found: Option<Meet>,
 }
 
-/// Does so with an empty list of active segments, and with lists for those that end and that begin at a vertex.
-fn sweep_along(
-    alloc: Global,
-    map: &Map,
-    events: &Events,
-    care: Care,
-    line: &mut Line,
-    outs: &mut Vec<u32>,
-    ins: &mut Vec<u32>,
-    places: &mut Places,
-    spots: &mut InnerPoints,
-    watch: &mut Watch,
-) -> Result<Passage, AllocError>
-    requires empty { list_of line.old ≡ [] }
-    requires events { AreEvents map.now.chains (joined events.now) }
-    requires rising { AreRising (joined events.now) }
-    requires wide { IsWide widest map.now.chains }
-    requires ranges { AreInRange map.now.chains }
-    requires proper { AreProper map.now.chains }
-    requires marks { AreMarks map.now spots.old.marks.items }
-    requires none { watch.old.told.items ≡ [] }
-    ensures passed { IfOk result (λ ending. ending ≡ Passage.Passed → IsSweptToEnd map.now spots.new.marks.items watch.old watch.new) }
-    ensures meet { IfOk result (λ ending. (meet : Meet) → ending ≡ Passage.Meet meet → IsTrueMeet map.now.chains meet) }
-    ensures exact { care ≡ Care.Exact → IfOk result (λ ending. ¬ (ending ≡ Passage.Failed)) }
-{
-    let mut gaps = Some(0u64);
-    let mut found = None;
-    let mut from = 0;
-    while from < events.len() {
-        look_ahead(map, events, from, line, places);
-        spots.look(map, line, events, from, gaps)?;
-        let to = gather(events, from, outs, ins)?;
-        let p = events.point(from);
-        let is_passed = step(
-            alloc, map, p, care, line, outs, ins, places, &mut gaps, watch, &mut found,
-        )?;
-        if !is_passed {
-            return Ok(or_failed(found));
-        }
-        from = to;
+impl Findings {
+    /// Nothing is found yet. The error is that memory was refused.
+    pub fn new(alloc: Global, map: &Map, asked: Gaps) -> Result<Findings, AllocError>
+        ensures none { IfOk result (λ notes. notes.gaps ≡ Some 0) }
+        ensures marks { IfOk result (λ notes. AreMarks map.now notes.spots.marks.items) }
+        ensures asked { IfOk result (λ notes. notes.watch.asked ≡ asked) }
+        ensures untold { IfOk result (λ notes. notes.watch.told.items ≡ []) }
+    {
+        Ok(Findings {
+            gaps: Some(0),
+            spots: InnerPoints::new(alloc, map)?,
+            watch: Watch::new(alloc, asked),
+            found: None,
+        })
     }
-    Ok(Passage::Passed)
+}
+
+impl Watcher for Deciding {
+    ghost use Rattle.tl_check_sweep.specs.Keeping.UnderWay.{IsUnderWay, HasStopped};
+
+    type Notes = Findings;
+
+    ghost keeps = { λ deciding notes m events from list. IsUnderWay deciding.asked notes m events from list };
+
+    ghost stops = { λ deciding notes m. HasStopped deciding.care notes.found m };
+
+    /// Looks at the points of polygons.
+    #[inline(always)]
+    fn look(
+        &self,
+        notes: &mut Findings,
+        map: &Map,
+        line: &mut Line,
+        events: &Events,
+        from: usize,
+    ) -> Result<(), AllocError> {
+        notes.spots.mark_below(map, line, events, from, notes.gaps)
+    }
+
+    /// Where the vertex isn't passed, a meet is found, or a test failed and no meet was found there.
+    #[inline(always)]
+    fn pass(
+        &self,
+        notes: &mut Findings,
+        map: &Map,
+        events: &Events,
+        from: usize,
+        _to: usize,
+        line: &mut Line,
+        outs: &mut Vec<u32>,
+        ins: &mut Vec<u32>,
+        places: &mut Places,
+    ) -> Result<bool, AllocError> {
+        let p = events.point(from);
+        let Some(both) = step(
+            self.alloc,
+            map,
+            p,
+            self.care,
+            line,
+            outs,
+            ins,
+            places,
+            &mut notes.found,
+        )?
+        else {
+            return Ok(false);
+        };
+        note(map, p, both, outs, ins, &mut notes.gaps, &mut notes.watch)?;
+        Ok(true)
+    }
 }
 
 /// Passes the vertex at a point, with the segments that end there and those that begin there in any order. Where it isn't passed, a meet is
@@ -139,39 +131,37 @@ fn step(
     outs: &mut Vec<u32>,
     ins: &mut Vec<u32>,
     places: &mut Places,
-    gaps: &mut Option<u64>,
-    watch: &mut Watch,
     found: &mut Option<Meet>,
-) -> Result<bool, AllocError>
+) -> Result<Option<BothSides>, AllocError>
     requires before { IsBefore map.now.chains p (list_of line.old) outs.old.items ins.old.items }
-    ensures passed { IfOk result (λ done. IsTrue done → HasPassed map.now.chains p (list_of line.old) (list_of line.new)
-        outs.old.items ins.old.items gaps.old gaps.new watch.old watch.new) }
-    ensures meet { IfOk result (λ done. done ≡ false → IfSome found.new (IsTrueMeet map.now.chains)) }
-    ensures exact { care ≡ Care.Exact → IfOk result (λ done. done ≡ false → ¬ (found.new ≡ None)) }
+    ensures passed { IfOk result (λ passed. IfSome passed (HasPassed map.now.chains (list_of line.old) line.new
+        outs.old.items outs.new.items ins.old.items ins.new.items)) }
+    ensures meet { IfOk result (λ passed. passed ≡ None → IfSome found.new (IsTrueMeet map.now.chains)) }
+    ensures exact { care ≡ Care.Exact → IfOk result (λ passed. passed ≡ None → ¬ (found.new ≡ None)) }
 {
     match care {
         Care::Quick => {
-            if pass(map, p, line, outs, ins, places, gaps, watch)? {
-                return Ok(true);
+            let passed = pass(map, p, line, outs, ins, places)?;
+            if passed.is_none() {
+                *found = find_about(alloc, map, line, outs, ins)?;
             }
-            let mut suspects = Vec::new(alloc);
-            list_suspects(line, outs, ins, &mut suspects)?;
-            *found = find_meet(map, &suspects);
-            Ok(false)
+            Ok(passed)
         }
-        Care::Exact => {
-            *found = pass_exactly(alloc, map, p, line, outs, ins, gaps, watch)?;
-            Ok(found.is_none())
-        }
+        Care::Exact => pass_exactly(alloc, map, p, line, outs, ins, found),
     }
 }
 
-/// A meet that was found where a vertex wasn't passed, if there is one.
-fn or_failed(found: Option<Meet>) -> Passage
-    ensures { result ≡ or_failed found }
+/// A meet of two segments that stand about a vertex, if one is found.
+fn find_about(
+    alloc: Global,
+    map: &Map,
+    line: &Line,
+    outs: &[u32],
+    ins: &[u32],
+) -> Result<Option<Meet>, AllocError>
+    ensures { IfOk result (λ found. IfSome found (IsTrueMeet map.now.chains)) }
 {
-    match found {
-        Some(meet) => Passage::Meet(meet),
-        None => Passage::Failed,
-    }
+    let mut suspects = Vec::new(alloc);
+    list_suspects(line, outs, ins, &mut suspects)?;
+    Ok(find_meet(map, &suspects))
 }

@@ -15,7 +15,7 @@ use Rattle.tl_check_sides.specs.declared.fault.RoundFault.TheVariants as round
 use Rattle.tl_check_sides.specs.declared.fault.WalkFault.{WalkFault}
 use Rattle.tl_check_sides.specs.declared.fault.WalkFault.TheVariants as walk
 use Rattle.tl_check_sides.specs.Lists.{HoldOnce, times_in, list_at}
-use Rattle.tl_check_sides.specs.Rounds.{AreRounds, HasTwoNodes, HasFall, IsRoundFault, HasOneNode, AreRising}
+use Rattle.tl_check_sides.specs.Rounds.{AreRounds, HasTwoNodes, HasFall, IsRoundFault, HasOneNode, AreHeadingsRising}
 use Rattle.tl_check_sides.specs.Walks.{AreWalks, IsWalkFault}
 use Rattle.tl_check_sides.proofs.Headings.{with_heads}
 use Rattle.tl_check_inside.specs.declared.misplaced.Misplaced.{Misplaced}
@@ -117,7 +117,7 @@ one_start chains xs one two =
     let same : two.one ≡ two.other = cc in
     two.differ same
 
-no_fall : (chains : List MapChain) (xs : List ℕ) → AreRising chains xs → ¬ HasFall chains xs
+no_fall : (chains : List MapChain) (xs : List ℕ) → AreHeadingsRising chains xs → ¬ HasFall chains xs
 no_fall chains xs rising fall =
     fall.falls (with_heads chains _ _ fall.first fall.second (rising fall.place fall.within) fall.place_heads fall.behind_heads)
 

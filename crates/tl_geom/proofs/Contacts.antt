@@ -35,7 +35,7 @@ squeezed a b p q h k e =
     ⊎_elim (λ h. ⊎_elim (λ k. omega (arith, ints, h.0, h.1, k.0, k.1, e)) (λ k. omega (arith, ints, h.0, h.1, k.0, k.1, e)) k)
     (λ h. ⊎_elim (λ k. omega (arith, ints, h.0, h.1, k.0, k.1, e)) (λ k. omega (arith, ints, h.0, h.1, k.0, k.1, e)) k) h
 
-exchanged : (p q v : ℤ) → IsBetween p q v → IsBetween q p v
+pub exchanged : (p q v : ℤ) → IsBetween p q v → IsBetween q p v
 exchanged p q v = ⊎_elim (λ k. inr k) (λ k. inl k)
 
 twice : (x d a p q : ℤ) → x *ℤ pos 1 ≡ a *ℤ d → x ≡ p +ℤ q → d ≡ pos 2 → p +ℤ q ≡ a +ℤ a

@@ -85,7 +85,7 @@ found s t d n m p h k l =
 turned : (s : Segment) (d n : ℤ) (p : Point) → IsEndAt s d n p → IsEndAt s (neg_ℤ d) (neg_ℤ n) p
 turned s d n p = ⊎_elim (λ k. let e = k.1 in inl (k.0, omega (arith, ints, e))) (λ k. inr (k.0, ap neg_ℤ k.1))
 
-twice : (z : ℤ) → neg_ℤ (neg_ℤ z) ≡ z
+pub twice : (z : ℤ) → neg_ℤ (neg_ℤ z) ≡ z
 twice z = omega (arith, ints)
 
 pub end_alone : (s t : Segment) (p : Point) → IsEndOfBoth s t p → step_cross s.a s.b t.a t.b ≢ pos 0 → MeetAtEnds s t p

@@ -5,6 +5,7 @@ pub mod Places
 pub mod Lines
 pub mod Crossings
 pub mod Rectangles
+pub mod AtPoints
 pub mod Rays
 pub mod Conditions
 pub mod Halves

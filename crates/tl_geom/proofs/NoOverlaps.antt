@@ -14,6 +14,7 @@ use Rattle.tl_geom.proofs.Lines.{within_first, within_second}
 use Rattle.tl_geom.proofs.Crossings.{only_place}
 use Rattle.tl_geom.proofs.Meetings.{beside}
 use Rattle.tl_geom.proofs.Overlaps.{AreFound, in_line_made, in_line_at_ends, in_line_apart}
+use Rattle.tl_geom.proofs.Ends.{twice as twice_opposite}
 
 -- the ends of an overlap are shared
 first_shared : (s t o : Segment) → IsOverlap s t o → IsShared s t (whole o.a)
@@ -37,9 +38,6 @@ shares_no_overlap s t d n m h o k =
     let first : (pos 0 ≤ℤ n) × (n ≤ℤ d) = within_first s t d n m h (whole o.a) (first_shared s t o k) in
     let second : (pos 0 ≤ℤ m) × (m ≤ℤ d) = within_second s t d n m h (whole o.a) (first_shared s t o k) in
     only_no_overlap s t (place s n d h.above_zero) (only_place s t d n m h first.0 first.1 second.0 second.1) o k
-
-twice_opposite : (z : ℤ) → neg_ℤ (neg_ℤ z) ≡ z
-twice_opposite z = omega (arith, ints)
 
 -- segments with an overlap are in line
 pub overlap_in_line : (s t o : Segment) → IsOverlap s t o → AreInLine s t

@@ -98,7 +98,7 @@ part_between a b n d h k =
     let q0 : n *ℤ pos 0 ≡ pos 0 = same (num n ⊗ num (pos 0)) (num (pos 0)) (omega arith) in
     (omega (arith, ints, q, q0), omega (arith, ints, rest, p, p0))))
 
-part_straight : (ux uy ax ay n d : ℤ) → cross ux uy (d *ℤ ax +ℤ n *ℤ ux -ℤ d *ℤ ax) (d *ℤ ay +ℤ n *ℤ uy -ℤ d *ℤ ay) ≡ pos 0
+pub part_straight : (ux uy ax ay n d : ℤ) → cross ux uy (d *ℤ ax +ℤ n *ℤ ux -ℤ d *ℤ ax) (d *ℤ ay +ℤ n *ℤ uy -ℤ d *ℤ ay) ≡ pos 0
 part_straight ux uy ax ay n d =
     let u = num ux in let v = num uy in let m = num d in let k = num n in
     same (u ⊗ (m ⊗ num ay ⊕ k ⊗ v ⊖ m ⊗ num ay) ⊖ v ⊗ (m ⊗ num ax ⊕ k ⊗ u ⊖ m ⊗ num ax)) (num (pos 0)) (omega arith)

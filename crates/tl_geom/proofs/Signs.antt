@@ -51,7 +51,7 @@ product_above a b h k = let m : (a *ℤ pos 0) <ℤ (a *ℤ b) = mono_lt a (pos 
 pub sign : (z : ℤ) → (z <ℤ pos 0) ⊎ ((z ≡ pos 0) ⊎ (pos 0 <ℤ z))
 sign z = by_lt_z z (pos 0) (λ h. inl h) (λ h. inr (by_lt_z (pos 0) z (λ k. inr k) (λ k. inl (omega (arith, ints, h, k)))))
 
-negated : (a b : ℤ) → (pos 0 -ℤ a) *ℤ (pos 0 -ℤ b) ≡ a *ℤ b
+pub negated : (a b : ℤ) → (pos 0 -ℤ a) *ℤ (pos 0 -ℤ b) ≡ a *ℤ b
 negated a b = same ((num (pos 0) ⊖ num a) ⊗ (num (pos 0) ⊖ num b)) (num a ⊗ num b) (omega arith)
 
 pub square_above : (a : ℤ) → a ≢ pos 0 → pos 0 <ℤ (a *ℤ a)
@@ -88,7 +88,7 @@ between_product p q v b =
 product_below : (a b : ℤ) → pos 0 <ℤ a → b <ℤ pos 0 → (a *ℤ b) <ℤ pos 0
 product_below a b h k = let m : (a *ℤ b) <ℤ (a *ℤ pos 0) = mono_lt a b (pos 0) h k in omega (arith, ints, m, times_zero a)
 
-product_below' : (a b : ℤ) → a <ℤ pos 0 → pos 0 <ℤ b → (a *ℤ b) <ℤ pos 0
+pub product_below' : (a b : ℤ) → a <ℤ pos 0 → pos 0 <ℤ b → (a *ℤ b) <ℤ pos 0
 product_below' a b h k =
     subst (λ z. z <ℤ pos 0) (negated a b) (let m : ((pos 0 -ℤ b) *ℤ (pos 0 -ℤ a)) ≡ (pos 0 -ℤ a) *ℤ (pos 0 -ℤ b) = same ((num (pos 0) ⊖ num b) ⊗ (num (pos 0) ⊖ num a)) ((num (pos 0) ⊖ num a) ⊗ (num (pos 0) ⊖ num b)) (omega arith) in
     product_below (pos 0 -ℤ a) (pos 0 -ℤ b) (omega (arith, ints, h)) (omega (arith, ints, k)))

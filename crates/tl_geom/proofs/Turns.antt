@@ -178,7 +178,7 @@ low-bits d (suc (suc zero)) h = omega arith
 low-bits d (suc (suc (suc zero))) h = omega arith
 low-bits d (suc (suc (suc (suc k)))) h = absurd (omega (arith, h))
 
-below-or : (k n : ℕ) → (k < n) ⊎ (n ≤ k)
+pub below-or : (k n : ℕ) → (k < n) ⊎ (n ≤ k)
 below-or k zero = inr (omega arith)
 below-or zero (suc n) = inl (omega arith)
 below-or (suc k) (suc n) = ⊎_elim (λ h. inl (omega (arith, h))) (λ h. inr (omega (arith, h))) (below-or k n)

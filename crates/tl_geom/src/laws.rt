@@ -33,7 +33,7 @@ pub fn point_on_segment(s: Segment, p: Point)
 /// A ray to the east meets the rectangle of each segment that it crosses. The ray of `q` lies in the rectangle from `q` to
 /// the greatest `i32` at the height of `q`.
 pub fn crossed_segment(s: Segment, q: Point)
-    ensures { Crosses s q → AreMeeting (rect_of s) (ray_rect q) }
+    ensures { Crosses s (whole q) → AreMeeting (rect_of s) (ray_rect q) }
 {
     // that the ends are within the range of an i32
     let (_first, _last) = (s.a().x, s.b().x);

@@ -1,5 +1,6 @@
 //! Rays to the east.
 ghost use Rattle.std.specs.Prelude.{◌↔◌, IsTrue};
+ghost use Rattle.tl_geom.specs.Plane.{whole};
 ghost use Rattle.tl_geom.specs.Ray.{Crosses};
 
 use crate::{Point, Segment, turn};
@@ -9,7 +10,7 @@ use crate::{Point, Segment, turn};
 /// segments that go on upward or downward, and a horizontal segment never counts. The half-open rule is this project's own
 /// choice, the usual one for crossing counts.
 pub fn crosses_ray(s: Segment, q: Point) -> bool
-    ensures { IsTrue result ↔ Crosses s q }
+    ensures { IsTrue result ↔ Crosses s (whole q) }
 {
     let (a, b) = (s.a(), s.b());
     if a.y <= q.y && q.y < b.y {

@@ -15,19 +15,19 @@ use Rattle.tl_record.specs.Lines.{raw_lines}
 use Rattle.tl_record.specs.Refusals.{refusals_of}
 use Rattle.tl_record.specs.Searching.{pair_of}
 use Rattle.tl_record.proofs.RefusalLemmas.{first_refusal}
-use Rattle.tl_list_records.specs.Refusals.Listing.{ListsAll}
+use Rattle.tl_map_rules.specs.Listing.Refusals.Listing.{ListsAll}
 use Rattle.tl_map_rules.specs.declared.fault.RecordFault.{RecordFault}
 use Rattle.tl_map_rules.specs.declared.lacking.Lacking.{Lacking}
 use Rattle.tl_map_rules.specs.Lacking.{lacks, lacking_where}
 use Rattle.tl_map_rules.specs.Reading.{IsReadFrom, lacking_of}
 use Rattle.tl_map_county.specs.TheMap.{TheMap}
-use Rattle.tl_list_records.specs.AllFaults.{AreAllFaults}
+use Rattle.tl_map_rules.specs.Listing.AllFaults.{AreAllFaults}
 use Rattle.tl_check_verdict.specs.Records.{HaveMap}
 use Rattle.tl_list_text.specs.declared.listing.Listing.{Listing}
 use Rattle.tl_list_text.specs.declared.listing.Listing.TheVariants.{Sound, Refused, Faults}
 use Rattle.tl_map.specs.declared.collected.CollectedRecords.{CollectedRecords}
 use Rattle.tl_map.specs.Collecting.{HasCollected, IsMapOfRecords}
-use Rattle.tl_list_map.specs.MapListings.{IsListingFor}
+use Rattle.tl_list.specs.MapListings.{IsListingFor}
 use Rattle.tl_list.specs.Listings.{IsListingOf, told_with}
 use Rattle.tl_list.proofs.Lacked.{told_some, lack_some, begin_with_records}
 use Rattle.tl_list.specs.Keeping.Reading.{AreWhole, KeepsAll, IsStopped}
@@ -37,7 +37,7 @@ use Rattle.tl_list.specs.declared.left.LeftFaults.{LeftFaults}
 use Rattle.tl_list.specs.Findings.{AreOfMap, AreFindingsOf, AreFaultsOf, IsMapIfAny, BeginWithRecords, SaysWhy, IsLeft, IsFoundIn}
 use Rattle.tl_list.specs.Keeping.OfRecords.{IsListingOfRecords, AreFindingsOfRecords, IsListOf, AreTold, AreRead, AreLeftOf}
 use Rattle.tl_map_rules.specs.Faults.{IsTrueOf}
-use Rattle.tl_list_map.proofs.Emptiness.{map_empty, none_held}
+use Rattle.tl_decide.proofs.Emptiness.{map_empty, none_held}
 
 read_from : (all : Records) (rs : List Record) (skipped : ℕ) (m : TheMap) → AreWhole all skipped rs → lacks (lacking_of all) ≡ false → IsMapOfRecords rs skipped m → IsReadFrom all m
 read_from all rs skipped m whole none made = record {
@@ -54,7 +54,7 @@ pub drawn : (faces : Bool) (all : Records) (rs : List Record) (skipped : ℕ) (m
 drawn faces all rs skipped m (Sound report) whole none made told = record { map = m; is_read = read_from all rs skipped m whole none made; so = told }
 drawn faces all rs skipped m (Refused list) whole none made told = absurd told
 drawn faces all rs skipped m (Faults faults touched) whole none made told =
-    (told.0, whole.no_refusal, inr (record { map = m; is_read = read_from all rs skipped m whole none made; so = told.1 }))
+    (told.0, whole.no_refusal, inr (record { map = m; is_read = read_from all rs skipped m whole none made; so = told.1.0 }))
 
 -- faults of records are told
 pub told_of_records : (faces : Bool) (all : Records) (rs : List Record) (skipped : ℕ) (lacking : Lacking) (told : List RecordFault) (listing : Listing) → AreWhole all skipped rs

@@ -11,8 +11,8 @@ use Rattle.tl_record.specs.Leaving.{GivesLeft}
 use Rattle.tl_map_rules.specs.Reading.{records_in}
 use Rattle.std.specs.Option.{option_map}
 use Rattle.tl_record.specs.Records.{joined_where}
-use Rattle.tl_map_join.specs.Told.{joined_records}
-use Rattle.tl_map_join.proofs.JoinLemmas.{records_joined}
+use Rattle.tl_map.specs.Joined.Told.{joined_records}
+use Rattle.tl_map.proofs.JoinedLemmas.JoinLemmas.{records_joined}
 use Rattle.tl_map.proofs.GatherLemmas.{so_far_first, so_far_more, known_whole}
 use Rattle.tl_map.specs.declared.collected.CollectedRecords.{CollectedRecords}
 use Rattle.tl_map.specs.Collecting.{HasCollected}

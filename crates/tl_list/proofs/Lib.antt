@@ -1,6 +1,5 @@
 mod Lists
 mod Lacked
-mod Truth
 mod Sounding
 mod Told
 mod Gathering

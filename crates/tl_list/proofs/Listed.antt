@@ -24,13 +24,13 @@ use Rattle.tl_check_verdict.proofs.OneMap.{both, weaker}
 use Rattle.tl_check_verdict.proofs.Deciding.{not_sound_records}
 use Rattle.tl_list_text.specs.declared.listing.Listing.{Listing}
 use Rattle.tl_list_text.specs.declared.listing.Listing.TheVariants.{Sound, Refused, Faults}
-use Rattle.tl_list_map.specs.MapFaults.{AreFaultsFor}
+use Rattle.tl_decide.specs.MapFaults.{AreFaultsFor, IsTrueAmong}
 use Rattle.tl_list.specs.Listings.{AreRecordFaults, AreFaults, IsListingOf, stands_alone, lack_told}
-use Rattle.tl_list.specs.Telling.{IsTold, Tells, SaysSound, EachFault, IsTrueAmong, IsTrueAmongFaults}
-use Rattle.tl_list_map.proofs.Emptiness.{map_empty}
+use Rattle.tl_list.specs.Telling.{StandsInList, Tells, SaysSound, EachFault, IsTrueAmongFaults}
+use Rattle.tl_decide.proofs.Emptiness.{map_empty}
 use Rattle.tl_list.proofs.Lists.{some_first, none_first}
 use Rattle.tl_list.proofs.Lacked.{some_of, told_or_caused, lack_is_told}
-use Rattle.tl_list.proofs.Truth.{each_is_true_for, among_denies}
+use Rattle.tl_decide.proofs.Truth.{each_is_true_for, among_denies}
 use Rattle.tl_list.proofs.Told.{told_for}
 use Rattle.tl_list.proofs.Assembling.{first_is}
 
@@ -149,12 +149,12 @@ module _ (faces : Bool) (all : Records) (faults : List MapFault) (touched : ℕ)
       have.is_read.no_fault first.0 (held_so (IsTrueOf (records_in all)) of_records.told first.0 of_records.are_all.each first.1)
 
   map_told : (f : MapFault) → HaveMap all (λ m. AreFaultsFor faces m faults touched) → HaveMap all (λ m. IsTrueAmong faces m f)
-      → IsTold faults touched f
+      → StandsInList faults touched f
   map_told f have true_one =
       let one = both all (λ m. AreFaultsFor faces m faults touched) (λ m. IsTrueAmong faces m f) have true_one in
       told_for faces one.map faults touched one.so.0 f one.so.1
 
-  fault_told : (f : MapFault) → faults ≢ [] → AreFaults faces all faults touched → IsTrueAmongFaults faces all f → IsTold faults touched f
+  fault_told : (f : MapFault) → faults ≢ [] → AreFaults faces all faults touched → IsTrueAmongFaults faces all f → StandsInList faults touched f
   fault_told (fault.Records f) some (inl of_records) true_one =
       rw of_records.0.are (told_or_caused (lacking_of all) of_records.0.told f (of_records.0.are_all.every f true_one.1))
   fault_told (fault.Records f) some (inr have) true_one = absurd (have.is_read.no_fault f true_one.1)

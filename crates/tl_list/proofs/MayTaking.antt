@@ -10,7 +10,7 @@ use Rattle.tl_record.specs.Limits.{most_lines}
 use Rattle.tl_record.specs.Records.{Records}
 use Rattle.tl_record.specs.Reader.{KeepsRecords, KeepsRefusals, refusals_to_come, skipped_of}
 use Rattle.tl_record.specs.Leaving.{GivesLeft, left_to_come}
-use Rattle.tl_list_records.specs.Refusals.Listing.{ListsSoFar}
+use Rattle.tl_map_rules.specs.Listing.Refusals.Listing.{ListsSoFar}
 use Rattle.tl_list.specs.declared.reading.Taken.{Taken}
 use Rattle.tl_list.specs.Keeping.Noting.{NotesOne, NotesRecords}
 use Rattle.tl_list.specs.Keeping.Reading.{Takes, TakesOne, MaySoFar, MayTake, taken_if}

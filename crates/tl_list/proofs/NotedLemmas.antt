@@ -25,7 +25,7 @@ use Rattle.tl_record.specs.Leaving.{GivesLeft}
 use Rattle.tl_record.specs.Fronts.{PassesLines, IsFront, TakesLines, WhereOn, lines_ahead}
 use Rattle.tl_record.proofs.FrontLemmas.{passes-trans}
 use Rattle.tl_record.specs.Searching.{pair_of}
-use Rattle.tl_list_records.specs.Refusals.Listing.{ListsAll}
+use Rattle.tl_map_rules.specs.Listing.Refusals.Listing.{ListsAll}
 use Rattle.tl_record.specs.Left.{left_of}
 use Rattle.tl_record.specs.Fronts.{front_in}
 use Rattle.tl_list_text.specs.declared.listing.Listing.{Listing}

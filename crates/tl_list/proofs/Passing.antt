@@ -19,10 +19,10 @@ use Rattle.tl_cert_output.specs.declared.stop.Stop.{Stop}
 use Rattle.tl_cert_output.specs.declared.stop.Stop.TheVariants.{Record, Memory, Budget}
 use Rattle.tl_cert_output.specs.declared.stop.Stop.TheVariants.{Device as DeviceStop}
 use Rattle.tl_cert_output.specs.Stops.{TellsDevice}
-use Rattle.tl_list_records.specs.Refusals.Listing.{BeginsWith, ListsAll, ListsSoFar}
-use Rattle.tl_list_records.specs.Refusals.Listing.{TellsDevice as TellsDeviceAt}
+use Rattle.tl_map_rules.specs.Listing.Refusals.Listing.{BeginsWith, ListsAll, ListsSoFar}
+use Rattle.tl_map_rules.specs.Listing.Refusals.Listing.{TellsDevice as TellsDeviceAt}
 use Rattle.tl_list.specs.Keeping.Reading.{IsStopped, ListsFrom}
-use Rattle.tl_list_map.proofs.Emptiness.{none_held}
+use Rattle.tl_decide.proofs.Emptiness.{none_held}
 
 first_held : (first : Refusal) → Contains (first ∷ []) first
 first_held first = (0, omega arith, refl)

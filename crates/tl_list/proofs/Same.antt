@@ -2,7 +2,7 @@
 use Rattle.std.proofs.Common.{◌≡◌, ◌≢◌, ◌<◌, inl, inr, ℕ, suc, ◌≤ℤ◌, Bool, List, [], ◌∷◌, ◌++◌, map, length}
 use Rattle.std.proofs.Common.{refl, sym, ap, ap₂, subst, ◌∙◌, arith}
 use Rattle.std.specs.List.{All, Any, Contains}
-use Rattle.std.proofs.lemmas.List.Elements.{All-contains}
+use Rattle.std.proofs.lemmas.List.Elements.{All-nil, All-cons, All-contains}
 use Rattle.std.proofs.lemmas.List.Kept.{AllPairs-from_increasing}
 use Rattle.std.proofs.lemmas.Int.{ints}
 use Rattle.tl_record.specs.declared.options.Options.{Options}
@@ -12,7 +12,7 @@ use Rattle.tl_record.specs.declared.refusal.Refusal.{Refusal}
 use Rattle.tl_record.specs.Records.{Records, records_of}
 use Rattle.tl_record.specs.Searching.{pair_of}
 use Rattle.tl_map_rules.specs.Reading.{records_in, lacking_of}
-use Rattle.tl_list_records.proofs.OneListLemmas.{one_list as one_list_of_records}
+use Rattle.tl_map_rules.proofs.ListingLemmas.OneListLemmas.{one_list as one_list_of_records}
 use Rattle.tl_map_county.specs.TheMap.{TheMap}
 use Rattle.tl_check_planar.specs.declared.meet.Meet.{Meet}
 use Rattle.tl_check_planar.specs.Searching.{IsTrueMeet}
@@ -20,13 +20,13 @@ use Rattle.tl_check_sides.specs.declared.fault.Disagreement.{Disagreement}
 use Rattle.tl_check_sides.specs.declared.cells.at_odds.CellsAtOdds.{CellsAtOdds}
 use Rattle.tl_check_sides.proofs.CellsLemmas.Cells.{one_id}
 use Rattle.tl_check_inside.specs.declared.misplaced.Misplaced.{Misplaced}
-use Rattle.tl_check_meets.specs.Meets.{AreAllMeets}
-use Rattle.tl_list_nodes.specs.Disagreements.{HaveSidesAtOdds, AreAllDisagreements}
-use Rattle.tl_list_nodes.specs.CellOdds.{AreToldAtOdds, AreAllCellsAtOdds}
-use Rattle.tl_list_nodes.proofs.Agreeing.{at_odds}
-use Rattle.tl_list_points.specs.AllMisplaced.{AreAllMisplaced}
-use Rattle.tl_list_nodes.specs.Touched.{IsTouched, AreAllTouched}
-use Rattle.tl_list_points.proofs.Unique.{one_list}
+use Rattle.tl_check_planar.specs.Listing.Meets.{AreAllMeets}
+use Rattle.tl_check_sides.specs.Listing.Disagreements.{HaveSidesAtOdds, AreAllDisagreements}
+use Rattle.tl_check_sides.specs.Listing.CellOdds.{AreToldAtOdds, AreAllCellsAtOdds}
+use Rattle.tl_check_sides.proofs.ListingLemmas.Agreeing.{at_odds}
+use Rattle.tl_check_points.specs.Listing.AllMisplaced.{AreAllMisplaced}
+use Rattle.tl_check_sides.specs.Listing.Touched.{IsTouched, AreAllTouched}
+use Rattle.tl_check_points.proofs.ListingLemmas.Unique.{one_list}
 use Rattle.tl_check_verdict.specs.declared.fault.MapFault.{MapFault}
 use Rattle.tl_check_verdict.specs.declared.fault.MapFault.TheVariants as fault
 use Rattle.tl_check_verdict.specs.declared.verdict.Report.{Report}
@@ -36,21 +36,17 @@ use Rattle.tl_check_verdict.specs.Records.{HaveMap}
 use Rattle.tl_check_verdict.proofs.OneMap.{both}
 use Rattle.tl_list_text.specs.declared.listing.Listing.{Listing}
 use Rattle.tl_list_text.specs.declared.listing.Listing.TheVariants.{Sound, Refused, Faults}
-use Rattle.tl_list_map.specs.MapFaults.{side_fault, AreMapFaults, AreFacesTold, AreFaultsFor}
+use Rattle.tl_decide.specs.MapFaults.{side_fault, AreMapFaults, AreFacesTold, AreFaultsFor}
 use Rattle.tl_list.specs.Listings.{AreFaults, IsListingOf, told_with}
 use Rattle.tl_list.specs.Alike.{IsSameFault, AreSameFaults, HaveSameNumbers, AreAlike}
 use Rattle.tl_list.proofs.OneOrder.{AreOne, AreInOne, one_order}
 use Rattle.tl_list.proofs.Listed.{none_is_refused, sound_alone, no_map}
-use Rattle.tl_list_map.proofs.Emptiness.{map_empty}
-use Rattle.tl_check_planar.specs.ByHeight.Heights.{height, widest}
-use Rattle.tl_check_faces.specs.declared.odd.OddGap.{OddGap}
+use Rattle.tl_decide.proofs.Emptiness.{map_empty}
 use Rattle.tl_check_faces.specs.declared.fault.FaceFault.{FaceFault}
-use Rattle.tl_check_faces.specs.Odd.{IsOddGap, IsLowestOddGap}
-use Rattle.tl_check_faces.specs.Faults.{IsOfGap}
-use Rattle.tl_check_gaps.specs.Gaps.{order_of, AreAllOddGaps}
+use Rattle.tl_check_faces.specs.Faults.{IsFaultBetween}
+use Rattle.tl_check_faces.specs.AllFaults.{WestAndEast, AreAllFaceFaults, order_of}
 use Rattle.tl_check_gaps.proofs.Keeping.{one_by_order}
-use Rattle.tl_check_gaps.proofs.Lowest.{at_odds as odd_sides, all_lowest}
-use Rattle.tl_check_face_faults.proofs.Exact.{one_fault}
+use Rattle.tl_check_gaps.proofs.FaceFaults.Exact.{one_fault}
 use Rattle.std.specs.List.{AllZip}
 
 -- ---- lists of the same faults
@@ -180,53 +176,44 @@ module _ (m : TheMap) where
 -- ---- lists of faces that disagree
 
 module _ (m : TheMap) where
-  gaps_in_one : (a b : List OddGap) → AreAllOddGaps widest m.chains a → AreAllOddGaps widest m.chains b
-      → AreInOne (λ g. order_of g.west) (λ g. order_of g.east) a b
-  gaps_in_one a b all others =
-      one_order (λ g. order_of g.west) (λ g. order_of g.east) a b all.in_order others.in_order (named a b all others) (named b a others all)
+  abbrev IsBetween : WestAndEast → FaceFault → Type 0
+  IsBetween sides fault = IsFaultBetween m sides.west sides.east fault
+
+  some_fault : (xs : List WestAndEast) (f : List FaceFault) → AllZip IsBetween xs f → All (λ x. (fault : FaceFault) × IsBetween x fault) xs
+  some_fault [] f each = All-nil (λ x. (fault : FaceFault) × IsBetween x fault)
+  some_fault (x ∷ xs) [] each = absurd each
+  some_fault (x ∷ xs) (a ∷ f) each = All-cons (λ x. (fault : FaceFault) × IsBetween x fault) x xs (a, each.0) (some_fault xs f each.1)
+
+  in_one : (f g : List FaceFault) (all : AreAllFaceFaults m f) (others : AreAllFaceFaults m g)
+      → AreInOne (λ x. order_of x.west) (λ x. order_of x.east) all.between others.between
+  in_one f g all others =
+      one_order (λ x. order_of x.west) (λ x. order_of x.east) all.between others.between all.in_order others.in_order (named f g all others)
+      (named g f others all)
     where
-      named : (a b : List OddGap) → AreAllOddGaps widest m.chains a → AreAllOddGaps widest m.chains b → (x : OddGap) → Contains a x
-          → Any (AreOne (λ g. order_of g.west) (λ g. order_of g.east) x) b
-      named a b all others x held =
-          let odd : IsOddGap widest m.chains x = All-contains (IsOddGap widest m.chains) a x all.true_ones held in
-          let found = others.complete (height widest x.at) odd.front odd.back odd.listed (odd_sides widest m.chains x odd) in (
-            found.0,
-            found.1,
-            found.2,
-            found.3,
-            record {
-              first_is = ap order_of odd.is_west ∙ ap order_of (sym found.4.0);
-              second_is = ap order_of odd.is_east ∙ ap order_of (sym found.4.1);
-            },
-          )
+      named : (f g : List FaceFault) (all : AreAllFaceFaults m f) (others : AreAllFaceFaults m g) (x : WestAndEast) → Contains all.between x
+          → Any (AreOne (λ x. order_of x.west) (λ x. order_of x.east) x) others.between
+      named f g all others x held =
+          let of = All-contains (λ x. (fault : FaceFault) × IsBetween x fault) all.between x (some_fault all.between f all.each) held in
+          let found = others.complete of.1.n x of.1.differ in
+          (found.0, x, found.1, found.2, record { first_is = refl; second_is = refl })
 
-  -- of the same two segments there is one lowest gap, and of that one fault
-  one_gap : (x y : OddGap) (f g : FaceFault) → IsLowestOddGap widest m.chains x → IsLowestOddGap widest m.chains y
-      → AreOne (λ g. order_of g.west) (λ g. order_of g.east) x y → IsOfGap widest m x f → IsOfGap widest m y g → f ≡ g
-  one_gap x y f g low low' one of of' =
-      let west : x.west ≡ y.west = one_by_order x.west y.west one.first_is in
-      let east : x.east ≡ y.east = one_by_order x.east y.east one.second_is in
-      let up : height widest x.at ≤ℤ height widest y.at = low.lowest y low'.is (sym west) (sym east) in
-      let down : height widest y.at ≤ℤ height widest x.at = low'.lowest x low.is west east in
-      one_fault m x y f g (omega (arith, ints, up, down)) west east of of'
-
-  one_each : (xs ys : List OddGap) (f g : List FaceFault) → All (IsLowestOddGap widest m.chains) xs → All (IsLowestOddGap widest m.chains) ys
-      → AreInOne (λ g. order_of g.west) (λ g. order_of g.east) xs ys → AllZip (IsOfGap widest m) xs f → AllZip (IsOfGap widest m) ys g → f ≡ g
-  one_each [] [] [] [] low low' one each other = refl
-  one_each [] [] [] (y ∷ g) low low' one each other = absurd other
-  one_each [] [] (x ∷ f) g low low' one each other = absurd each
-  one_each [] (y ∷ ys) f g low low' one each other = absurd one
-  one_each (x ∷ xs) [] f g low low' one each other = absurd one
-  one_each (x ∷ xs) (y ∷ ys) [] g low low' one each other = absurd each
-  one_each (x ∷ xs) (y ∷ ys) (a ∷ f) [] low low' one each other = absurd other
-  one_each (x ∷ xs) (y ∷ ys) (a ∷ f) (b ∷ g) low low' one each other =
-      ap₂ (λ h t. h ∷ t) (one_gap x y a b (low 0 x (omega arith)) (low' 0 y (omega arith)) one.0 each.0 other.0)
-      (one_each xs ys f g (λ k d lt. low (suc k) d (omega (arith, lt))) (λ k d lt. low' (suc k) d (omega (arith, lt))) one.1 each.1 other.1)
+  one_each : (xs ys : List WestAndEast) (f g : List FaceFault) → AreInOne (λ x. order_of x.west) (λ x. order_of x.east) xs ys
+      → AllZip IsBetween xs f → AllZip IsBetween ys g → f ≡ g
+  one_each [] [] [] [] one each other = refl
+  one_each [] [] [] (b ∷ g) one each other = absurd other
+  one_each [] [] (a ∷ f) g one each other = absurd each
+  one_each [] (y ∷ ys) f g one each other = absurd one
+  one_each (x ∷ xs) [] f g one each other = absurd one
+  one_each (x ∷ xs) (y ∷ ys) [] g one each other = absurd each
+  one_each (x ∷ xs) (y ∷ ys) (a ∷ f) [] one each other = absurd other
+  one_each (x ∷ xs) (y ∷ ys) (a ∷ f) (b ∷ g) one each other =
+      ap₂ (λ h t. h ∷ t)
+      (one_fault m x.west x.east y.west y.east a b (one_by_order x.west y.west one.0.first_is) (one_by_order x.east y.east one.0.second_is) each.0 other.0)
+      (one_each xs ys f g one.1 each.1 other.1)
 
   same_faces : (faces : Bool) (s t : List FaceFault) → AreFacesTold faces m s → AreFacesTold faces m t → s ≡ t
   same_faces faces s t (inl a) (inl b) =
-      one_each a.1.all.gaps b.1.all.gaps s t (all_lowest widest m.chains a.1.all.gaps a.1.all.are) (all_lowest widest m.chains b.1.all.gaps b.1.all.are)
-      (gaps_in_one a.1.all.gaps b.1.all.gaps a.1.all.are b.1.all.are) a.1.all.each b.1.all.each
+      one_each a.1.all.between b.1.all.between s t (in_one s t a.1.all b.1.all) a.1.all.each b.1.all.each
   same_faces faces s t (inl a) (inr b) = absurd (b.0 a.0)
   same_faces faces s t (inr a) (inl b) = absurd (a.0 b.0)
   same_faces faces s t (inr a) (inr b) = a.1 ∙ sym b.1

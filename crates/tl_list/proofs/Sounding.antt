@@ -8,9 +8,10 @@ use Rattle.tl_check_verdict.specs.declared.fault.MapFault.TheVariants as fault
 use Rattle.tl_check_verdict.specs.Sound.{IsSound}
 use Rattle.tl_check_verdict.proofs.Denials.{not_sound_alone}
 use Rattle.tl_list_text.specs.declared.listing.Listing.TheVariants.{Faults}
-use Rattle.tl_list.specs.Telling.{IsTrueAmong}
-use Rattle.tl_list_map.specs.MapListings.{IsListingFor, is_of_faces, begins_with_faces}
-use Rattle.tl_list.proofs.Truth.{each_is_true_for}
+use Rattle.tl_decide.specs.MapFaults.{IsTrueAmong}
+use Rattle.tl_decide.specs.Deciding.{is_of_faces, begins_with_faces}
+use Rattle.tl_list.specs.MapListings.{IsListingFor}
+use Rattle.tl_decide.proofs.Truth.{each_is_true_for}
 
 module _ (faces : Bool) (m : TheMap) where
   -- of a sound map nothing is true but faults of faces
@@ -30,4 +31,4 @@ module _ (faces : Bool) (m : TheMap) where
   -- so the first that is listed says whether the map is sound
   pub decided_by_first : (faults : Vec MapFault Global) (touched : ℕ) → IsListingFor faces m (Faults faults touched)
       → IsTrue (begins_with_faces faults.items) ↔ IsSound m
-  decided_by_first faults touched told = (told.2, begins faults.items told.0 (each_is_true_for faces m faults.items touched told.1))
+  decided_by_first faults touched told = (told.1.1, begins faults.items told.0 (each_is_true_for faces m faults.items touched told.1.0))

@@ -3,8 +3,8 @@ use Rattle.std.proofs.Common.{ℕ, ◌+◌, ◌<◌, Bool, true, false, List, []
 use Rattle.std.proofs.Math.Seq.{take-suc}
 use Rattle.std.specs.Prelude.{Result, OnOk, IfOk}
 use Rattle.tl_record.specs.declared.record.Record.{Record}
-use Rattle.tl_map_join.specs.declared.told.ToldRecords.{ToldRecords}
-use Rattle.tl_map_join.specs.Told.{HasTold, joined_records}
+use Rattle.tl_map.specs.declared.joined.told.ToldRecords.{ToldRecords}
+use Rattle.tl_map.specs.Joined.Told.{HasTold, joined_records}
 use Rattle.tl_map.specs.declared.collected.CollectedRecords.{CollectedRecords}
 use Rattle.tl_map.specs.Collecting.{HasCollected}
 use Rattle.tl_list.specs.declared.reading.Taken.TheVariants.{Kept, Told}

@@ -9,22 +9,22 @@ use Rattle.tl_check_sides.specs.declared.fault.Disagreement.{Disagreement}
 use Rattle.tl_check_inside.specs.declared.misplaced.Misplaced.{Misplaced}
 use Rattle.tl_check_inside.specs.declared.misplaced.Misplaced.TheVariants.{OnChain, Outside, InOther}
 use Rattle.tl_check_sides.specs.declared.cells.at_odds.CellsAtOdds.{CellsAtOdds}
-use Rattle.tl_list_nodes.specs.Touched.{IsTouched}
-use Rattle.tl_list_points.specs.AllMisplaced.{FaultPlace, IsTrueAt, IsSettled}
-use Rattle.tl_list_points.proofs.Wholes.{place_of}
-use Rattle.tl_list_nodes.specs.CellOdds.{AreAllCellsAtOdds}
-use Rattle.tl_list_nodes.proofs.Emptiness.{cells_agree}
+use Rattle.tl_check_sides.specs.Listing.Touched.{IsTouched}
+use Rattle.tl_check_points.specs.Listing.AllMisplaced.{FaultPlace, IsTrueAt, IsSettled}
+use Rattle.tl_check_points.proofs.ListingLemmas.Wholes.{place_of}
+use Rattle.tl_check_sides.specs.Listing.CellOdds.{AreAllCellsAtOdds}
+use Rattle.tl_check_sides.proofs.ListingLemmas.Emptiness.{cells_agree}
 use Rattle.tl_check_verdict.specs.declared.fault.MapFault.{MapFault}
 use Rattle.tl_check_verdict.specs.declared.fault.MapFault.TheVariants as fault
 use Rattle.tl_check_verdict.specs.Truth.{IsTrueOfMap}
 use Rattle.tl_check_faces.specs.declared.fault.FaceFault.{FaceFault}
 use Rattle.tl_check_faces.specs.Faults.{IsTrueFaceFault}
-use Rattle.tl_check_face_faults.proofs.Exact.{told as of_all_gaps}
-use Rattle.tl_list_map.specs.MapFaults.{side_fault, AreMapFaults, AreLookedAt, AreFacesTold, AreFaultsFor}
-use Rattle.tl_list.specs.Telling.{IsCauseOf, IsMeetOf, IsOfSides, IsOfCells, HangsOnSides, IsTold, IsTrueAmong}
-use Rattle.tl_list_map.proofs.Emptiness.{odds_deny}
+use Rattle.tl_check_gaps.proofs.FaceFaults.Exact.{told as of_all_gaps}
+use Rattle.tl_decide.specs.MapFaults.{side_fault, AreMapFaults, AreLookedAt, AreFacesTold, AreFaultsFor, IsTrueAmong}
+use Rattle.tl_list.specs.Telling.{IsCauseOf, IsMeetOf, IsOfSides, IsOfCells, HangsOnSides, StandsInList}
+use Rattle.tl_decide.proofs.Emptiness.{odds_deny}
 use Rattle.tl_list.proofs.Lists.{held_map, named_by, some_first, contains_or}
-use Rattle.tl_list.proofs.Truth.{start_is}
+use Rattle.tl_decide.proofs.Truth.{start_is}
 
 module _ (m : TheMap) (faults : List MapFault) (touched : ℕ) (all : AreMapFaults m faults touched) where
   among_meets : (f : MapFault) → Contains (map fault.Meet all.meets) f → Contains faults f
@@ -51,12 +51,12 @@ module _ (m : TheMap) (faults : List MapFault) (touched : ℕ) (all : AreMapFaul
       λ none. odds_deny m.chains odds.first odds.second odds.first_id odds.second_id true_one (cells_agree m.chains (rw none at told))
 
   -- where the place is settled it is listed
-  settled_told : (misplaced : Misplaced) (at : FaultPlace) → IsTrueAt m at misplaced → IsSettled (IsTouched m.chains) at → IsTold faults touched (fault.PolygonPoint misplaced)
+  settled_told : (misplaced : Misplaced) (at : FaultPlace) → IsTrueAt m at misplaced → IsSettled (IsTouched m.chains) at → StandsInList faults touched (fault.PolygonPoint misplaced)
   settled_told misplaced at true_one settled =
       inl (among_points (fault.PolygonPoint misplaced) (held_map fault.PolygonPoint all.points misplaced (all.all_points.every at misplaced settled true_one)))
 
   -- and where a polygon is touched some sides are listed
-  touched_told : (misplaced : Misplaced) (p : ℕ) → HangsOnSides misplaced → Contains all.named p → IsTold faults touched (fault.PolygonPoint misplaced)
+  touched_told : (misplaced : Misplaced) (p : ℕ) → HangsOnSides misplaced → Contains all.named p → StandsInList faults touched (fault.PolygonPoint misplaced)
   touched_told misplaced p hangs held =
       let t : IsTouched m.chains p = All-contains (IsTouched m.chains) all.named p all.all_named.each held in
       let d = all.all_sides.complete t.first t.next t.odds in
@@ -70,7 +70,7 @@ module _ (m : TheMap) (faults : List MapFault) (touched : ℕ) (all : AreMapFaul
         ),
       )
 
-  point_told : (misplaced : Misplaced) → IsTrueOfMap m (fault.PolygonPoint misplaced) → IsTold faults touched (fault.PolygonPoint misplaced)
+  point_told : (misplaced : Misplaced) → IsTrueOfMap m (fault.PolygonPoint misplaced) → StandsInList faults touched (fault.PolygonPoint misplaced)
   point_told (OnChain key tlid) true_one =
       let at = place_of m (OnChain key tlid) true_one in
       let kind = at.is.kind in
@@ -92,7 +92,7 @@ module _ (m : TheMap) (faults : List MapFault) (touched : ℕ) (all : AreMapFaul
             (record { own = λ e. absurd (omega (arith, kind, e)); other = λ e t. none (all.all_named.complete at.at.other t) })
       ]
 
-  pub told : (f : MapFault) → IsTrueOfMap m f → IsTold faults touched f
+  pub told : (f : MapFault) → IsTrueOfMap m f → StandsInList faults touched f
   told (fault.Records of_records) true_one = absurd true_one
   told (fault.NoRecords lacking) true_one = absurd true_one
   told (fault.Meet meet) true_one =
@@ -118,7 +118,7 @@ module _ (others rest faults : List MapFault) (touched : ℕ) (are : faults ≡ 
   any_more : (P : MapFault → Type 0) → Any P others → Any P faults
   any_more P named = named_by P faults named.1 (held_more named.1 (named.0, named.2, named.3)) named.4
 
-  told_more : (f : MapFault) → IsTold others touched f → IsTold faults touched f
+  told_more : (f : MapFault) → StandsInList others touched f → StandsInList faults touched f
   told_more (fault.Records f) (inl held) = inl (held_more (fault.Records f) held)
   told_more (fault.Records f) (inr caused) = inr (any_more (IsCauseOf f) caused)
   told_more (fault.NoRecords lacking) told_one = held_more (fault.NoRecords lacking) told_one
@@ -130,19 +130,19 @@ module _ (others rest faults : List MapFault) (touched : ℕ) (are : faults ≡ 
   told_more (fault.Face f) told_one = held_more (fault.Face f) told_one
 
 module _ (faces : Bool) (m : TheMap) (faults : List MapFault) (touched : ℕ) (all : AreFaultsFor faces m faults touched) where
-  other_told : (f : MapFault) → IsTrueOfMap m f → IsTold faults touched f
+  other_told : (f : MapFault) → IsTrueOfMap m f → StandsInList faults touched f
   other_told f true_one = told_more all.others (map fault.Face all.told) faults touched all.are f (told m all.others touched all.all_others f true_one)
 
-  face_told : (f : FaceFault) → AreLookedAt faces m → IsTrueFaceFault m f → IsTold faults touched (fault.Face f)
+  face_told : (f : FaceFault) → AreLookedAt faces m → IsTrueFaceFault m f → StandsInList faults touched (fault.Face f)
   face_told f looked true_one = go all.all_faces
     where
-      go : AreFacesTold faces m all.told → IsTold faults touched (fault.Face f)
+      go : AreFacesTold faces m all.told → StandsInList faults touched (fault.Face f)
       go (inl are) =
           rw all.are
           (Contains-append_right all.others (map fault.Face all.told) (fault.Face f) (held_map fault.Face all.told f (of_all_gaps m all.told are.1.all f true_one)))
       go (inr none) = absurd (none.0 looked)
 
-  pub told_for : (f : MapFault) → IsTrueAmong faces m f → IsTold faults touched f
+  pub told_for : (f : MapFault) → IsTrueAmong faces m f → StandsInList faults touched f
   told_for (fault.Records f) true_one = absurd true_one
   told_for (fault.NoRecords lacking) true_one = absurd true_one
   told_for (fault.Meet meet) true_one = other_told (fault.Meet meet) true_one

@@ -15,7 +15,7 @@ use Rattle.tl_check_verdict.specs.declared.verdict.Report.{Report}
 use Rattle.tl_check_verdict.specs.Records.{HaveMap}
 use Rattle.tl_list_text.specs.declared.listing.Listing.{Listing}
 use Rattle.tl_list_text.specs.declared.listing.Listing.TheVariants.{Sound, Refused, Faults}
-use Rattle.tl_list_map.specs.MapListings.{IsListingFor}
+use Rattle.tl_list.specs.MapListings.{IsListingFor}
 use Rattle.tl_list.specs.Listings.{IsListingOf}
 use Rattle.tl_list.specs.declared.of_records.Findings.{Findings}
 use Rattle.tl_list.specs.declared.left.Found.{Found}

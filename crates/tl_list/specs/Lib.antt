@@ -1,3 +1,4 @@
+pub mod MapListings
 pub mod Listings
 pub mod Telling
 pub mod Alike

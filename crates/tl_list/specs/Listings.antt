@@ -4,12 +4,12 @@ use Rattle.tl_record.specs.declared.options.Options.{Options}
 use Rattle.tl_record.specs.Layout.{layout_with}
 use Rattle.tl_record.specs.Records.{Records, records_of}
 use Rattle.tl_record.specs.Refusals.{refusals_of}
-use Rattle.tl_list_records.specs.Refusals.Listing.{ListsAll}
+use Rattle.tl_map_rules.specs.Listing.Refusals.Listing.{ListsAll}
 use Rattle.tl_map_rules.specs.declared.fault.RecordFault.{RecordFault}
 use Rattle.tl_map_rules.specs.declared.lacking.Lacking.{Lacking}
 use Rattle.tl_map_rules.specs.Lacking.{explains, lacks}
 use Rattle.tl_map_rules.specs.Reading.{records_in, lacking_of}
-use Rattle.tl_list_records.specs.AllFaults.{AreAllFaults}
+use Rattle.tl_map_rules.specs.Listing.AllFaults.{AreAllFaults}
 use Rattle.tl_check_verdict.specs.declared.fault.MapFault.{MapFault}
 use Rattle.tl_check_verdict.specs.declared.fault.MapFault.TheVariants as fault
 use Rattle.tl_check_verdict.specs.Sound.{IsSoundFor}
@@ -17,7 +17,7 @@ use Rattle.tl_check_verdict.specs.Verdicts.{IsReport}
 use Rattle.tl_check_verdict.specs.Records.{HaveMap}
 use Rattle.tl_list_text.specs.declared.listing.Listing.{Listing}
 use Rattle.tl_list_text.specs.declared.listing.Listing.TheVariants.{Sound, Refused, Faults}
-use Rattle.tl_list_map.specs.MapFaults.{AreFaultsFor}
+use Rattle.tl_decide.specs.MapFaults.{AreFaultsFor}
 
 -- does the fault miss no record of a type of which there is none
 abbrev pub stands_alone : Lacking → RecordFault → Bool

@@ -6,14 +6,10 @@ use Rattle.tl_check_inside.specs.declared.misplaced.Misplaced.TheVariants.{OnCha
 use Rattle.tl_record.specs.Records.{Records as AllRecords}
 use Rattle.tl_map_rules.specs.declared.fault.RecordFault.{RecordFault}
 use Rattle.tl_map_rules.specs.Lacking.{explains}
-use Rattle.tl_map_county.specs.TheMap.{TheMap}
-use Rattle.tl_check_faces.specs.Faults.{IsTrueFaceFault}
-use Rattle.tl_check_faces.specs.Truth.{AreFacesTrue}
-use Rattle.tl_check_verdict.specs.Truth.{IsTrueOfMap}
 use Rattle.tl_check_verdict.specs.Records.{HaveMap, IsTrueOfRecords}
 use Rattle.tl_check_verdict.specs.declared.fault.MapFault.{MapFault}
 use Rattle.tl_check_verdict.specs.declared.fault.MapFault.TheVariants.{Records, NoRecords, Meet, Side, PolygonPoint, Cell, Face}
-use Rattle.tl_list_map.specs.MapFaults.{AreLookedAt}
+use Rattle.tl_decide.specs.MapFaults.{IsTrueAmong}
 use Rattle.tl_list_text.specs.declared.listing.Listing.{Listing}
 use Rattle.tl_list_text.specs.declared.listing.Listing.TheVariants as listing
 
@@ -66,20 +62,20 @@ HangsOnSides (InOther polygon other) = ⊤
 -- The fault stands in the list. One that misses a record of a type of which there is none may be told by that; of two segments that meet, it stands there with some point; of zero-cell ids at odds some
 -- pair stands there; and what is wrong with a polygon's point stands there unless it hangs on sides, some polygon is touched, and so sides
 -- are at odds.
-abbrev pub IsTold : List MapFault → ℕ → MapFault → Type 0
-IsTold faults touched (Records fault) = Contains faults (Records fault) ⊎ Any (IsCauseOf fault) faults
-IsTold faults touched (NoRecords lacking) = Contains faults (NoRecords lacking)
-IsTold faults touched (Meet meet) = Any (IsMeetOf meet.s meet.t) faults
-IsTold faults touched (Side node first next) = Contains faults (Side node first next)
-IsTold faults touched (PolygonPoint fault) = Contains faults (PolygonPoint fault) ⊎ (HangsOnSides fault × ((zero < touched) × Any IsOfSides faults))
-IsTold faults touched (Cell odds) = Any IsOfCells faults
-IsTold faults touched (Face fault) = Contains faults (Face fault)
+abbrev pub StandsInList : List MapFault → ℕ → MapFault → Type 0
+StandsInList faults touched (Records fault) = Contains faults (Records fault) ⊎ Any (IsCauseOf fault) faults
+StandsInList faults touched (NoRecords lacking) = Contains faults (NoRecords lacking)
+StandsInList faults touched (Meet meet) = Any (IsMeetOf meet.s meet.t) faults
+StandsInList faults touched (Side node first next) = Contains faults (Side node first next)
+StandsInList faults touched (PolygonPoint fault) = Contains faults (PolygonPoint fault) ⊎ (HangsOnSides fault × ((zero < touched) × Any IsOfSides faults))
+StandsInList faults touched (Cell odds) = Any IsOfCells faults
+StandsInList faults touched (Face fault) = Contains faults (Face fault)
 
 -- faults are listed, and the fault is told by them
 abbrev pub Tells : Listing → MapFault → Type 0
 Tells (listing.Sound report) fault = ⊥
 Tells (listing.Refused list) fault = ⊥
-Tells (listing.Faults faults touched) fault = IsTold faults.items touched fault
+Tells (listing.Faults faults touched) fault = StandsInList faults.items touched fault
 
 -- the listing is that the map is sound
 abbrev pub SaysSound : Listing → Type 0
@@ -93,13 +89,7 @@ EachFault (listing.Sound report) P = ⊤
 EachFault (listing.Refused list) P = ⊤
 EachFault (listing.Faults faults touched) P = All P faults.items
 
--- What a fault among others says of a map: what it says alone; but that faces disagree is said of them wherever they are looked at, whatever
--- else is wrong.
-abbrev pub IsTrueAmong : (faces : Bool) → TheMap → MapFault → Type 0
-IsTrueAmong faces m (Face fault) = AreLookedAt faces m × (IsTrueFaceFault m fault × ¬ AreFacesTrue m.chains)
-IsTrueAmong faces m other = IsTrueOfMap m other
-
--- the same of records
+-- what a fault among others says of records
 abbrev pub IsTrueAmongFaults : (faces : Bool) → AllRecords → MapFault → Type 0
 IsTrueAmongFaults faces all (Face fault) = HaveMap all (λ m. IsTrueAmong faces m (Face fault))
 IsTrueAmongFaults faces all other = IsTrueOfRecords all other

@@ -12,7 +12,7 @@ ghost use Rattle.tl_list.specs.Listings.{IsListingOf};
 ghost use Rattle.tl_list.specs.Telling.{SaysSound, EachFault, Tells, IsTrueAmongFaults};
 ghost use Rattle.tl_list.specs.Alike.{AreAlike};
 
-use tl_list_points::laws::a_map_has_one_list_of_all_misplaced;
+use tl_check_points::listing::laws::a_map_has_one_list_of_all_misplaced;
 
 /// A listing says that the map is sound exactly where the records have a map that keeps what is asked of it.
 pub fn a_sound_map_alone_is_listed_as_sound()

@@ -3,9 +3,9 @@
 ghost use Rattle.std.specs.Prelude.{◌≡◌, List, true, None, Some, IfOk, IfErr, IfSome, ⊤};
 ghost use Rattle.tl_record.specs.Records.{Records as AllRecords};
 ghost use Rattle.tl_record.specs.declared.record.Record.{Record};
-ghost use Rattle.tl_list_records.specs.AllFaults.{AreAllFaults};
+ghost use Rattle.tl_map_rules.specs.Listing.AllFaults.{AreAllFaults};
 ghost use Rattle.tl_map.specs.Collecting.{HasCollected};
-ghost use Rattle.tl_list_map.specs.MapListings.{IsListingFor};
+ghost use Rattle.tl_list.specs.MapListings.{IsListingFor};
 ghost use Rattle.tl_list.specs.Listings.{IsListingOf};
 ghost use Rattle.tl_cert_output.specs.Stops.{StopsFor, TellsDevice};
 ghost use Rattle.tl_record.specs.Layout.{layout_with};
@@ -15,12 +15,12 @@ ghost use Rattle.tl_list.specs.Keeping.Reading.{AreWhole};
 ghost use Rattle.tl_list.specs.Keeping.OfRecords.{AreFindingsOfRecords, AreTold};
 
 use crate::left::{Found, found_in};
+use crate::of_map::list_map;
 use crate::reading::{LinesRead, read_all};
 use crate::tell::push_records;
 use std::alloc::Global;
 use std::hash::RandomState;
 use tl_cert_output::Stop;
-use tl_list_map::list_map;
 use tl_list_text::Listing;
 use tl_map::{CollectedRecords, NoMap};
 use tl_map_county::Map;

@@ -9,7 +9,7 @@ ghost use Rattle.tl_record.specs.Leaving.{MayPass};
 ghost use Rattle.tl_cert_output.specs.Stops.{StopsFor, TellsDevice};
 ghost use Rattle.std.specs.Prelude.{List};
 ghost use Rattle.tl_record.specs.declared.record.Record.{Record};
-ghost use Rattle.tl_map_join.specs.Told.{HasTold, joined_records};
+ghost use Rattle.tl_map.specs.Joined.Told.{HasTold, joined_records};
 ghost use Rattle.tl_map.specs.Collecting.{HasCollected};
 ghost use Rattle.tl_list.specs.Keeping.Reading.{ListsFrom, MayTake, MayRead, TakesOne, taken_if};
 ghost use Rattle.tl_list.specs.Keeping.Noting.{NotesFronts, NotesRecords, NotesOne};
@@ -17,9 +17,9 @@ ghost use Rattle.tl_list.specs.Keeping.Noting.{NotesFronts, NotesRecords, NotesO
 use crate::noted::{NotedLines, front_noted};
 use std::alloc::{AllocError, Global};
 use tl_cert_output::Stop;
-use tl_list_records::refusals::list_refusals;
 use tl_map::CollectedRecords;
-use tl_map_join::ToldRecords;
+use tl_map::joined::ToldRecords;
+use tl_map_rules::listing::refusals::list_refusals;
 use tl_record::{NO_RECORD, ReadStop, Record, RecordReader, Refusal, RefusalStop, Source};
 
 /// Records as they come, kept; or all of them until they are joined.

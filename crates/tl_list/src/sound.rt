@@ -3,7 +3,8 @@
 ghost use Rattle.std.specs.Prelude.{◌≡◌, ◌↔◌, Bool, IsTrue};
 ghost use Rattle.tl_map_county.specs.TheMap.{TheMap};
 ghost use Rattle.tl_check_verdict.specs.Sound.{IsSound};
-ghost use Rattle.tl_list_map.specs.MapListings.{IsListingFor, begins_with_faces};
+ghost use Rattle.tl_list.specs.MapListings.{IsListingFor};
+ghost use Rattle.tl_decide.specs.Deciding.{begins_with_faces};
 
 use tl_check_verdict::MapFault;
 use tl_list_text::Listing;

@@ -1,8 +1,8 @@
 use Rattle.std.proofs.Common.{◌≡◌, ◌≢◌, ℕ, zero, suc, ◌+◌, ◌-◌, ◌<◌, ◌≤◌, Bool, true, false, cond, eqb, ◌⊎◌, inl, inr, List, [], ◌∷◌, ◌++◌, length, take, map, get_or, filter, sum_by, count_by, All, Contains, refl, sym, ap, ◌∙◌, arith, add-one}
-use Rattle.std.specs.Prelude.{Any, Result, Ok, Err, IfErr, MatchResult}
+use Rattle.std.specs.Prelude.{Any, Result, Ok, Err, MatchResult}
 use Rattle.std.specs.List.{dedup, flat_map}
 use Rattle.std.proofs.lemmas.Bool.{cases_Bool, eq-eqb, ne_eqb, eqb-true, false≢true}
-use Rattle.std.proofs.lemmas.List.{append-nil, take_all, length-map, get_or-map}
+use Rattle.std.proofs.lemmas.List.{append-nil, take_all, length-map, get_or-map, get_or_default}
 use Rattle.std.proofs.lemmas.List.Elements.{filter_more, All-map}
 use Rattle.std.proofs.lemmas.List.Concat.{flat_map-append}
 use Rattle.std.proofs.lemmas.List.Sums.{sum_by-cons, count_by_more_no}
@@ -12,18 +12,20 @@ use Rattle.tl_record.specs.declared.record.Record.TheVariants.{Chain, Shape}
 use Rattle.tl_map_rules.specs.declared.entry.ChainEntry.{ChainEntry}
 use Rattle.tl_map_rules.specs.declared.entry.ShapeEntry.{ShapeEntry}
 use Rattle.tl_map_county.specs.declared.limits.TheConstants.{CHAIN_LIMIT, SEGMENT_LIMIT}
-use Rattle.tl_map_rules.specs.declared.fault.MapStop.{MapStop}
-use Rattle.tl_map_rules.specs.ChainsOf.{is_chain, shape_count, pairs_up_to, pairs_of, used, same_point, points_between, segments_by, segments_of, IsDrawn, AreChainsOf}
-use Rattle.tl_map_county.specs.Chains.{CompleteChain, ChainList, tlids, segment_count, IsProper}
-use Rattle.tl_map_rules.specs.Faults.{IsStray, IsDegenerate, AreJoined, HaveNoChainFault, IsFaultOfChains}
-use Rattle.tl_map_rules.specs.Reading.{IfFault}
-use Rattle.tl_list_records.specs.Shapes.{entry_points}
-use Rattle.tl_map.specs.Keeping.Entries.{by_chain, AreChainEntries, AreShapeEntries, chains_with, AreRising, has_tlid, shapes_with, ArePlaced, joined}
-use Rattle.tl_map.specs.Keeping.Rows.{AreJoinedBy, StopsJoin}
-use Rattle.tl_map.specs.Keeping.Built.{AreSound, AreBuilt, StopsBuilding}
-use Rattle.tl_map_rules.proofs.CountLemmas.{none_counted, one_counted, sum_by-same, rising_keys_from_pairs}
+use Rattle.tl_map.specs.declared.unbuilt.Unbuilt.{Unbuilt}
+use Rattle.tl_map_rules.specs.ChainsOf.{is_chain, shape_count, pairs_up_to, pairs_of, used, points_between, segments_by, segments_of, IsDrawn, AreChainsOf}
+use Rattle.tl_record.specs.Joining.{same_point}
+use Rattle.tl_map_county.specs.Chains.{CompleteChain, ChainList, tlids, segment_count, IsProperChain}
+use Rattle.tl_map_rules.specs.Faults.{IsStray, IsDegenerate, AreJoined, HaveNoChainFault}
+use Rattle.tl_map_rules.specs.Listing.Shapes.{entry_points}
+use Rattle.tl_map.specs.Keeping.Entries.{by_chain, AreChainEntries, AreShapeEntries, chains_with, AreEntriesRising, has_tlid, shapes_with, ArePlaced, joined}
+use Rattle.tl_map.specs.Keeping.Rows.{AreJoinedBy, AreUnjoinable}
+use Rattle.tl_map.specs.Keeping.Built.{AreSound, AreBuilt}
+use Rattle.tl_map.specs.Keeping.Unbuilt.{StopsFor}
+use Rattle.tl_map.proofs.UnbuiltLemmas.{stops_for}
+use Rattle.tl_map_rules.proofs.CountLemmas.{none_counted, one_counted, two_counted, sum_by-same, rising_keys_from_pairs}
 use Rattle.tl_map.proofs.SequenceLemmas.{numbered_from_placed}
-use Rattle.tl_map.proofs.GapLemmas.{shapes_with_is, IsNumbered-from_entries, pairs_more}
+use Rattle.tl_map.proofs.GapLemmas.{shapes_with_is, AreShapesNumbered-from_entries, pairs_more}
 use Rattle.tl_map.proofs.CollectLemmas.{chain_count_is}
 use Rattle.tl_map.proofs.ProperLemmas.{proper_dedup}
 use Rattle.tl_map_rules.proofs.PairLemmas.{used-append}
@@ -80,6 +82,14 @@ chains_with_is rs entries h t = h.sums (λ u from to. cond (eqb u t) 1 0) ∙ su
     same (Chain u from to) = refl
     same (Shape u k pairs) = refl
     same other = refl
+
+-- neighbours that have one TLID
+pub neighbours_counted : (chains : List ChainEntry) (i : ℕ) (d e : ChainEntry) → 1 ≤ i → i < length chains → (get_or chains (i - 1) d).tlid ≡ (get_or chains i e).tlid → (t : ℕ) × (2 ≤ chains_with t chains)
+neighbours_counted chains i d e some lt same =
+    let at : i - 1 + 1 ≡ i = omega arith in
+    let t : ℕ = (get_or chains i e).tlid in
+    let second : (get_or chains (i - 1 + 1) d).tlid ≡ t = rw (at, get_or_default chains i d e lt) refl in
+    (t, two_counted (λ (c : ChainEntry). eqb c.tlid t) chains (i - 1) d (omega arith) (eq-eqb _ _ same) (eq-eqb _ _ second))
 
 -- each joined chain is drawn by a record
 drawn : (rs : List Record) (pool : List Point) (chains : List ChainEntry) (shapes : List ShapeEntry) → AreChainEntries rs chains → AreShapeEntries rs pool shapes → ArePlaced shapes → All (IsDrawn rs) (map (joined pool shapes) chains)
@@ -143,7 +153,7 @@ AreChainsOf-joined rs pool chains shapes are have sound = record {
 }
 
 -- a TLID stands once in chains that rise
-rising_once : (chains : List ChainEntry) (t : ℕ) → AreRising chains → chains_with t chains ≤ 1
+rising_once : (chains : List ChainEntry) (t : ℕ) → AreEntriesRising chains → chains_with t chains ≤ 1
 rising_once [] t rising = omega arith
 rising_once (c ∷ chains) t rising = go (eqb c.tlid t) refl (rising_once chains t (λ i j d before within. rising (suc i) (suc j) d (omega arith) (omega arith)))
   where
@@ -171,7 +181,7 @@ are_joined : (rs : List Record) (pool : List Point) (chains : List ChainEntry) (
 are_joined rs pool chains shapes are have sound = record {
   once = λ t two. omega (arith, two, rising_once chains t sound.rising, chains_with_is rs chains are t);
   no_stray = no_stray rs pool chains shapes are have sound.known;
-  numbered = λ t. IsNumbered-from_entries rs pool shapes have t (numbered_from_placed shapes sound.placed t);
+  numbered = λ t. AreShapesNumbered-from_entries rs pool shapes have t (numbered_from_placed shapes sound.placed t);
   no_gap = λ t broken. false≢true (sym (sound.no_gap t) ∙ broken.gap);
 }
 
@@ -207,52 +217,42 @@ HaveNoChainFault-joined rs pool chains shapes are have sound room several few =
       few_segments = λ many. omega (arith, many.1, few, segments_are rs pool chains shapes are have sound.placed);
     }
 
--- what stops the join is true of the records
-pub StopsBuilding-joined : (rs : List Record) (pool : List Point) (chains : List ChainEntry) (shapes : List ShapeEntry) (stop : MapStop) → AreChainEntries rs chains → AreShapeEntries rs pool shapes → AreSound rs chains shapes → StopsJoin (map (joined pool shapes) chains) stop → StopsBuilding rs stop
-StopsBuilding-joined rs pool chains shapes stop are have sound why = elim why [
-  | inl memory ↦ rw memory tt
-  | inr fault ↦ elim fault [
-    | inl one ↦ rw one.1 (degenerate one.0 one.2 chains refl)
-    | inr many ↦ rw many.0 (are_joined rs pool chains shapes are have sound, omega (arith, many.1, segments_are rs pool chains shapes are have sound.placed))
-  ]
+-- of records whose chains can't be joined some fault of the chains is true
+faulty_joined : (rs : List Record) (pool : List Point) (chains : List ChainEntry) (shapes : List ShapeEntry) → AreChainEntries rs chains → AreShapeEntries rs pool shapes → AreSound rs chains shapes → AreUnjoinable (map (joined pool shapes) chains) → ¬ HaveNoChainFault rs
+faulty_joined rs pool chains shapes are have sound why none = elim why [
+  | inl one ↦ let wrong = degenerate one chains refl in none.not_degenerate wrong.0 wrong.1
+  | inr many ↦ none.few_segments (joined_all, omega (arith, many, segments_are rs pool chains shapes are have sound.placed))
 ]
   where
     joined_all : AreJoined rs
     joined_all = are_joined rs pool chains shapes are have sound
 
-    degenerate : (t : ℕ) → Any (λ c. (t ≡ c.tlid) × (length c.points ≡ 1)) (map (joined pool shapes) chains) → (cs : List ChainEntry) → cs ≡ chains → IsDegenerate rs t
-    degenerate t found [] e = let none : length (map (joined pool shapes) chains) ≡ 0 = length-map chains (joined pool shapes) ∙ ap length (sym e) in absurd (omega (arith, found.2, none))
-    degenerate t found (x ∷ cs) e =
+    degenerate : Any (λ c. length c.points ≡ 1) (map (joined pool shapes) chains) → (cs : List ChainEntry) → cs ≡ chains → (t : ℕ) × IsDegenerate rs t
+    degenerate found [] e = let none : length (map (joined pool shapes) chains) ≡ 0 = length-map chains (joined pool shapes) ∙ ap length (sym e) in absurd (omega (arith, found.2, none))
+    degenerate found (x ∷ cs) e =
         let k = found.0 in
         let long : k < length chains = omega (arith, found.2, length-map chains (joined pool shapes)) in
         let c : ChainEntry = get_or chains k x in
         let is : found.1 ≡ joined pool shapes c = sym found.3 ∙ get_or-map (joined pool shapes) chains k x found.1 long in
-        let at : t ≡ c.tlid = found.4.0 ∙ ap (λ (d : CompleteChain). d.tlid) is in
-        let one : length (joined pool shapes c).points ≡ 1 = sym (ap (λ (d : CompleteChain). length d.points) is) ∙ found.4.1 in
-        rw at (record {
-          once = joined_all.once c.tlid;
-          numbered = joined_all.numbered c.tlid;
-          no_gap = joined_all.no_gap c.tlid;
-          from = c.from;
-          to = c.to;
-          record_of_it = are.each k x long;
-          one_point = sym (ap length (joined_is rs pool shapes c have sound.placed)) ∙ one;
-        })
+        let one : length (joined pool shapes c).points ≡ 1 = sym (ap (λ (d : CompleteChain). length d.points) is) ∙ found.4 in (
+          c.tlid,
+          record {
+            once = joined_all.once c.tlid;
+            numbered = joined_all.numbered c.tlid;
+            no_gap = joined_all.no_gap c.tlid;
+            from = c.from;
+            to = c.to;
+            record_of_it = are.each k x long;
+            one_point = sym (ap length (joined_is rs pool shapes c have sound.placed)) ∙ one;
+          },
+        )
 
 -- what the join gives is what the records have
-pub built : (rs : List Record) (pool : List Point) (chains : List ChainEntry) (shapes : List ShapeEntry) (skipped : ℕ) (r : Result ChainList MapStop) → AreChainEntries rs chains → AreShapeEntries rs pool shapes → AreSound rs chains shapes → length chains ≤ CHAIN_LIMIT → MatchResult r (AreJoinedBy pool shapes chains skipped) (StopsJoin (map (joined pool shapes) chains)) → MatchResult r (AreBuilt rs skipped) (StopsBuilding rs)
+pub built : (rs : List Record) (pool : List Point) (chains : List ChainEntry) (shapes : List ShapeEntry) (skipped : ℕ) (r : Result ChainList Unbuilt) → AreChainEntries rs chains → AreShapeEntries rs pool shapes → AreSound rs chains shapes → length chains ≤ CHAIN_LIMIT → MatchResult r (AreJoinedBy pool shapes chains skipped) (StopsFor (AreUnjoinable (map (joined pool shapes) chains))) → MatchResult r (AreBuilt rs skipped) (StopsFor (¬ HaveNoChainFault rs))
 built rs pool chains shapes skipped (Ok c) are have sound room made = rw made.are (record {
   chains = AreChainsOf-joined rs pool chains shapes are have sound;
   skipped_lines = refl;
   no_fault = HaveNoChainFault-joined rs pool chains shapes are have sound room made.several made.few;
-  proper = All-map (λ (x : CompleteChain). IsProper x.points) (joined pool shapes) chains (λ k d lt. proper_dedup (get_or chains k d).from _ (made.several k d lt));
+  proper = All-map (λ (x : CompleteChain). IsProperChain x.points) (joined pool shapes) chains (λ k d lt. proper_dedup (get_or chains k d).from _ (made.several k d lt));
 })
-built rs pool chains shapes skipped (Err stop) are have sound room why = StopsBuilding-joined rs pool chains shapes stop are have sound why
-
--- why chains aren't joined is a fault of chains
-pub stops_joining : (chains : List CompleteChain) (P : ChainList → Type 0) (r : Result ChainList MapStop) → MatchResult r P (StopsJoin chains) → IfErr r (IfFault IsFaultOfChains)
-stops_joining chains P (Ok c) made = tt
-stops_joining chains P (Err stop) why = elim why [
-  | inl memory ↦ rw memory tt
-  | inr fault ↦ elim fault [ inl one ↦ rw one.1 tt | inr many ↦ rw many.0 tt ]
-]
+built rs pool chains shapes skipped (Err stop) are have sound room why = stops_for (AreUnjoinable (map (joined pool shapes) chains)) (¬ HaveNoChainFault rs) stop (faulty_joined rs pool chains shapes are have sound) why

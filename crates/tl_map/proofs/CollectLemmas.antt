@@ -8,20 +8,17 @@ use Rattle.std.proofs.lemmas.List.Sums.{sum_by_push, sum_by-cons}
 use Rattle.tl_geom.specs.declared.point.Point.{Point}
 use Rattle.tl_record.specs.declared.record.Record.{Record}
 use Rattle.tl_record.specs.declared.record.Record.TheVariants.{Chain, Shape, Sides, PolyPoint, Landmark, AreaLink}
-use Rattle.tl_map_rules.specs.declared.fault.MapStop.{MapStop}
-use Rattle.tl_map_rules.specs.declared.fault.MapStop.TheVariants.{Refused, Device, Memory, Fault, NoRecords}
-use Rattle.tl_map_rules.specs.Reading.{IfFault}
 use Rattle.tl_map.specs.declared.collect.Collected.{Collected}
 use Rattle.tl_map.specs.Keeping.Collected.{Collects, LeavesChains}
-use Rattle.tl_list_records.specs.Kept.{chain_at, shape_at}
-use Rattle.tl_list_records.proofs.TraceLemmas.{seen_filled}
+use Rattle.tl_map_rules.specs.Listing.Kept.{chain_at, shape_at}
+use Rattle.tl_map_rules.proofs.ListingLemmas.TraceLemmas.{seen_filled}
 use Rattle.tl_map_rules.specs.declared.entry.ChainEntry.{ChainEntry}
 use Rattle.tl_map_rules.specs.declared.entry.ShapeEntry.{ShapeEntry}
-use Rattle.std.specs.Prelude.{if◌then◌else◌, Result, Ok, Err, OnOk, IfErr}
+use Rattle.std.specs.Prelude.{if◌then◌else◌, Result, Ok, Err, OnOk}
 use Rattle.tl_map_rules.specs.declared.entry.Fill.{Fill}
 use Rattle.tl_map_rules.specs.declared.entry.Fill.TheVariants.{Full, Ended, Gap}
 use Rattle.tl_map_rules.specs.ChainsOf.{is_any_chain, chain_count, used, has_gap}
-use Rattle.tl_list_records.specs.Shapes.{fill_of, seen_in, seen_by, entry_points, IsInside, summary_in}
+use Rattle.tl_map_rules.specs.Listing.Shapes.{fill_of, seen_in, seen_by, entry_points, IsInside, summary_in}
 use Rattle.tl_map.specs.Keeping.Entries.{by_chain, by_shape, AreChainEntries, IsShapeEntry, AreShapeEntries}
 use Rattle.tl_map_rules.proofs.CountLemmas.{sum_by-same}
 use Rattle.tl_map_rules.specs.Keeping.Pairs.{some_unused}
@@ -269,12 +266,3 @@ leaves_moved rs old new h chains shapes pool = record {
 
 pub leaves_all : (rs : List Record) (c : Collected) → Collects rs c → LeavesChains rs c
 leaves_all rs c h = leaves_moved rs c c h (IsPermutation-refl c.chains.items) (IsPermutation-refl c.shapes.items) refl
-
--- it is left where a fault is why there are no chains
-pub where_left : {T P : Type 0} (r : Result T MapStop) → P → IfErr r (IfFault (λ fault. P))
-where_left (Ok made) p = tt
-where_left (Err Device) p = tt
-where_left (Err Memory) p = tt
-where_left (Err (Refused line cause)) p = tt
-where_left (Err (Fault fault)) p = p
-where_left (Err (NoRecords lacking)) p = tt

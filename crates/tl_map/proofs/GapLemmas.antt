@@ -9,8 +9,8 @@ use Rattle.tl_record.specs.declared.record.Record.TheVariants.{Chain, Shape}
 use Rattle.tl_map_rules.specs.declared.entry.ShapeEntry.{ShapeEntry}
 use Rattle.tl_map_rules.specs.declared.entry.Fill.TheVariants.{Full, Ended, Gap}
 use Rattle.tl_map_rules.specs.ChainsOf.{is_shape, is_shape_at, shape_count, pairs_at, pairs_up_to, pairs_of, used, some_used, has_gap}
-use Rattle.tl_map_rules.specs.Faults.{IsNumbered}
-use Rattle.tl_list_records.specs.Shapes.{fill_of, entry_points, IsInside}
+use Rattle.tl_map_rules.specs.Faults.{AreShapesNumbered}
+use Rattle.tl_map_rules.specs.Listing.Shapes.{fill_of, entry_points, IsInside}
 use Rattle.tl_map.specs.Keeping.Entries.{by_shape, IsShapeEntry, AreShapeEntries, has_tlid, shapes_with, shapes_at, AreInOrder, ArePlaced, AreNumbered, late_by, late_after, ended_by, ended_after}
 use Rattle.tl_map_rules.proofs.CountLemmas.{sum_by-same, one_counted}
 use Rattle.tl_map.proofs.SequenceLemmas.{numbered_from_placed, count_more, none_before}
@@ -35,11 +35,11 @@ shapes_at_is rs pool entries h t n = h.sums (λ u k. cond (eqb u t && eqb k n) 1
     same other = refl
 
 -- numbered entries are numbered records, and the other way round
-pub IsNumbered-from_entries : (rs : List Record) (pool : List Point) (entries : List ShapeEntry) → AreShapeEntries rs pool entries → (t : ℕ) → AreNumbered entries t → IsNumbered rs t
-IsNumbered-from_entries rs pool entries h t numbered n low high =
+pub AreShapesNumbered-from_entries : (rs : List Record) (pool : List Point) (entries : List ShapeEntry) → AreShapeEntries rs pool entries → (t : ℕ) → AreNumbered entries t → AreShapesNumbered rs t
+AreShapesNumbered-from_entries rs pool entries h t numbered n low high =
     sym (shapes_at_is rs pool entries h t n) ∙ numbered n low (rw (shapes_with_is rs pool entries h t) high)
 
-pub AreNumbered-from_records : (rs : List Record) (pool : List Point) (entries : List ShapeEntry) → AreShapeEntries rs pool entries → (t : ℕ) → IsNumbered rs t → AreNumbered entries t
+pub AreNumbered-from_records : (rs : List Record) (pool : List Point) (entries : List ShapeEntry) → AreShapeEntries rs pool entries → (t : ℕ) → AreShapesNumbered rs t → AreNumbered entries t
 AreNumbered-from_records rs pool entries h t numbered n low high =
     shapes_at_is rs pool entries h t n ∙ numbered n low (rw (← shapes_with_is rs pool entries h t) high)
 

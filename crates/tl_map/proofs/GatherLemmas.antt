@@ -16,8 +16,8 @@ use Rattle.tl_map_rules.specs.Reading.{records_in, stop_of, TellsDevice}
 use Rattle.tl_map.specs.Keeping.Areas.{KeepsAreas}
 use Rattle.tl_map.specs.Keeping.Collected.{Collects}
 use Rattle.tl_map.specs.Keeping.Gathering.{GathersSoFar, GathersAllSoFar, GathersToldSoFar, StopsGathering}
-use Rattle.tl_map_join.specs.declared.told.ToldRecords.{ToldRecords}
-use Rattle.tl_map_join.specs.Told.{HasTold}
+use Rattle.tl_map.specs.declared.joined.told.ToldRecords.{ToldRecords}
+use Rattle.tl_map.specs.Joined.Told.{HasTold}
 
 -- what was to come at first is the records so far and what comes now
 abbrev pub IsSoFar : Option Records → Option Records → List Record → Type 0

@@ -1,14 +1,13 @@
-use Rattle.std.proofs.Common.{◌≡◌, ◌≢◌, ℕ, ◌+◌, ◌-◌, ◌<◌, ◌≤◌, inl, inr, List, [], ◌∷◌, ◌++◌, length, take, drop, map, get_or, filter, refl, sym, ap, ◌∙◌, arith}
+use Rattle.std.proofs.Common.{◌≡◌, ◌≢◌, ℕ, ◌+◌, ◌-◌, ◌<◌, ◌≤◌, inl, inr, List, [], ◌∷◌, ◌++◌, length, take, drop, map, get_or, filter, sym, ap, ◌∙◌, arith}
 use Rattle.std.proofs.lemmas.Bool.{cases_lt, eq-eqb, ne_eqb}
 use Rattle.std.proofs.lemmas.List.{get_or_default, map_more, length-map, get_or-map, take-map}
 use Rattle.tl_geom.specs.declared.point.Point.{Point}
 use Rattle.tl_map_rules.specs.declared.entry.ChainEntry.{ChainEntry}
 use Rattle.tl_map_rules.specs.declared.entry.ShapeEntry.{ShapeEntry}
 use Rattle.std.proofs.lemmas.List.Sums.{sum_by-take-le}
-use Rattle.tl_map_rules.specs.declared.fault.MapStop.{MapStop}
 use Rattle.tl_map_county.specs.Chains.{CompleteChain, segment_count}
-use Rattle.tl_map.specs.Keeping.Entries.{has_tlid, chains_with, AreRising, AreInOrder, joined}
-use Rattle.tl_map.specs.Keeping.Rows.{drawn_by, StopsAdding, StopsJoin}
+use Rattle.tl_map.specs.Keeping.Entries.{has_tlid, chains_with, AreEntriesRising, AreInOrder, joined}
+use Rattle.tl_map.specs.Keeping.Rows.{drawn_by, IsUnjoinable, AreUnjoinable}
 use Rattle.tl_map.proofs.StrayLemmas.{no_chain}
 use Rattle.tl_map_rules.proofs.PartLemmas.{filter_part}
 
@@ -30,7 +29,7 @@ above_run shapes s e t le order ahead stops k d low high =
     ]
 
 -- the shapes below e have TLIDs below those of the chains that come next
-pub behind_more : (chains : List ChainEntry) (shapes : List ShapeEntry) (i s e : ℕ) (c : ChainEntry) → i < length chains → AreRising chains → ((k m : ℕ) (d : ShapeEntry) (x : ChainEntry) → k < s → i ≤ m → m < length chains → (get_or shapes k d).tlid < (get_or chains m x).tlid) → ((k : ℕ) (d : ShapeEntry) → s ≤ k → k < e → (get_or shapes k d).tlid ≡ (get_or chains i c).tlid) → (k m : ℕ) (d : ShapeEntry) (x : ChainEntry) → k < e → i + 1 ≤ m → m < length chains → (get_or shapes k d).tlid < (get_or chains m x).tlid
+pub behind_more : (chains : List ChainEntry) (shapes : List ShapeEntry) (i s e : ℕ) (c : ChainEntry) → i < length chains → AreEntriesRising chains → ((k m : ℕ) (d : ShapeEntry) (x : ChainEntry) → k < s → i ≤ m → m < length chains → (get_or shapes k d).tlid < (get_or chains m x).tlid) → ((k : ℕ) (d : ShapeEntry) → s ≤ k → k < e → (get_or shapes k d).tlid ≡ (get_or chains i c).tlid) → (k m : ℕ) (d : ShapeEntry) (x : ChainEntry) → k < e → i + 1 ≤ m → m < length chains → (get_or shapes k d).tlid < (get_or chains m x).tlid
 behind_more chains shapes i s e c h rising behind run k m d x lt low high =
     elim (cases_lt k s) [
       | inl earlier ↦ behind k m d x earlier (omega arith) high
@@ -41,7 +40,7 @@ behind_more chains shapes i s e c h rising behind run k m d x lt low high =
     ]
 
 -- the shapes from e on have TLIDs no less than that of the next chain
-pub ahead_more : (chains : List ChainEntry) (shapes : List ShapeEntry) (i e : ℕ) (c : ChainEntry) → i < length chains → AreRising chains → ((k : ℕ) (d : ShapeEntry) → k < length shapes → 1 ≤ chains_with (get_or shapes k d).tlid chains) → ((k : ℕ) (d : ShapeEntry) → e ≤ k → k < length shapes → (get_or chains i c).tlid < (get_or shapes k d).tlid) → (k : ℕ) (d : ShapeEntry) (x : ChainEntry) → e ≤ k → k < length shapes → i + 1 < length chains → (get_or chains (i + 1) x).tlid ≤ (get_or shapes k d).tlid
+pub ahead_more : (chains : List ChainEntry) (shapes : List ShapeEntry) (i e : ℕ) (c : ChainEntry) → i < length chains → AreEntriesRising chains → ((k : ℕ) (d : ShapeEntry) → k < length shapes → 1 ≤ chains_with (get_or shapes k d).tlid chains) → ((k : ℕ) (d : ShapeEntry) → e ≤ k → k < length shapes → (get_or chains i c).tlid < (get_or shapes k d).tlid) → (k : ℕ) (d : ShapeEntry) (x : ChainEntry) → e ≤ k → k < length shapes → i + 1 < length chains → (get_or chains (i + 1) x).tlid ≤ (get_or shapes k d).tlid
 ahead_more chains shapes i e c h rising known above k d x low high next =
     elim (cases_lt (get_or shapes k d).tlid (get_or chains (i + 1) x).tlid) [
       | inl between ↦ absurd (omega (arith, known k d high, no_chain chains (get_or shapes k d).tlid (i + 1) rising below (λ y lt. let same = get_or_default chains (i + 1) x y lt in rw same at between)))
@@ -67,26 +66,23 @@ joined_more pool chains shapes i c before after drawn h added is were =
     ∙ sym (map_more (joined pool shapes) chains i c h)
 
 -- the shapes of the first chain are not below it
-pub ahead_first : (chains : List ChainEntry) (shapes : List ShapeEntry) → AreRising chains → ((k : ℕ) (d : ShapeEntry) → k < length shapes → 1 ≤ chains_with (get_or shapes k d).tlid chains) → (k : ℕ) (d : ShapeEntry) (x : ChainEntry) → 0 ≤ k → k < length shapes → 0 < length chains → (get_or chains 0 x).tlid ≤ (get_or shapes k d).tlid
+pub ahead_first : (chains : List ChainEntry) (shapes : List ShapeEntry) → AreEntriesRising chains → ((k : ℕ) (d : ShapeEntry) → k < length shapes → 1 ≤ chains_with (get_or shapes k d).tlid chains) → (k : ℕ) (d : ShapeEntry) (x : ChainEntry) → 0 ≤ k → k < length shapes → 0 < length chains → (get_or chains 0 x).tlid ≤ (get_or shapes k d).tlid
 ahead_first chains shapes rising known k d x low high some =
     elim (cases_lt (get_or shapes k d).tlid (get_or chains 0 x).tlid) [
       | inl under ↦ absurd (omega (arith, known k d high, no_chain chains (get_or shapes k d).tlid 0 rising (λ j y lt. absurd (omega arith)) (λ y lt. let same = get_or_default chains 0 x y lt in rw same at under)))
       | inr fine ↦ fine
     ]
 
--- what stops a chain stops the join
-pub stops_join : (J : ChainEntry → CompleteChain) (chains : List ChainEntry) (i : ℕ) (c : ChainEntry) (before : List CompleteChain) (drawn : CompleteChain) (stop : MapStop) → i < length chains → before ≡ map J (take i chains) → drawn ≡ J (get_or chains i c) → StopsAdding before drawn stop → StopsJoin (map J chains) stop
-stops_join J chains i c before drawn stop h were is why = elim why [
-  | inl memory ↦ inl memory
-  | inr fault ↦ elim fault [
-    | inl one ↦
-        let at : get_or (map J chains) i drawn ≡ drawn = get_or-map J chains i c drawn h ∙ sym is in
-        inr (inl (drawn.tlid, one.0, (i, drawn, (let long = length-map chains J in omega arith), at, (refl, one.1))))
-    | inr many ↦
-        let parts : before ++ drawn ∷ [] ≡ take (i + 1) (map J chains) =
-        ap (λ cs. cs ++ drawn ∷ []) were ∙ ap (λ d. map J (take i chains) ++ d ∷ []) is ∙ sym (map_more J chains i c h) ∙ sym (take-map J (i + 1) chains) in
-        inr (inr (many.0, omega (arith, many.1, ap segment_count parts, sum_by-take-le (λ d. length d.points - 1) (map J chains) (i + 1))))
-  ]
+-- a chain that can't be added keeps all from being joined
+pub unjoinable : (J : ChainEntry → CompleteChain) (chains : List ChainEntry) (i : ℕ) (c : ChainEntry) (before : List CompleteChain) (drawn : CompleteChain) → i < length chains → before ≡ map J (take i chains) → drawn ≡ J (get_or chains i c) → IsUnjoinable before drawn → AreUnjoinable (map J chains)
+unjoinable J chains i c before drawn h were is why = elim why [
+  | inl one ↦
+      let at : get_or (map J chains) i drawn ≡ drawn = get_or-map J chains i c drawn h ∙ sym is in
+      inl (i, drawn, (let long = length-map chains J in omega arith), at, one)
+  | inr many ↦
+      let parts : before ++ drawn ∷ [] ≡ take (i + 1) (map J chains) =
+      ap (λ cs. cs ++ drawn ∷ []) were ∙ ap (λ d. map J (take i chains) ++ d ∷ []) is ∙ sym (map_more J chains i c h) ∙ sym (take-map J (i + 1) chains) in
+      inr (omega (arith, many, ap segment_count parts, sum_by-take-le (λ d. length d.points - 1) (map J chains) (i + 1)))
 ]
 
 -- one more chain has several points

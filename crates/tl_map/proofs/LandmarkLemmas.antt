@@ -1,5 +1,5 @@
 use Rattle.std.proofs.Common.{◌≡◌, ◌≢◌, ℕ, suc, ◌+◌, ◌<◌, ◌≤◌, Bool, true, false, cond, eqb, not, ◌&&◌, inl, inr, Option, Some, None, List, [], ◌∷◌, ◌++◌, length, drop, map, filter, get_or, Contains, refl, sym, ap, ◌∙◌, arith}
-use Rattle.std.specs.Prelude.{nat_eq, is_some}
+use Rattle.std.specs.Prelude.{nat_eq, is_some, Any}
 use Rattle.std.specs.List.{list_any}
 use Rattle.std.specs.Map.{keys_of, lookup}
 use Rattle.std.specs.Ordering.{nat_cmp, is_lt}
@@ -18,8 +18,7 @@ use Rattle.std.proofs.lemmas.Bool.Decides.{nat_tests}
 use Rattle.tl_record_key.specs.declared.key.PolyKey.{PolyKey}
 use Rattle.tl_map_rules.specs.declared.entry.LinkEntry.{LinkEntry}
 use Rattle.tl_map.specs.declared.landmarks.Link.{Link}
-use Rattle.tl_map_rules.specs.declared.fault.MapStop.{MapStop}
-use Rattle.tl_map.specs.Keeping.Landmarks.{lands, first_of, ListsLandmarks, IsLink, AreLinks, StopsLink, StopsLinks, AreByLandmark}
+use Rattle.tl_map.specs.Keeping.Landmarks.{lands, first_of, ListsLandmarks, IsLink, AreLinks, IsLinkUnknown, AreByLandmark}
 
 -- what is listed of the first i records
 pub record Listing (entries : List LandmarkEntry) (i : ℕ) (kept : List (ℕ × Option Point)) : Type 0 where
@@ -138,9 +137,9 @@ links_more ks ns links made i d m count lt is before = record {
   ];
 }
 
--- what stops one link stops the links
-pub stops_links : (ks : List PolyKey) (ns : List ℕ) (links : List LinkEntry) (i : ℕ) (d : LinkEntry) (stop : MapStop) → i < length links → StopsLink ks ns (get_or links i d) stop → StopsLinks ks ns links stop
-stops_links ks ns links i d stop lt why = inr (i, get_or links i d, lt, get_or_default links i (get_or links i d) d lt, why)
+-- a link that names what is not there
+pub link_unknown : (ks : List PolyKey) (ns : List ℕ) (links : List LinkEntry) (i : ℕ) (d : LinkEntry) → i < length links → IsLinkUnknown ks ns (get_or links i d) → Any (IsLinkUnknown ks ns) links
+link_unknown ks ns links i d lt why = (i, get_or links i d, lt, get_or_default links i (get_or links i d) d lt, why)
 
 -- a filter by tests that agree
 filter_agree : {X : Type 0} (p q : X → Bool) → ((x : X) → p x ≡ q x) → (xs : List X) → filter p xs ≡ filter q xs

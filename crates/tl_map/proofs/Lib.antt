@@ -20,5 +20,7 @@ pub mod ProperLemmas
 pub mod OnceLemmas
 pub mod KeptLemmas
 pub mod ReadLemmas
+pub mod JoinedReadLemmas
 pub mod JoinedLemmas
 pub mod LeftLemmas
+pub mod UnbuiltLemmas

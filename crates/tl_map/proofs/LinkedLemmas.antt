@@ -1,5 +1,5 @@
 use Rattle.std.proofs.Common.{◌≡◌, ℕ, zero, suc, ◌+◌, ◌<◌, eqb, inl, inr, Option, Some, List, [], ◌∷◌, length, map, filter, take, get_or, ◌++◌, All, refl, ap, ◌∙◌, arith}
-use Rattle.std.specs.Prelude.{slice_get, nat_eq, Result, Ok, Err, MatchResult}
+use Rattle.std.specs.Prelude.{slice_get, nat_eq, Any, Result, Ok, Err, MatchResult}
 use Rattle.std.proofs.lemmas.List.{length-map}
 use Rattle.std.proofs.lemmas.Bool.{cases_eq, eq-eqb, ne_eqb}
 use Rattle.std.proofs.lemmas.Option.{slice_get_within}
@@ -15,10 +15,9 @@ use Rattle.tl_geom.specs.declared.point.Point.{Point}
 use Rattle.tl_map_county.specs.declared.landmarks.LandmarkRow.{LandmarkRow}
 use Rattle.tl_map_county.specs.Rows.{polygons_at, landmarks_in}
 use Rattle.tl_map_county.specs.declared.landmarks.LinkedLandmarks.{LinkedLandmarks}
-use Rattle.tl_map_rules.specs.declared.fault.MapStop.{MapStop}
 use Rattle.tl_map_rules.specs.MapOf.{firsts, place_of, linked_to}
 use Rattle.tl_map.specs.Keeping.Index.{Numbers}
-use Rattle.tl_map.specs.Keeping.Landmarks.{first_of, ListsLandmarks, IsLink, AreAllLinks, StopsLinks, StopsLinking, links_to, AreByLandmark, polygons_to, AreRows, landmark_from, AreLinked}
+use Rattle.tl_map.specs.Keeping.Landmarks.{first_of, ListsLandmarks, IsLink, AreAllLinks, IsLinkUnknown, AreUnlinked, links_to, AreByLandmark, polygons_to, AreRows, landmark_from, AreLinked}
 use Rattle.tl_map_county.proofs.PlaceLemmas.{contained}
 
 -- the links of the l-th LAND, by numbers and by keys
@@ -78,21 +77,15 @@ linked_all ks entries links old new f l same lists numbers all sorted rows = rec
   few = omega (arith, lists.few, ap length lists.firsts_are, length-map f.entries first_of);
 }
 
--- what stops the links
-pub stops_linking : (ks : List PolyKey) (entries : List LandmarkEntry) (f : IndexMap ℕ (Option Point) RandomState) (links : List LinkEntry) (stop : MapStop) → ListsLandmarks entries f → StopsLinks ks (keys f) links stop → StopsLinking ks entries links stop
-stops_linking ks entries f links stop lists why = elim why [
-  | inl memory ↦ inl (inl memory)
-  | inr link ↦ inr (
-    link.0,
-    link.1,
-    link.2,
-    link.3,
-    elim link.4 [
-      | inl landmark ↦ inl (landmark.0, λ has. landmark.1 (lists.all link.1.land has))
-      | inr polygon ↦ inr polygon
-    ],
-  )
-]
+-- a link that names what is not there keeps the landmarks from being linked
+pub unlinked : (ks : List PolyKey) (entries : List LandmarkEntry) (f : IndexMap ℕ (Option Point) RandomState) (links : List LinkEntry) → ListsLandmarks entries f → Any (IsLinkUnknown ks (keys f)) links → AreUnlinked ks entries links
+unlinked ks entries f links lists any = inr (
+  any.0,
+  any.1,
+  any.2,
+  any.3,
+  elim any.4 [ inl landmark ↦ inl (λ has. landmark (lists.all any.1.land has)) | inr polygon ↦ inr polygon ],
+)
 
 -- a beginning of a list, with one element more
 pub take_more : {X : Type 0} (xs : List X) (i : ℕ) (x : X) → i < length xs → take (i + 1) xs ≡ take i xs ++ get_or xs i x ∷ []

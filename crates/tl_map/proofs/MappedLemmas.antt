@@ -1,6 +1,7 @@
-use Rattle.std.proofs.Common.{◌≡◌, ℕ, zero, suc, ◌+◌, ◌<◌, ◌≤◌, Bool, true, false, cond, eqb, inl, inr, Option, List, [], ◌∷◌, length, drop, map, get_or, count_by, All, Contains, refl, ap, ◌∙◌, arith}
+use Rattle.std.proofs.Common.{◌≡◌, ℕ, zero, suc, ◌+◌, ◌<◌, ◌≤◌, Bool, true, false, cond, eqb, ◌⊎◌, inl, inr, Option, List, [], ◌∷◌, length, drop, map, get_or, count_by, All, Contains, refl, ap, ◌∙◌, arith}
 use Rattle.std.specs.Prelude.{Any}
-use Rattle.std.proofs.lemmas.Bool.{ne_eqb, eqb-true}
+use Rattle.std.specs.List.Sorted.{IsPermutation}
+use Rattle.std.proofs.lemmas.Bool.{ne_eqb, eq-eqb, eqb-true, cases_lt}
 use Rattle.std.proofs.lemmas.List.{get_or_default, length-map, get_or-map}
 use Rattle.std.proofs.lemmas.List.Sums.{sum_by-cons}
 use Rattle.std.proofs.lemmas.List.Sorted.{IsPermutation-map, IsPermutation-sym, Contains-permutation, All-permutation, sum_by-IsPermutation}
@@ -15,20 +16,21 @@ use Rattle.tl_map_county.specs.declared.sides.ChainSides.{ChainSides}
 use Rattle.tl_map_county.specs.declared.landmarks.LinkedLandmarks.{LinkedLandmarks}
 use Rattle.tl_map_rules.specs.declared.fault.Limited.TheVariants.{Chains, Segments, Polygons, Landmarks}
 use Rattle.tl_map_rules.specs.declared.fault.RecordFault.TheVariants.{DuplicateChain, ShapeWithoutChain, ShapeSequence, ShapeGap, ChainWithoutSides, SidesWithoutChain, DuplicateSides, DuplicatePolygon, SideWithoutPolygon, LinkWithoutLandmark, LinkWithoutPolygon, DegenerateChain, TooMany}
-use Rattle.tl_map_rules.specs.declared.fault.MapStop.{MapStop}
 use Rattle.tl_map_county.specs.Chains.{CompleteChain, ChainList, tlids}
 use Rattle.tl_map_rules.specs.ChainsOf.{AreChainsOf}
 use Rattle.tl_map_rules.specs.MapOf.{sides_in, polygons_in, landmarks_in, links_in, keys, without_sides, IsSided, firsts}
-use Rattle.tl_map_rules.specs.Faults.{HasChain, HaveNoFault}
+use Rattle.tl_map_rules.specs.Faults.{HasChain, HaveNoFault, StandsTwice}
 use Rattle.tl_map_county.specs.Limits.{most_polygons, most_landmarks}
 use Rattle.tl_map.specs.Keeping.Areas.{KeepsAreas}
-use Rattle.tl_map.specs.Keeping.Built.{AreBuilt, StopsBuilding}
-use Rattle.tl_map.specs.Keeping.Index.{Numbers, StopsIndex}
-use Rattle.tl_map.specs.Keeping.Sided.{sided_by, NamesKnown, sides_tlids, ArePaired, StopsPairing, StopsSides}
+use Rattle.tl_map.specs.Keeping.Built.{AreBuilt}
+use Rattle.tl_map.specs.Keeping.Index.{Numbers}
+use Rattle.tl_map.specs.Keeping.Sided.{sided_by, NamesKnown, sides_tlids, ArePaired, AreUnpaired, AreNamesUnknown}
 use Rattle.tl_map_county.specs.Rows.{landmarks_in as rows_in, sided}
-use Rattle.tl_map.specs.Keeping.Landmarks.{landmark_from, AreLinked, StopsLinking}
+use Rattle.tl_map.specs.Keeping.Landmarks.{landmark_from, AreLinked, AreUnlinked}
 use Rattle.tl_map.specs.Keeping.Mapped.{AreMapped, AreLinkedAreas}
-use Rattle.tl_map_rules.proofs.CountLemmas.{none_counted}
+use Rattle.tl_map_rules.proofs.CountLemmas.{none_counted, two_counted, rising_keys}
+use Rattle.tl_map_rules.proofs.ListingLemmas.CountedLemmas.{counted_stands, stands_counted}
+use Rattle.tl_map_rules.proofs.OneMapLemmas.{same_rising}
 use Rattle.tl_map_rules.proofs.KnownLemmas.{far, chain_known}
 use Rattle.tl_map_county.proofs.RowLemmas.{length-landmarks_in}
 
@@ -110,44 +112,59 @@ no_fault rs skipped chains new found l built paired numbers known few linked (Li
     let has = linked.known any.0 any.1 any.2 in
     fault.1 (let same : (get_or (links_in rs) any.0 any.1).key ≡ k = ap (λ (x : LinkEntry). x.key) any.3 ∙ any.4.0 in rw same at has.1)
 
--- why chains and sides aren't paired is true of the records
-pub stops_pairing : (rs : List Record) (skipped : ℕ) (chains : ChainList) (sides : List SidesEntry) (stop : MapStop) → AreBuilt rs skipped chains → sides ≡ sides_in rs → StopsPairing (tlids chains.chains) sides stop → StopsBuilding rs stop
-stops_pairing rs skipped chains sides stop built is why = elim why [
-  | inl memory ↦ rw memory tt
-  | inr fault ↦ elim fault [
-    | inl two ↦ rw two.1 (rw is at two.2)
-    | inr unpaired ↦ rw unpaired.1 (elim unpaired.2 [
-      | inl chain ↦ rw chain.1 (chain_known rs chains.chains chain.0 built.chains chain.2, λ has. chain.3 (rw is has))
-      | inr side ↦ rw side.1 ((rw is at side.2), λ has. side.3 (chain_there rs chains.chains side.0 built.chains has))
+-- a number is one of these, or it is not
+among_or_not : (xs : List ℕ) (x : ℕ) → Contains xs x ⊎ (¬ Contains xs x)
+among_or_not xs x = elim (cases_lt 0 (count_by (λ (y : ℕ). eqb y x) xs)) [
+  | inl some ↦ inl (counted_stands eqb eqb-true xs x some)
+  | inr none ↦ inr (λ has. omega (arith, none, stands_counted eqb (λ y. eq-eqb y y refl) xs x has))
+]
+
+-- records of sides that aren't those of the chains are faulty
+pub unpaired : (rs : List Record) (skipped : ℕ) (chains : ChainList) (sides new : List SidesEntry) → AreBuilt rs skipped chains → sides ≡ sides_in rs → IsPermutation sides new → AreUnpaired (tlids chains.chains) new → ¬ HaveNoFault rs
+unpaired rs skipped chains sides new built is moved off none =
+    let tlid = λ (s : SidesEntry). s.tlid in
+    let ts = tlids chains.chains in
+    let all = sides_tlids (sides_in rs) in
+    let moved_in : IsPermutation (sides_in rs) new = rw is at moved in
+    let there : IsPermutation all (sides_tlids new) = IsPermutation-map tlid (sides_in rs) new moved_in in
+    let back = IsPermutation-sym all (sides_tlids new) there in
+    let rising = rising_keys tlid new (λ k d h. elim (cases_lt (get_or new k d).tlid (get_or new (k + 1) d).tlid) [
+      | inl before ↦ before
+      | inr not_before ↦ absurd (
+          let t = (get_or new (k + 1) d).tlid in
+          let same : (get_or new k d).tlid ≡ t = omega (arith, not_before, off.ordered k (k + 1) d (omega arith) h) in
+          let two = two_counted (λ (s : SidesEntry). eqb s.tlid t) new k d h (eq-eqb _ _ same) (eq-eqb t t refl) in
+          none (DuplicateSides t) (omega (arith, two, sum_by-IsPermutation (λ (s : SidesEntry). cond (eqb s.tlid t) 1 0) (sides_in rs) new moved_in)))
+    ]) in
+    off.others (same_rising (sides_tlids new) ts (far (sides_tlids new) rising) (far ts built.chains.rising)
+    (λ t has. elim (among_or_not ts t) [
+      | inl known ↦ known
+      | inr unknown ↦ absurd (none (SidesWithoutChain t) (Contains-permutation (sides_tlids new) all t back has, λ chain. unknown (chain_there rs chains.chains t built.chains chain)))
     ])
-  ]
-]
+    (λ t has. elim (among_or_not (sides_tlids new) t) [
+      | inl known ↦ known
+      | inr unknown ↦ absurd (none (ChainWithoutSides t) (chain_known rs chains.chains t built.chains has, λ sides. unknown (Contains-permutation all (sides_tlids new) t there sides)))
+    ]))
 
--- why keys aren't indexed is true of the records
-pub stops_index : (rs : List Record) (polygons : List Polygon) (stop : MapStop) → polygons ≡ polygons_in rs → StopsIndex (keys polygons) stop → StopsBuilding rs stop
-stops_index rs polygons stop is why = elim why [
-  | inl memory ↦ rw memory tt
-  | inr twice ↦ rw twice.1 (rw is at twice.2)
-]
+-- and so are those in which a key stands twice
+pub twice : (rs : List Record) (polygons : List Polygon) → polygons ≡ polygons_in rs → (k : PolyKey) × StandsTwice (keys polygons) k → ¬ HaveNoFault rs
+twice rs polygons is why none = none (DuplicatePolygon why.0) (rw is at why.1)
 
--- why sides aren't resolved is true of the records
-pub stops_sides : (rs : List Record) (polygons : List Polygon) (ts : List ℕ) (old new : List SidesEntry) (stop : MapStop) → polygons ≡ polygons_in rs → old ≡ sides_in rs → ArePaired ts old new → StopsSides (keys polygons) new stop → StopsBuilding rs stop
-stops_sides rs polygons ts old new stop is same paired why = elim why [
-  | inl memory ↦ rw memory tt
-  | inr side ↦
-      let any = side.3 in
-      let found : Contains old any.1 = Contains-permutation new old any.1 (IsPermutation-sym old new paired.moved) (any.0, any.2, any.3) in
-      let there : Contains (sides_in rs) any.1 = rw same at found in
-      rw side.2 ((there.0, any.1, there.1, there.2, any.4), λ has. side.4 (rw is has))
-]
+-- those in which a side names a key that no polygon has
+pub unknown_names : (rs : List Record) (polygons : List Polygon) (ts : List ℕ) (old new : List SidesEntry) → polygons ≡ polygons_in rs → old ≡ sides_in rs → ArePaired ts old new → AreNamesUnknown (keys polygons) new → ¬ HaveNoFault rs
+unknown_names rs polygons ts old new is same paired why none =
+    let any = why.1 in
+    let found : Contains old any.1 = Contains-permutation new old any.1 (IsPermutation-sym old new paired.moved) (any.0, any.2, any.3) in
+    let there : Contains (sides_in rs) any.1 = rw same at found in
+    none (SideWithoutPolygon any.1.tlid why.0) ((there.0, any.1, there.1, there.2, (refl, any.4)), λ has. why.2 (rw is has))
 
--- why landmarks aren't linked is true of the records
-pub stops_linked : (rs : List Record) (polygons : List Polygon) (entries : List LandmarkEntry) (links : List LinkEntry) (stop : MapStop) → polygons ≡ polygons_in rs → entries ≡ landmarks_in rs → links ≡ links_in rs → StopsLinking (keys polygons) entries links stop → StopsBuilding rs stop
-stops_linked rs polygons entries links stop p e l why = elim why [
-  | inl landmarks ↦ elim landmarks [ inl memory ↦ rw memory tt | inr many ↦ rw many.0 (rw e at many.1) ]
+-- and those whose landmarks aren't linked
+pub unlinked : (rs : List Record) (polygons : List Polygon) (entries : List LandmarkEntry) (links : List LinkEntry) → polygons ≡ polygons_in rs → entries ≡ landmarks_in rs → links ≡ links_in rs → AreUnlinked (keys polygons) entries links → ¬ HaveNoFault rs
+unlinked rs polygons entries links p e l why none = elim why [
+  | inl many ↦ none (TooMany Landmarks) (rw e at many)
   | inr any ↦ elim any.4 [
-    | inl landmark ↦ let one : Any (λ (x : LinkEntry). x.land ≡ any.1.land) links = (any.0, any.1, any.2, any.3, refl) in rw landmark.0 (rw l at one, λ has. landmark.1 (rw e has))
-    | inr polygon ↦ let one : Any (λ (x : LinkEntry). (x.key ≡ any.1.key) × (x.land ≡ any.1.land)) links = (any.0, any.1, any.2, any.3, (refl, refl)) in rw polygon.0 (rw l at one, λ has. polygon.1 (rw p has))
+    | inl landmark ↦ let one : Any (λ (x : LinkEntry). x.land ≡ any.1.land) links = (any.0, any.1, any.2, any.3, refl) in none (LinkWithoutLandmark any.1.land) (rw l at one, λ has. landmark (rw e has))
+    | inr polygon ↦ let one : Any (λ (x : LinkEntry). (x.key ≡ any.1.key) × (x.land ≡ any.1.land)) links = (any.0, any.1, any.2, any.3, (refl, refl)) in none (LinkWithoutPolygon any.1.key any.1.land) (rw l at one, λ has. polygon (rw p has))
   ]
 ]
 

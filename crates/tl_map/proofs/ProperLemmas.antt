@@ -2,8 +2,8 @@ use Rattle.std.proofs.Common.{◌≡◌, ◌≢◌, ℕ, zero, suc, ◌<◌, Boo
 use Rattle.std.specs.List.{dedup_from}
 use Rattle.std.proofs.lemmas.Cmp.{int_eq_equiv}
 use Rattle.tl_geom.specs.declared.point.Point.{Point}
-use Rattle.tl_map_rules.specs.ChainsOf.{same_point}
-use Rattle.tl_map_county.specs.Chains.{IsProper}
+use Rattle.tl_record.specs.Joining.{same_point}
+use Rattle.tl_map_county.specs.Chains.{IsProperChain}
 use Rattle.tl_map_rules.specs.Keeping.Pairs.{dedup_after}
 use Rattle.tl_map_rules.proofs.PairLemmas.{dedup_from-is}
 
@@ -21,7 +21,7 @@ differs p (q ∷ qs) k d lt = go (same_point q p) refl (differs p qs) (differs q
     go false e here next (suc j) low = next j d (omega arith)
 
 -- what dedup leaves, where it isn't one point
-pub proper_dedup : (p : Point) (qs : List Point) → length (dedup_from same_point p qs) ≢ 1 → IsProper (dedup_from same_point p qs)
+pub proper_dedup : (p : Point) (qs : List Point) → length (dedup_from same_point p qs) ≢ 1 → IsProperChain (dedup_from same_point p qs)
 proper_dedup p qs several =
     let is = dedup_from-is p qs in
     rw is (record {

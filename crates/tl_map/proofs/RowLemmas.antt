@@ -4,12 +4,12 @@ use Rattle.std.proofs.lemmas.List.{append-nil, append_assoc, at_drop_more, at_dr
 use Rattle.std.proofs.lemmas.List.Sums.{sum_by_push}
 use Rattle.tl_map_rules.specs.declared.entry.ChainEntry.{ChainEntry}
 use Rattle.tl_map_rules.specs.declared.entry.ShapeEntry.{ShapeEntry}
-use Rattle.tl_list_records.specs.Shapes.{entry_points}
+use Rattle.tl_map_rules.specs.Listing.Shapes.{entry_points}
 use Rattle.tl_geom.specs.declared.point.Point.{Point}
 use Rattle.tl_map_county.specs.declared.chains.ChainRow.{ChainRow}
 use Rattle.tl_map_county.specs.declared.limits.TheConstants.{SEGMENT_LIMIT}
 use Rattle.tl_map_county.specs.Chains.{segment_count}
-use Rattle.tl_map_rules.specs.ChainsOf.{same_point}
+use Rattle.tl_record.specs.Joining.{same_point}
 use Rattle.tl_map_county.specs.Rows.{chains_in, IsTable}
 use Rattle.tl_map.specs.Keeping.Rows.{drawn_through}
 use Rattle.tl_map_rules.specs.Keeping.Pairs.{dedup_after}

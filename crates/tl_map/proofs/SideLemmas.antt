@@ -6,20 +6,19 @@ use Rattle.std.proofs.lemmas.List.{get_or_default, map_more}
 use Rattle.std.proofs.lemmas.List.Elements.{All-map, All-weaker}
 use Rattle.tl_record_key.specs.declared.key.PolyKey.{PolyKey}
 use Rattle.tl_map_rules.specs.declared.entry.SidesEntry.{SidesEntry}
-use Rattle.tl_map_rules.specs.declared.fault.MapStop.{MapStop}
 use Rattle.tl_map_rules.specs.MapOf.{side_of}
 use Rattle.tl_map_county.specs.Sides.{IsSideAmong, AreSidesAmong}
 use Rattle.tl_map.proofs.OnceLemmas.{place_below}
-use Rattle.tl_map.specs.Keeping.Sided.{sided_by, IsSide, NamesKnown, StopsSide, StopsSides}
+use Rattle.tl_map.specs.Keeping.Sided.{sided_by, IsSide, IsKeyUnknown, NamesKnown, AreNamesUnknown}
 
--- what stops one side stops the sides
-pub stops_left : (ks : List PolyKey) (entries : List SidesEntry) (i : ℕ) (d : SidesEntry) (stop : MapStop) → i < length entries → StopsSide ks (get_or entries i d).left (get_or entries i d).tlid stop → StopsSides ks entries stop
-stops_left ks entries i d stop lt why =
-    inr ((get_or entries i d).tlid, why.0, why.1, (i, get_or entries i d, lt, get_or_default entries i (get_or entries i d) d lt, (refl, inl why.2)), why.3)
+-- a side whose key isn't known is one of a record
+pub left_unknown : (ks : List PolyKey) (entries : List SidesEntry) (i : ℕ) (d : SidesEntry) → i < length entries → IsKeyUnknown ks (get_or entries i d).left → AreNamesUnknown ks entries
+left_unknown ks entries i d lt why =
+    (why.0, (i, get_or entries i d, lt, get_or_default entries i (get_or entries i d) d lt, inl why.1), why.2)
 
-pub stops_right : (ks : List PolyKey) (entries : List SidesEntry) (i : ℕ) (d : SidesEntry) (stop : MapStop) → i < length entries → StopsSide ks (get_or entries i d).right (get_or entries i d).tlid stop → StopsSides ks entries stop
-stops_right ks entries i d stop lt why =
-    inr ((get_or entries i d).tlid, why.0, why.1, (i, get_or entries i d, lt, get_or_default entries i (get_or entries i d) d lt, (refl, inr why.2)), why.3)
+pub right_unknown : (ks : List PolyKey) (entries : List SidesEntry) (i : ℕ) (d : SidesEntry) → i < length entries → IsKeyUnknown ks (get_or entries i d).right → AreNamesUnknown ks entries
+right_unknown ks entries i d lt why =
+    (why.0, (i, get_or entries i d, lt, get_or_default entries i (get_or entries i d) d lt, inr why.1), why.2)
 
 -- the sides of one record more
 pub sides_more : (ks : List PolyKey) (entries : List SidesEntry) (i : ℕ) (d : SidesEntry) (sides new : List ChainSides) (left right : Side) → i < length entries → sides ≡ map (sided_by ks) (take i entries) → IsSide ks (get_or entries i d).left left → IsSide ks (get_or entries i d).right right → new ≡ sides ++ record { left = left; right = right; start_cell = (get_or entries i d).start_cell; end_cell = (get_or entries i d).end_cell } ∷ [] → new ≡ map (sided_by ks) (take (i + 1) entries)

@@ -3,7 +3,7 @@ use Rattle.std.proofs.lemmas.Bool.{cases_lt, eq-eqb, ne_eqb}
 use Rattle.std.proofs.lemmas.List.{get_or_default}
 use Rattle.tl_map_rules.specs.declared.entry.ChainEntry.{ChainEntry}
 use Rattle.tl_map_rules.specs.declared.entry.ShapeEntry.{ShapeEntry}
-use Rattle.tl_map.specs.Keeping.Entries.{chains_with, AreRising, has_tlid, shapes_with, AreInOrder}
+use Rattle.tl_map.specs.Keeping.Entries.{chains_with, AreEntriesRising, has_tlid, shapes_with, AreInOrder}
 use Rattle.tl_map_rules.proofs.CountLemmas.{none_counted, one_counted}
 
 -- the chains passed so far and those passed now are all below the i-th shape
@@ -18,7 +18,7 @@ all_below chains shapes i start b d h order passed below k e lt =
     ]
 
 -- no chain has the TLID, where the first that is not below it has another
-pub no_chain : (chains : List ChainEntry) (t b : ℕ) → AreRising chains → ((k : ℕ) (e : ChainEntry) → k < b → (get_or chains k e).tlid < t) → ((e : ChainEntry) → b < length chains → t < (get_or chains b e).tlid) → chains_with t chains ≡ 0
+pub no_chain : (chains : List ChainEntry) (t b : ℕ) → AreEntriesRising chains → ((k : ℕ) (e : ChainEntry) → k < b → (get_or chains k e).tlid < t) → ((e : ChainEntry) → b < length chains → t < (get_or chains b e).tlid) → chains_with t chains ≡ 0
 no_chain chains t b rising below above =
     none_counted (λ (c : ChainEntry). eqb c.tlid t) chains (λ k e h. ne_eqb _ _ (apart k e h))
   where
@@ -33,7 +33,7 @@ no_chain chains t b rising below above =
         ]
 
 -- the i-th shape has a TLID that no chain has
-pub stray_found : (chains : List ChainEntry) (shapes : List ShapeEntry) (i b : ℕ) (c : ChainEntry) (d : ShapeEntry) → i < length shapes → AreRising chains → ((k : ℕ) (e : ChainEntry) → k < b → (get_or chains k e).tlid < (get_or shapes i d).tlid) → ((e : ChainEntry) → b < length chains → (get_or shapes i d).tlid ≤ (get_or chains b e).tlid) → (b ≡ length chains) ⊎ ((get_or chains b c).tlid ≢ (get_or shapes i d).tlid) → (1 ≤ shapes_with (get_or shapes i d).tlid shapes) × (chains_with (get_or shapes i d).tlid chains ≡ 0)
+pub stray_found : (chains : List ChainEntry) (shapes : List ShapeEntry) (i b : ℕ) (c : ChainEntry) (d : ShapeEntry) → i < length shapes → AreEntriesRising chains → ((k : ℕ) (e : ChainEntry) → k < b → (get_or chains k e).tlid < (get_or shapes i d).tlid) → ((e : ChainEntry) → b < length chains → (get_or shapes i d).tlid ≤ (get_or chains b e).tlid) → (b ≡ length chains) ⊎ ((get_or chains b c).tlid ≢ (get_or shapes i d).tlid) → (1 ≤ shapes_with (get_or shapes i d).tlid shapes) × (chains_with (get_or shapes i d).tlid chains ≡ 0)
 stray_found chains shapes i b c d h rising below stops other = (
   omega (arith, one_counted (has_tlid (get_or shapes i d).tlid) shapes i d h (eq-eqb _ _ refl)),
   no_chain chains (get_or shapes i d).tlid b rising below (λ e lt. elim other [

@@ -4,7 +4,7 @@ use Rattle.tl_record.specs.declared.record.Record.{Record}
 use Rattle.tl_map_county.specs.TheMap.{TheMap}
 use Rattle.tl_map_rules.specs.Faults.{HaveNoFault}
 use Rattle.tl_map_rules.specs.MapOf.{IsMapOf}
-use Rattle.tl_list_records.specs.AllFaults.{AreAllFaults}
+use Rattle.tl_map_rules.specs.Listing.AllFaults.{AreAllFaults}
 use Rattle.tl_map.specs.declared.no_map.NoMap.{NoMap}
 use Rattle.tl_map.specs.declared.no_map.NoMap.TheVariants.{Memory, Faults}
 use Rattle.tl_map.specs.declared.collected.CollectedRecords.{CollectedRecords}

@@ -1,4 +1,5 @@
 -- What the code keeps on its way from the records to the map. No public contract cites a file of this folder.
+pub mod Unbuilt
 pub mod Entries
 pub mod Rows
 pub mod Collected

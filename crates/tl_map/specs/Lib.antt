@@ -7,3 +7,4 @@ pub use Rattle.tl_map_county.specs.Darts
 pub use Rattle.tl_map_county.specs.Nodes
 pub use Rattle.tl_map_county.specs.Segments
 pub use Rattle.tl_map_county.specs.Limits
+pub mod Joined

@@ -7,7 +7,9 @@ ghost use Rattle.tl_map.specs.Collecting.{StopsOn};
 ghost use Rattle.tl_map.specs.Keeping.Collected.{Collects};
 ghost use Rattle.tl_map.specs.Keeping.Areas.{KeepsAreas, AreSameAreas};
 ghost use Rattle.tl_map.specs.Keeping.Mapped.{AreMapped, AreLinkedAreas};
-ghost use Rattle.tl_map.specs.Keeping.Built.{AreBuilt, StopsBuilding};
+ghost use Rattle.tl_map_rules.specs.Faults.{HaveNoFault};
+ghost use Rattle.tl_map.specs.Keeping.Unbuilt.{StopsFor};
+ghost use Rattle.tl_map.specs.Keeping.Built.{AreBuilt};
 
 use crate::areas::AreaRecords;
 use crate::build::build_chains;
@@ -17,10 +19,10 @@ use crate::left::{faults_behind, faults_of};
 use crate::no_map::NoMap;
 use crate::polygons::index_polygons;
 use crate::sides::{pair_sides, resolve_sides};
+use crate::unbuilt::Unbuilt;
 use std::alloc::Global;
 use std::hash::RandomState;
 use tl_map_county::{Chains, LinkedLandmarks, Map, POLYGON_LIMIT, SidesOfChains, release};
-use tl_map_rules::MapStop;
 
 /// The sides of the chains and the landmarks with their polygons. The type I records are sorted where they are kept.
 fn link_areas(
@@ -28,12 +30,12 @@ fn link_areas(
     hasher: RandomState,
     chains: &Chains,
     areas: &mut AreaRecords,
-) -> Result<(SidesOfChains, LinkedLandmarks), MapStop>
+) -> Result<(SidesOfChains, LinkedLandmarks), Unbuilt>
     // The chains are those of some records, whose others are kept.
     requires kept { (rs : List Record) × (skipped : ℕ) × AreBuilt rs skipped chains.now × KeepsAreas rs areas.old }
     requires few { length areas.old.polygons.items ≤ most_polygons }
     ensures linked { (rs : List Record) (skipped : ℕ) → AreBuilt rs skipped chains.now → KeepsAreas rs areas.old →
-        MatchResult result (λ made. AreLinkedAreas chains.now areas.old made.0 made.1) (StopsBuilding rs) }
+        MatchResult result (λ made. AreLinkedAreas chains.now areas.old made.0 made.1) (StopsFor (¬ HaveNoFault rs)) }
     ensures same { AreSameAreas areas.old areas.new }
 {
     pair_sides(alloc, chains, &mut areas.sides)?;
@@ -70,11 +72,11 @@ fn build_on_chains(
             let map = Map::new(alloc, chains, sides, polygons, linked)?;
             Ok(map)
         }
-        Err(MapStop::Fault(_)) => {
+        Err(Unbuilt::Faulty) => {
             let faults = faults_behind(alloc, &chains, areas)?;
             Err(NoMap::Faults(faults))
         }
-        Err(_) => Err(NoMap::Memory),
+        Err(Unbuilt::Memory) => Err(NoMap::Memory),
     }
 }
 
@@ -101,10 +103,10 @@ pub fn build_map(
             collected.release();
             build_on_chains(alloc, hasher, chains, areas)
         }
-        Err(MapStop::Fault(_)) => {
+        Err(Unbuilt::Faulty) => {
             let faults = faults_of(alloc, collected, areas)?;
             Err(NoMap::Faults(faults))
         }
-        Err(_) => Err(NoMap::Memory),
+        Err(Unbuilt::Memory) => Err(NoMap::Memory),
     }
 }

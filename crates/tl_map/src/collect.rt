@@ -7,8 +7,8 @@ ghost use Rattle.tl_record.specs.declared.record.Record.{Record};
 ghost use Rattle.tl_record.specs.declared.record.Record.TheVariants.{Shape};
 ghost use Rattle.tl_map_rules.specs.declared.entry.Fill.TheVariants.{Full, Ended, Gap};
 ghost use Rattle.tl_map_rules.specs.ChainsOf.{used};
-ghost use Rattle.tl_list_records.specs.Kept.{shape_at};
-ghost use Rattle.tl_list_records.specs.Shapes.{fill_of, summary_in, IsInside};
+ghost use Rattle.tl_map_rules.specs.Listing.Kept.{shape_at};
+ghost use Rattle.tl_map_rules.specs.Listing.Shapes.{fill_of, summary_in, IsInside};
 ghost use Rattle.tl_map.specs.Keeping.Entries.{AreShapeEntries};
 
 use std::alloc::{AllocError, Global};

@@ -26,7 +26,7 @@ impl CollectedRecords {
     ghost use Rattle.std.specs.Prelude.{◌≡◌, ◌∷◌, [], ◌++◌, List, OnOk, IfOk, IfErr};
     ghost use Rattle.tl_record.specs.declared.record.Record.{Record};
     ghost use Rattle.tl_map_rules.specs.Lacking.{lacking_where};
-    ghost use Rattle.tl_list_records.specs.AllFaults.{AreAllFaults};
+    ghost use Rattle.tl_map_rules.specs.Listing.AllFaults.{AreAllFaults};
     ghost use Rattle.tl_map.specs.Collecting.{HasCollected, IsMapOfRecords, StopsOn};
 
     /// No record.

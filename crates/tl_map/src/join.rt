@@ -6,17 +6,19 @@ ghost use Rattle.tl_geom.specs.declared.point.Point.{Point};
 ghost use Rattle.tl_map_rules.specs.declared.entry.ShapeEntry.{ShapeEntry};
 ghost use Rattle.tl_map_county.specs.declared.limits.TheConstants.{CHAIN_LIMIT, SEGMENT_LIMIT};
 ghost use Rattle.std.specs.List.{flat_map};
-ghost use Rattle.tl_list_records.specs.Shapes.{entry_points, IsInside};
-ghost use Rattle.tl_map.specs.Keeping.Entries.{AreRising, AreInOrder, chains_with, joined};
+ghost use Rattle.tl_map_rules.specs.Listing.Shapes.{entry_points, IsInside};
+ghost use Rattle.tl_map.specs.Keeping.Entries.{AreEntriesRising, AreInOrder, chains_with, joined};
 ghost use Rattle.tl_map_county.specs.Rows.{IsTable, chains_in};
-ghost use Rattle.tl_map.specs.Keeping.Rows.{drawn_through, drawn_by, IsAdded, StopsAdding};
-ghost use Rattle.tl_map.specs.Keeping.Rows.{AreJoinedBy, StopsJoin};
+ghost use Rattle.tl_map.specs.Keeping.Unbuilt.{StopsFor};
+ghost use Rattle.tl_map.specs.Keeping.Rows.{drawn_through, drawn_by, IsAdded, IsUnjoinable};
+ghost use Rattle.tl_map.specs.Keeping.Rows.{AreJoinedBy, AreUnjoinable};
 ghost use Rattle.tl_map_rules.specs.Keeping.Pairs.{dedup_after};
 
+use crate::unbuilt::Unbuilt;
 use std::alloc::{AllocError, Global};
 use tl_geom::Point;
 use tl_map_county::{CHAIN_LIMIT, ChainRow, Chains, SEGMENT_LIMIT, run_end};
-use tl_map_rules::{ChainEntry, Limited, MapStop, RecordFault, ShapeEntry};
+use tl_map_rules::{ChainEntry, ShapeEntry};
 
 /// Appends the points that differ from the one before, where `last` is the one before the first. Gives the last.
 fn append_distinct(
@@ -65,23 +67,23 @@ fn add_chain(
     chain: &ChainEntry,
     run: &[ShapeEntry],
     pool: &[Point],
-) -> Result<(), MapStop>
+) -> Result<(), Unbuilt>
     requires inside { All (IsInside pool.now) run.now }
     requires table { IsTable points.old.items rows.old.items }
     requires room { length rows.old.items < CHAIN_LIMIT }
     requires few { length points.old.items ≤ SEGMENT_LIMIT + length rows.old.items }
     ensures { MatchResult result
         (λ done. IsAdded (drawn_by pool.now chain.now run.now) points.old.items rows.old.items points.new.items rows.new.items)
-        (StopsAdding (chains_in points.old.items rows.old.items) (drawn_by pool.now chain.now run.now)) }
+        (StopsFor (IsUnjoinable (chains_in points.old.items rows.old.items) (drawn_by pool.now chain.now run.now))) }
 {
     let first = points.len();
     append_chain(points, chain, run, pool)?;
     let count = points.len() - first;
     if count == 1 {
-        return Err(MapStop::Fault(RecordFault::DegenerateChain { tlid: chain.tlid }));
+        return Err(Unbuilt::Faulty);
     }
     if points.len() > SEGMENT_LIMIT as usize + rows.len() + 1 {
-        return Err(MapStop::Fault(RecordFault::TooMany(Limited::Segments)));
+        return Err(Unbuilt::Faulty);
     }
     rows.push(ChainRow {
         tlid: chain.tlid,
@@ -99,14 +101,14 @@ pub fn join(
     shapes: &[ShapeEntry],
     pool: &[Point],
     skipped: u64,
-) -> Result<Chains, MapStop>
+) -> Result<Chains, Unbuilt>
     requires room { length chains.now ≤ CHAIN_LIMIT }
-    requires rising { AreRising chains.now }
+    requires rising { AreEntriesRising chains.now }
     requires ordered { AreInOrder shapes.now }
     requires inside { All (IsInside pool.now) shapes.now }
     requires known { All (λ s. 1 ≤ chains_with s.tlid chains.now) shapes.now }
     ensures { MatchResult result (AreJoinedBy pool.now shapes.now chains.now skipped)
-        (StopsJoin (map (joined pool.now shapes.now) chains.now)) }
+        (StopsFor (AreUnjoinable (map (joined pool.now shapes.now) chains.now))) }
 {
     // Each point but for a few has its place at once, so that the list doesn't grow beside its older self.
     let most = (chains.len() * 2).saturating_add(pool.len());

@@ -1,24 +1,27 @@
 //! Landmarks and the polygons that are linked to them.
 
 ghost use Rattle.std.specs.Prelude.{◌≡◌, ◌<◌, ◌≤◌, ◌^◌, ◌++◌, [], ℕ, List, IfOk, IfErr, OnOk, MatchResult, All, length};
-ghost use Rattle.std.specs.Prelude.{map, nat_eq};
+ghost use Rattle.std.specs.Prelude.{map, nat_eq, Any, MatchOption};
+ghost use Rattle.tl_map.specs.Keeping.Unbuilt.{StopsFor};
+ghost use Rattle.tl_map_rules.specs.declared.entry.LandmarkEntry.{LandmarkEntry};
 ghost use Rattle.tl_record_key.specs.declared.key.PolyKey.{PolyKey};
 ghost use Rattle.tl_map.specs.Keeping.Index.{Indexes};
-ghost use Rattle.tl_map.specs.Keeping.Landmarks.{ListsLandmarks, StopsLandmarks, IsLink, IndexesLands, StopsLink};
-ghost use Rattle.tl_map.specs.Keeping.Landmarks.{AreAllLinks, StopsLinks, AreByLandmark, AreRows};
-ghost use Rattle.tl_map.specs.Keeping.Landmarks.{AreLinkRows, AreLinked, StopsLinking};
+ghost use Rattle.tl_map.specs.Keeping.Landmarks.{ListsLandmarks, IsLink, IndexesLands, IsLinkUnknown};
+ghost use Rattle.tl_map.specs.Keeping.Landmarks.{AreAllLinks, AreByLandmark, AreRows};
+ghost use Rattle.tl_map.specs.Keeping.Landmarks.{AreLinkRows, AreLinked, AreUnlinked};
 ghost use Rattle.tl_map_rules.specs.MapOf.{firsts, same_key};
 ghost use Rattle.indexmap.specs.IndexMap.{IsUnique, keys};
 ghost use Rattle.tl_map_county.specs.declared.limits.TheConstants.{LANDMARK_LIMIT};
 ghost use Rattle.tl_map.specs.declared.landmarks.Link.{Link};
 ghost use Rattle.std.specs.List.Sorted.{IsNonDecreasingBy};
 
+use crate::unbuilt::Unbuilt;
 use indexmap::IndexMap;
 use std::alloc::{AllocError, Global};
 use std::hash::RandomState;
 use tl_geom::Point;
 use tl_map_county::{Keyed, LANDMARK_LIMIT, LandmarkRow, LinkedLandmarks, run_end};
-use tl_map_rules::{LandmarkEntry, Limited, LinkEntry, MapStop, RecordFault};
+use tl_map_rules::{LandmarkEntry, LinkEntry};
 use tl_record::PolyKey;
 
 /// The first record of each LAND, by their order: the LAND with the record's point.
@@ -26,15 +29,15 @@ pub fn first_landmarks(
     alloc: Global,
     hasher: RandomState,
     entries: &[LandmarkEntry],
-) -> Result<IndexMap<u64, Option<Point>, RandomState>, MapStop>
+) -> Result<IndexMap<u64, Option<Point>, RandomState>, Unbuilt>
     ensures ok { IfOk result (ListsLandmarks entries.now) }
-    ensures stops { IfErr result (StopsLandmarks entries.now) }
+    ensures stops { IfErr result (StopsFor (LANDMARK_LIMIT < length (firsts (λ (e : LandmarkEntry). e.land) entries.now))) }
 {
     let mut firsts = IndexMap::with_hasher(alloc, hasher);
     for entry in entries {
         if !firsts.contains_key(&entry.land) {
             if firsts.len() == LANDMARK_LIMIT as usize {
-                return Err(MapStop::Fault(RecordFault::TooMany(Limited::Landmarks)));
+                return Err(Unbuilt::Faulty);
             }
             firsts.insert(entry.land, entry.point)?;
         }
@@ -76,52 +79,45 @@ impl Keyed for Link {
     }
 }
 
-/// The numbers of a link's landmark and polygon.
+/// The numbers of a link's landmark and polygon, if both are there.
 fn resolve_link(
     polygons: &IndexMap<PolyKey, Point, RandomState>,
     landmarks: &IndexMap<u64, Option<Point>, RandomState>,
     link: LinkEntry,
-) -> Result<Link, MapStop>
+) -> Option<Link>
     requires polygons { length polygons.now.entries < 2 ^ 32 }
     requires landmarks { length landmarks.now.entries < 2 ^ 32 }
     ensures { (ks : List PolyKey) (lands : List ℕ) → Indexes ks polygons.now → IndexesLands lands landmarks.now →
-        MatchResult result (IsLink ks lands link) (StopsLink ks lands link) }
+        MatchOption result (IsLinkUnknown ks lands link) (IsLink ks lands link) }
 {
-    let landmark = match landmarks.get_index_of(&link.land) {
-        Some(landmark) => landmark as u32,
-        None => {
-            return Err(MapStop::Fault(RecordFault::LinkWithoutLandmark { land: link.land }));
-        }
-    };
-    match polygons.get_index_of(&link.key) {
-        Some(polygon) => Ok(Link {
-            landmark,
-            polygon: polygon as u32,
-        }),
-        None => Err(MapStop::Fault(RecordFault::LinkWithoutPolygon {
-            polygon: link.key,
-            land: link.land,
-        })),
-    }
+    let landmark = landmarks.get_index_of(&link.land)?;
+    let polygon = polygons.get_index_of(&link.key)?;
+    Some(Link {
+        landmark: landmark as u32,
+        polygon: polygon as u32,
+    })
 }
 
-/// The links by the numbers of landmarks and polygons, in file order.
+/// The links by the numbers of landmarks and polygons, in file order, if all of these are there.
 fn resolve_links(
     alloc: Global,
     polygons: &IndexMap<PolyKey, Point, RandomState>,
     landmarks: &IndexMap<u64, Option<Point>, RandomState>,
     links: &[LinkEntry],
-) -> Result<Vec<Link>, MapStop>
+) -> Result<Vec<Link>, Unbuilt>
     requires polygons { length polygons.now.entries < 2 ^ 32 }
     requires landmarks { length landmarks.now.entries < 2 ^ 32 }
     ensures ok { (ks : List PolyKey) (lands : List ℕ) → Indexes ks polygons.now → IndexesLands lands landmarks.now →
         IfOk result (λ made. AreAllLinks ks lands links.now made.items) }
     ensures stops { (ks : List PolyKey) (lands : List ℕ) → Indexes ks polygons.now →
-        IndexesLands lands landmarks.now → IfErr result (StopsLinks ks lands links.now) }
+        IndexesLands lands landmarks.now → IfErr result (StopsFor (Any (IsLinkUnknown ks lands) links.now)) }
 {
     let mut made = Vec::with_capacity(alloc, links.len())?;
     for link in links {
-        made.push(resolve_link(polygons, landmarks, *link)?)?;
+        let Some(resolved) = resolve_link(polygons, landmarks, *link) else {
+            return Err(Unbuilt::Faulty);
+        };
+        made.push(resolved)?;
     }
     Ok(made)
 }
@@ -213,13 +209,13 @@ fn link_landmarks(
     polygons: &IndexMap<PolyKey, Point, RandomState>,
     landmarks: &IndexMap<u64, Option<Point>, RandomState>,
     links: &[LinkEntry],
-) -> Result<(Vec<LandmarkRow>, Vec<u32>), MapStop>
+) -> Result<(Vec<LandmarkRow>, Vec<u32>), Unbuilt>
     requires polygons { length polygons.now.entries < 2 ^ 32 }
     requires few { length landmarks.now.entries ≤ LANDMARK_LIMIT }
     requires keys { IsUnique same_key polygons.now }
     requires lands { IsUnique nat_eq landmarks.now }
     ensures { MatchResult result (λ l. AreLinkRows (keys polygons.now) (keys landmarks.now) links.now
-        (length landmarks.now.entries) l.1.items l.0.items) (StopsLinks (keys polygons.now) (keys landmarks.now) links.now) }
+        (length landmarks.now.entries) l.1.items l.0.items) (StopsFor (Any (IsLinkUnknown (keys polygons.now) (keys landmarks.now)) links.now)) }
 {
     let mut made = resolve_links(alloc, polygons, landmarks, links)?;
     sort_links(&mut made)?;
@@ -233,13 +229,13 @@ fn link_indexed(
     polygons: &IndexMap<PolyKey, Point, RandomState>,
     landmarks: &IndexMap<u64, Option<Point>, RandomState>,
     links: &[LinkEntry],
-) -> Result<LinkedLandmarks, MapStop>
+) -> Result<LinkedLandmarks, Unbuilt>
     requires polygons { length polygons.now.entries < 2 ^ 32 }
     requires few { length landmarks.now.entries ≤ LANDMARK_LIMIT }
     requires keys { IsUnique same_key polygons.now }
     requires lands { IsUnique nat_eq landmarks.now }
     ensures { MatchResult result (λ l. (l.points.items ≡ landmarks.now.entries) × AreLinkRows (keys polygons.now) (keys landmarks.now) links.now
-        (length landmarks.now.entries) l.linked.items l.rows.items) (StopsLinks (keys polygons.now) (keys landmarks.now) links.now) }
+        (length landmarks.now.entries) l.linked.items l.rows.items) (StopsFor (Any (IsLinkUnknown (keys polygons.now) (keys landmarks.now)) links.now)) }
 {
     let (rows, linked) = link_landmarks(alloc, polygons, landmarks, links)?;
     let points = points_of(alloc, landmarks)?;
@@ -257,11 +253,11 @@ pub fn build_landmarks(
     index: &IndexMap<PolyKey, Point, RandomState>,
     entries: &[LandmarkEntry],
     links: &[LinkEntry],
-) -> Result<LinkedLandmarks, MapStop>
+) -> Result<LinkedLandmarks, Unbuilt>
     requires few { length index.now.entries < 2 ^ 32 }
     requires unique { IsUnique same_key index.now }
     ensures { MatchResult result (AreLinked (keys index.now) entries.now links.now)
-        (StopsLinking (keys index.now) entries.now links.now) }
+        (StopsFor (AreUnlinked (keys index.now) entries.now links.now)) }
 {
     let firsts = first_landmarks(alloc, hasher, entries)?;
     link_indexed(alloc, index, &firsts, links)

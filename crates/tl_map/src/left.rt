@@ -6,8 +6,8 @@ ghost use Rattle.std.specs.List.Sorted.{IsStrictlyIncreasing};
 ghost use Rattle.tl_record.specs.declared.record.Record.{Record};
 ghost use Rattle.tl_map_county.specs.Chains.{tlids};
 ghost use Rattle.tl_map_rules.specs.MapOf.{keys};
-ghost use Rattle.tl_list_records.specs.AllFaults.{AreAllFaults};
-ghost use Rattle.tl_list_records.specs.Kept.{HasAreas, named, names_of};
+ghost use Rattle.tl_map_rules.specs.Listing.AllFaults.{AreAllFaults, AreAllChainFaults};
+ghost use Rattle.tl_map_rules.specs.Listing.Kept.{HasAreas, named, names_of};
 ghost use Rattle.tl_map.specs.Keeping.Collected.{LeavesChains};
 ghost use Rattle.tl_map.specs.Keeping.Areas.{LeavesAreas};
 ghost use Rattle.tl_map.specs.Keeping.Built.{AreBuilt};
@@ -17,10 +17,10 @@ use crate::areas::AreaRecords;
 use crate::collect::Collected;
 use crate::kept::KeptSides;
 use std::alloc::{AllocError, Global};
-use tl_list_records::{
-    KeptAreas, NamedSide, all_record_faults, faults_behind_chains, summaries_of,
-};
 use tl_map_county::{Chains, Polygon};
+use tl_map_rules::listing::{
+    KeptAreas, NamedSide, all_chain_faults, all_record_faults, faults_behind_chains, summaries_of,
+};
 use tl_map_rules::{LandmarkEntry, RecordFault};
 use tl_record::PolyKey;
 
@@ -43,6 +43,21 @@ pub fn faults_of(
     let summaries = summaries_of(alloc, &shapes, &pool)?;
     let kept = keep_areas(alloc, areas)?;
     all_record_faults(alloc, chains, summaries, kept)
+}
+
+/// All faults of the chains of the records.
+pub fn chain_faults_of(alloc: Global, collected: Collected) -> Result<Vec<RecordFault>, AllocError>
+    // It has collected some records.
+    requires { (rs : List Record) × LeavesChains rs collected }
+    ensures { (rs : List Record) → LeavesChains rs collected → IfOk result (λ faults. AreAllChainFaults rs faults.items) }
+{
+    let Collected {
+        chains,
+        shapes,
+        pool,
+    } = collected;
+    let summaries = summaries_of(alloc, &shapes, &pool)?;
+    all_chain_faults(alloc, chains, summaries)
 }
 
 /// All faults of the records that have these chains.

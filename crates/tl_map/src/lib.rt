@@ -17,6 +17,7 @@ mod collect;
 mod collected;
 mod guess;
 mod join;
+pub mod joined;
 mod kept;
 mod lacking;
 mod landmarks;
@@ -27,6 +28,7 @@ mod polygons;
 mod read;
 mod sides;
 mod sort;
+mod unbuilt;
 
 pub use collected::CollectedRecords;
 pub use no_map::NoMap;

@@ -10,18 +10,18 @@ ghost use Rattle.tl_record.specs.Reader.{source_of, skipped_of, standing_of, out
 ghost use Rattle.tl_map_rules.specs.Reading.{AreReadFrom, IsReadFrom, StopsReading, IfFault, TellsDevice};
 ghost use Rattle.tl_map_rules.specs.Faults.{IsFaultOfChains};
 ghost use Rattle.tl_map.specs.Keeping.Gathering.{Gathers, GathersAll, GathersTold, CollectsAll, StopsGathering};
-ghost use Rattle.tl_map_join.specs.Told.{HasTold, joined_records};
+ghost use Rattle.tl_map.specs.Joined.Told.{HasTold, joined_records};
 
 use crate::areas::AreaRecords;
-use crate::build::build_chains;
+use crate::build::chains_or_fault;
 use crate::build_map::build_map;
 use crate::collect::Collected;
+use crate::joined::ToldRecords;
 use crate::lacking::lacking_where;
 use crate::no_map::first_told;
 use std::alloc::{AllocError, Global};
 use std::hash::RandomState;
 use tl_map_county::{Chains, Map};
-use tl_map_join::ToldRecords;
 use tl_map_rules::MapStop;
 use tl_record::{NO_RECORD, Options, PLAIN, RecordReader, Source};
 
@@ -192,10 +192,8 @@ pub fn read_chains_with<R: Source>(
     ensures failures { TellsDevice (R.failure_count records.old) (R.failure_count records.new) result }
 {
     let mut reader = RecordReader::with(records, options);
-    let mut collected = collect_chains(alloc, &mut reader, options.join)?;
-    let built = build_chains(alloc, &mut collected, reader.skipped());
-    collected.release();
-    built
+    let collected = collect_chains(alloc, &mut reader, options.join)?;
+    chains_or_fault(alloc, collected, reader.skipped())
 }
 
 /// Reads the map of a county from the text of its record files, by the columns of [`Options`]'s default.

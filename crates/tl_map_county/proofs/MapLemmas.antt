@@ -4,7 +4,7 @@ use Rattle.std.proofs.lemmas.Option.{slice_get-get_or}
 use Rattle.std.proofs.lemmas.List.Elements.{All-head, All-tail}
 use Rattle.tl_geom.specs.declared.point.Point.{Point}
 use Rattle.tl_map_county.specs.declared.sides.ChainSides.{ChainSides}
-use Rattle.tl_map_county.specs.Chains.{CompleteChain, tlids, IsProper}
+use Rattle.tl_map_county.specs.Chains.{CompleteChain, tlids, IsProperChain}
 use Rattle.tl_map_county.specs.TheMap.{IsChain, MapChain}
 use Rattle.tl_map_county.specs.Rows.{with_sides, sided}
 use Rattle.tl_map_county.specs.Sides.{AreSidesAmong, HasSidesAmong}
@@ -40,7 +40,7 @@ chain_read cs ss i t ps s lt same tlid points at =
     }
 
 -- the points of a chain are proper
-pub proper_read : (cs : List CompleteChain) (i : ℕ) (ps : List Point) → i < length cs → slice_get (map (λ (c : CompleteChain). c.points) cs) i ≡ Some ps → All (λ (c : CompleteChain). IsProper c.points) cs → IsProper ps
+pub proper_read : (cs : List CompleteChain) (i : ℕ) (ps : List Point) → i < length cs → slice_get (map (λ (c : CompleteChain). c.points) cs) i ≡ Some ps → All (λ (c : CompleteChain). IsProperChain c.points) cs → IsProperChain ps
 proper_read cs i ps lt points all =
     let d : CompleteChain = record { tlid = 0; points = [] } in
     let two = slice_get-image (λ (x : CompleteChain). x.points) cs i d lt in
@@ -64,11 +64,11 @@ sided_among n (c ∷ cs) (s ∷ ss) same all (suc i) d lt =
     sided_among n cs ss (omega (arith, same)) (All-tail (AreSidesAmong n) s ss all) i d (omega (arith, lt))
 
 -- the chains are proper with their sides as without
-pub sided_proper : (cs : List CompleteChain) (ss : List ChainSides) (i : ℕ) (chain : MapChain) → All (λ (c : CompleteChain). IsProper c.points) cs → slice_get (sided cs ss) i ≡ Some chain
-    → IsProper chain.points
+pub sided_proper : (cs : List CompleteChain) (ss : List ChainSides) (i : ℕ) (chain : MapChain) → All (λ (c : CompleteChain). IsProperChain c.points) cs → slice_get (sided cs ss) i ≡ Some chain
+    → IsProperChain chain.points
 sided_proper [] ss i chain all is = absurd (let e : None ≡ Some chain = is in cc)
 sided_proper (c ∷ cs) [] i chain all is = absurd (let e : None ≡ Some chain = is in cc)
 sided_proper (c ∷ cs) (s ∷ ss) zero chain all is =
     let e : with_sides c s ≡ chain = cc in
-    subst (λ (m : MapChain). IsProper m.points) e (All-head (λ (x : CompleteChain). IsProper x.points) c cs all)
-sided_proper (c ∷ cs) (s ∷ ss) (suc i) chain all is = sided_proper cs ss i chain (All-tail (λ (x : CompleteChain). IsProper x.points) c cs all) is
+    subst (λ (m : MapChain). IsProperChain m.points) e (All-head (λ (x : CompleteChain). IsProperChain x.points) c cs all)
+sided_proper (c ∷ cs) (s ∷ ss) (suc i) chain all is = sided_proper cs ss i chain (All-tail (λ (x : CompleteChain). IsProperChain x.points) c cs all) is

@@ -4,7 +4,7 @@ use Rattle.std.proofs.lemmas.Bool.{cases_lt}
 use Rattle.std.proofs.lemmas.List.{get_or_default}
 use Rattle.std.proofs.lemmas.List.Sums.{sum_by_more}
 use Rattle.tl_geom.specs.declared.point.Point.{Point}
-use Rattle.tl_map_county.specs.Chains.{CompleteChain, IsProper}
+use Rattle.tl_map_county.specs.Chains.{CompleteChain, IsProperChain}
 use Rattle.tl_map_county.specs.Keeping.Numbered.{NumberUpTo}
 use Rattle.tl_map_county.proofs.PlaceLemmas.{slice_get-image}
 
@@ -32,10 +32,10 @@ pub points_told : (cs : List CompleteChain) (n : ℕ) (ps : List Point) → n < 
 points_told cs n ps lt points d = let two = slice_get-image (λ (x : CompleteChain). x.points) cs n d lt in cc
 
 -- a chain that a look-up gives has points
-pub several_told : (cs : List CompleteChain) (n : ℕ) (ps : List Point) → n < length cs → slice_get (map (λ (c : CompleteChain). c.points) cs) n ≡ Some ps → All (λ (c : CompleteChain). IsProper c.points) cs → 2 ≤ length ps
+pub several_told : (cs : List CompleteChain) (n : ℕ) (ps : List Point) → n < length cs → slice_get (map (λ (c : CompleteChain). c.points) cs) n ≡ Some ps → All (λ (c : CompleteChain). IsProperChain c.points) cs → 2 ≤ length ps
 several_told cs n ps lt points all =
     let d : CompleteChain = record { tlid = 0; points = [] } in
-    let proper : IsProper (get_or cs n d).points = all n d lt in
+    let proper : IsProperChain (get_or cs n d).points = all n d lt in
     omega (arith, proper.several, ap length (points_told cs n ps lt points d))
 
 -- no segment is numbered before the first chain

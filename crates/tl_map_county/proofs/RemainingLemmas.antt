@@ -11,7 +11,7 @@ use Rattle.tl_map_county.specs.declared.chains.ChainRow.{ChainRow}
 use Rattle.tl_map_county.specs.declared.sides.ChainSides.{ChainSides}
 use Rattle.tl_map_county.specs.declared.sides.Side.{Side}
 use Rattle.tl_map_county.specs.declared.sides.Side.TheVariants.{Outside, Polygon}
-use Rattle.tl_map_county.specs.Chains.{CompleteChain, IsProper, segment_count}
+use Rattle.tl_map_county.specs.Chains.{CompleteChain, IsProperChain, segment_count}
 use Rattle.tl_map_county.specs.Kept.{HasNumber}
 use Rattle.tl_map_county.specs.Remaining.{remaining}
 use Rattle.tl_map_county.specs.Rows.{IsTable, chain_in, chains_in, with_sides, sided}
@@ -71,7 +71,7 @@ module _ (marks : List Bool) (cs : List CompleteChain) (ss : List ChainSides) (p
     table = IsTable-nil [] [] refl refl;
     few = omega arith;
     room = omega arith;
-    proper = All-nil (λ (chain : CompleteChain). IsProper chain.points);
+    proper = All-nil (λ (chain : CompleteChain). IsProperChain chain.points);
     among = All-nil (AreSidesAmong n);
     paired = refl;
     are = refl;
@@ -110,7 +110,7 @@ module _ (marks : List Bool) (cs : List CompleteChain) (ss : List ChainSides) (p
 
     -- another one is added
     pub one_kept : (points : List Point) (rows : List ChainRow) (rest : List ChainSides) (new_points : List Point) (new_rows : List ChainRow) (new_rest : List ChainSides)
-        → get_or marks c false ≡ false → IsProper chain.points → AreSidesAmong n s → IsOneMore chain points rows new_points new_rows → new_rest ≡ rest ++ s ∷ []
+        → get_or marks c false ≡ false → IsProperChain chain.points → AreSidesAmong n s → IsOneMore chain points rows new_points new_rows → new_rest ≡ rest ++ s ∷ []
         → AreRemaining marks cs ss n c points rows rest → AreRemaining marks cs ss n (c + 1) new_points new_rows new_rest
     one_kept points rows rest new_points new_rows new_rest mark proper among one grown a = record {
       table = one.table;
@@ -119,7 +119,7 @@ module _ (marks : List Bool) (cs : List CompleteChain) (ss : List ChainSides) (p
           let room = a.room in
           let counted = ap segment_count one.chains ∙ sum_by_push (λ k. length k.points - 1) (chains_in points rows) chain in
           omega (arith, room, room_more, counted);
-      proper = rw one.chains (All-push (λ (k : CompleteChain). IsProper k.points) (chains_in points rows) chain a.proper proper);
+      proper = rw one.chains (All-push (λ (k : CompleteChain). IsProperChain k.points) (chains_in points rows) chain a.proper proper);
       among = rw grown (All-push (AreSidesAmong n) rest s a.among among);
       paired = let before = a.paired in let count = one.count in omega (arith, ap length grown, length_push rest s, before, count);
       are =

@@ -8,7 +8,7 @@ use Rattle.tl_geom.specs.declared.point.Point.{Point}
 use Rattle.tl_map_county.specs.declared.chains.ChainRow.{ChainRow}
 use Rattle.tl_geom.specs.declared.segment.Segment.{Segment}
 use Rattle.tl_geom.specs.Plane.{end_a, end_b}
-use Rattle.tl_map_county.specs.Chains.{CompleteChain, IsProper, segment_count}
+use Rattle.tl_map_county.specs.Chains.{CompleteChain, IsProperChain, segment_count}
 use Rattle.tl_map_county.specs.Keeping.Numbered.{IsNumber, JoinsPoints}
 use Rattle.tl_map_county.specs.Rows.{IsTable, chain_in, chains_in, HasPolygonsOf, landmark_in, landmarks_in}
 use Rattle.tl_map_county.specs.declared.landmarks.LandmarkRow.{LandmarkRow}
@@ -88,7 +88,7 @@ joins_among points rows s c k p segment table number from to =
     }
 
 -- the points that they join differ
-pub differ_among : (points : List Point) (rows : List ChainRow) (s c k : ℕ) (p : Point) → IsTable points rows → IsNumber (chains_in points rows) (length (chains_in points rows)) s c k → All (λ (chain : CompleteChain). IsProper chain.points) (chains_in points rows) → get_or points (s + c) p ≢ get_or points (s + c + 1) p
+pub differ_among : (points : List Point) (rows : List ChainRow) (s c k : ℕ) (p : Point) → IsTable points rows → IsNumber (chains_in points rows) (length (chains_in points rows)) s c k → All (λ (chain : CompleteChain). IsProperChain chain.points) (chains_in points rows) → get_or points (s + c) p ≢ get_or points (s + c + 1) p
 differ_among points rows s c k p table number proper same =
     let d : CompleteChain = record { tlid = 0; points = [] } in
     let lt : c < length rows = omega (arith, number.chain, length-map rows (chain_in points)) in

@@ -21,6 +21,6 @@ abbrev pub segment_count : List CompleteChain → ℕ
 segment_count chains = sum_by (λ c. length c.points - 1) chains
 
 -- two points or more, where neighbours differ
-pub record IsProper (points : List Point) : Type 0 where
+pub record IsProperChain (points : List Point) : Type 0 where
   pub several : 2 ≤ length points
   pub distinct : (k : ℕ) (d : Point) → k + 1 < length points → slice_index_or points k d ≢ slice_index_or points (k + 1) d

@@ -1,7 +1,7 @@
 //! Chains with their points.
 
 ghost use Rattle.std.specs.Prelude.{◌≡◌, ℕ, ◌*◌, ◌<◌, All, List, length, map, slice_get, Some};
-ghost use Rattle.tl_map_county.specs.Chains.{CompleteChain, IsProper, tlids, segment_count};
+ghost use Rattle.tl_map_county.specs.Chains.{CompleteChain, IsProperChain, tlids, segment_count};
 ghost use Rattle.tl_map_county.specs.Darts.{directed};
 ghost use Rattle.tl_map_county.specs.Keeping.Numbered.{IsNumber, JoinsPoints};
 
@@ -108,7 +108,7 @@ impl Chains {
     #[inline]
     pub(crate) fn segment(&self, s: u32, c: u32) -> Segment
         requires number { (k : ℕ) × IsNumber self.now.chains (length self.now.chains) s c k }
-        requires proper { All (λ (chain : CompleteChain). IsProper chain.points) self.now.chains }
+        requires proper { All (λ (chain : CompleteChain). IsProperChain chain.points) self.now.chains }
         ensures { (k : ℕ) → IsNumber self.now.chains (length self.now.chains) s c k → JoinsPoints self.now.chains c k result }
     {
         let place = s as usize + c as usize;

@@ -2,7 +2,7 @@
 
 ghost use Rattle.std.specs.Prelude.{◌≡◌, ◌≢◌, ◌<◌, ◌≤◌, ◌-ℤ◌, All, IfOk, length, slice_get, Some};
 ghost use Rattle.tl_map_county.specs.TheMap.{IsChain};
-ghost use Rattle.tl_map_county.specs.Chains.{CompleteChain, IsProper};
+ghost use Rattle.tl_map_county.specs.Chains.{CompleteChain, IsProperChain};
 ghost use Rattle.tl_map_county.specs.Limits.{most_segments};
 ghost use Rattle.tl_map_county.specs.Keeping.Numbered.{AreNumberedSegments};
 ghost use Rattle.tl_map_county.specs.Keeping.Noded.{AreNumberedNodes};
@@ -59,7 +59,7 @@ impl Model for Map {
     ghost Value = { TheMap };
 
     ghost use Rattle.tl_map_county.specs.Limits.{most_segments, most_polygons, most_landmarks};
-    ghost use Rattle.tl_map_county.specs.Chains.{CompleteChain, IsProper};
+    ghost use Rattle.tl_map_county.specs.Chains.{CompleteChain, IsProperChain};
     ghost use Rattle.tl_map_county.specs.Rows.{IsRow, HasPolygonsOf, landmarks_in};
     ghost use Rattle.tl_map_county.specs.Rows.{sided};
     ghost use Rattle.tl_map_county.specs.Sides.{AreSidesAmong};
@@ -77,7 +77,7 @@ impl Model for Map {
         × (length m.polygons.items ≤ most_polygons)
         × (length m.landmarks.items ≤ most_landmarks)
         × All (IsRow m.linked.items) m.rows.items
-        × All (λ (c : CompleteChain). IsProper c.points) m.chains.chains
+        × All (λ (c : CompleteChain). IsProperChain c.points) m.chains.chains
         × AreNumberedSegments m.chains.chains m.segment_chains.items
         × AreNumberedNodes m.chains.chains m.nodes
         × All (HasPolygonsOf (length m.polygons.items) m.linked.items) m.rows.items
@@ -88,7 +88,7 @@ impl Model for Map {
 
 /// Numbers the nodes and the segments of the chains.
 fn number_parts(alloc: Global, chains: &Chains) -> Result<(Nodes, Vec<u32>), AllocError>
-    requires { All (λ (c : CompleteChain). IsProper c.points) chains.now.chains }
+    requires { All (λ (c : CompleteChain). IsProperChain c.points) chains.now.chains }
     ensures nodes { IfOk result (λ made. AreNumberedNodes chains.now.chains made.0) }
     ensures segments { IfOk result (λ made. AreNumberedSegments chains.now.chains made.1.items × (length made.1.items ≤ most_segments)) }
 {
@@ -105,7 +105,7 @@ impl Map {
     ghost use Rattle.tl_map_county.specs.Darts.{dart_start as dart_start_of, dart_end as dart_end_of};
     ghost use Rattle.tl_map_county.specs.Darts.{dart_left as dart_left_of, dart_cell as dart_cell_of, Heads};
     ghost use Rattle.tl_map_county.specs.Limits.{most_segments, most_polygons, most_landmarks};
-    ghost use Rattle.tl_map_county.specs.Chains.{CompleteChain, IsProper};
+    ghost use Rattle.tl_map_county.specs.Chains.{CompleteChain, IsProperChain};
     ghost use Rattle.tl_map_county.specs.Rows.{IsRow, HasPolygonsOf, landmarks_in};
     ghost use Rattle.tl_map_county.specs.Rows.{sided};
     ghost use Rattle.tl_map_county.specs.Sides.{AreSidesAmong};
@@ -131,7 +131,7 @@ impl Map {
         requires landmarks { length landmarks.points.items ≤ most_landmarks }
         requires beside { length landmarks.rows.items ≡ length landmarks.points.items }
         requires within { All (IsRow landmarks.linked.items) landmarks.rows.items }
-        requires proper { All (λ (c : CompleteChain). IsProper c.points) chains.chains }
+        requires proper { All (λ (c : CompleteChain). IsProperChain c.points) chains.chains }
         requires linked { All (HasPolygonsOf (length polygons.items) landmarks.linked.items) landmarks.rows.items }
         requires among { All (AreSidesAmong (length polygons.items)) sides }
         ensures { IfOk result (λ m. m ≡ record {
@@ -215,7 +215,7 @@ impl Map {
 
     /// Each chain has two points or more, where neighbours differ. This does nothing: its contract is all.
     pub fn has_proper_chains(&self)
-        ensures { (c : ℕ) (chain : MapChain) → slice_get self.now.chains c ≡ Some chain → IsProper chain.points }
+        ensures { (c : ℕ) (chain : MapChain) → slice_get self.now.chains c ≡ Some chain → IsProperChain chain.points }
     {
         // What the map's parts keep is known where one of them is looked at.
         let _polygons = self.polygons.len();
@@ -242,7 +242,7 @@ impl Map {
     pub fn chain(&self, c: u32) -> Chain<'_>
         requires { c < length self.now.chains }
         ensures chain { IsChain (slice_get self.now.chains c) result.tlid result.points.now result.left result.right }
-        ensures points { IsProper result.points.now }
+        ensures points { IsProperChain result.points.now }
         // Each of both sides is the outside or a polygon of the map.
         ensures left { IsSideAmong (length self.now.polygons) result.left }
         ensures right { IsSideAmong (length self.now.polygons) result.right }

@@ -2,7 +2,7 @@
 
 ghost use Rattle.std.specs.Prelude.{◌≡◌, ◌+◌, ◌*◌, ◌<◌, ◌^◌, All, IfOk, OnOk, Option, length};
 ghost use Rattle.std.specs.List.Sorted.{IsPermutation};
-ghost use Rattle.tl_map_county.specs.Chains.{CompleteChain, IsProper};
+ghost use Rattle.tl_map_county.specs.Chains.{CompleteChain, IsProperChain};
 ghost use Rattle.tl_map_county.specs.Keeping.Noded.{start_in, TellStarts, AreByPoint, AreDarts, AreNumbered, CountsOn};
 ghost use Rattle.tl_map_county.specs.Keeping.Noded.{AreNumberedNodes};
 
@@ -40,7 +40,7 @@ fn from_least(coordinate: i32) -> u32 {
 
 /// The points where the darts of the chains start, by rising dart.
 fn dart_starts(alloc: Global, chains: &Chains) -> Result<Vec<DartStart>, AllocError>
-    requires { All (λ (c : CompleteChain). IsProper c.points) chains.now.chains }
+    requires { All (λ (c : CompleteChain). IsProperChain c.points) chains.now.chains }
     ensures starts { IfOk result (λ starts.
         TellStarts (start_in chains.now.chains) (2 * length chains.now.chains) starts.items) }
     ensures room { IfOk result (λ starts. length starts.items < 2 ^ 32) }
@@ -104,7 +104,7 @@ fn number_starts(alloc: Global, starts: &[DartStart]) -> Result<Nodes, AllocErro
 
 /// Numbers the nodes of the chains: the distinct points where their darts start.
 pub fn number_nodes(alloc: Global, chains: &Chains) -> Result<Nodes, AllocError>
-    requires { All (λ (c : CompleteChain). IsProper c.points) chains.now.chains }
+    requires { All (λ (c : CompleteChain). IsProperChain c.points) chains.now.chains }
     ensures { IfOk result (AreNumberedNodes chains.now.chains) }
 {
     let mut starts = dart_starts(alloc, chains)?;

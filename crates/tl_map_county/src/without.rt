@@ -2,7 +2,7 @@
 
 ghost use Rattle.std.specs.Prelude.{◌≡◌, ◌+◌, ◌-◌, ◌<◌, ◌≤◌, ◌^◌, false, All, IfOk, OnOk, Some, slice_get, slice_index_or, length};
 ghost use Rattle.tl_map_county.specs.declared.limits.TheConstants.{CHAIN_LIMIT, SEGMENT_LIMIT};
-ghost use Rattle.tl_map_county.specs.Chains.{CompleteChain, IsProper, segment_count};
+ghost use Rattle.tl_map_county.specs.Chains.{CompleteChain, IsProperChain, segment_count};
 ghost use Rattle.tl_map_county.specs.Rows.{IsTable, chains_in};
 ghost use Rattle.tl_map_county.specs.Sides.{AreSidesAmong};
 ghost use Rattle.tl_map_county.specs.Keeping.Remaining.{IsOneMore, AreAllRemaining};
@@ -31,7 +31,7 @@ fn add_chain(
     points: &mut Vec<Point>,
 ) -> Result<(), AllocError>
     requires known { c < length chains.now.chains }
-    requires proper { All (λ (chain : CompleteChain). IsProper chain.points) chains.now.chains }
+    requires proper { All (λ (chain : CompleteChain). IsProperChain chain.points) chains.now.chains }
     requires table { IsTable points.old.items rows.old.items }
     requires room { length rows.old.items < CHAIN_LIMIT }
     requires few { (chain : CompleteChain) → slice_get chains.now.chains c ≡ Some chain →
@@ -58,7 +58,7 @@ pub fn remaining_chains(
     marks: &[bool],
     polygons: u32,
 ) -> Result<(Chains, SidesOfChains), AllocError>
-    requires proper { All (λ (chain : CompleteChain). IsProper chain.points) chains.now.chains }
+    requires proper { All (λ (chain : CompleteChain). IsProperChain chain.points) chains.now.chains }
     requires paired { length sides.now ≡ length chains.now.chains }
     requires among { All (AreSidesAmong polygons) sides.now }
     ensures are { IfOk result (λ made. AreAllRemaining marks.now chains.now.chains sides.now polygons made.0.chains made.1) }

@@ -6,7 +6,7 @@ use Rattle.std.proofs.lemmas.Bool.{eq-eqb, eqb-true}
 use Rattle.tl_record_key.specs.declared.key.PolyKey.{PolyKey}
 use Rattle.tl_map_rules.specs.MapOf.{same_key}
 
-key_is : (k l : PolyKey) → k.cenid ≡ l.cenid → k.polyid ≡ l.polyid → k ≡ l
+pub key_is : (k l : PolyKey) → k.cenid ≡ l.cenid → k.polyid ≡ l.polyid → k ≡ l
 key_is k l a b = λ i. record { cenid = a i; polyid = b i }
 
 -- one key is the same as itself, and as no other

@@ -5,3 +5,4 @@ pub mod OneMapLemmas
 pub mod PairLemmas
 pub mod PartLemmas
 pub mod KeyLemmas
+pub mod ListingLemmas

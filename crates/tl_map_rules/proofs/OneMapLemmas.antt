@@ -15,7 +15,7 @@ use Rattle.tl_map_rules.proofs.CountLemmas.{one_counted}
 use Rattle.tl_map_rules.proofs.KnownLemmas.{far, chain_known}
 
 -- numbers that rise and are the same numbers are one list
-same_rising : (xs ys : List ℕ) → ((i j : ℕ) → i < j → j < length xs → get_or xs i 0 < get_or xs j 0) → ((i j : ℕ) → i < j → j < length ys → get_or ys i 0 < get_or ys j 0) → ((t : ℕ) → Contains xs t → Contains ys t) → ((t : ℕ) → Contains ys t → Contains xs t) → xs ≡ ys
+pub same_rising : (xs ys : List ℕ) → ((i j : ℕ) → i < j → j < length xs → get_or xs i 0 < get_or xs j 0) → ((i j : ℕ) → i < j → j < length ys → get_or ys i 0 < get_or ys j 0) → ((t : ℕ) → Contains xs t → Contains ys t) → ((t : ℕ) → Contains ys t → Contains xs t) → xs ≡ ys
 same_rising [] [] up_x up_y there back = refl
 same_rising [] (y ∷ ys) up_x up_y there back = absurd (let h = back y (0, omega arith, refl) in omega (arith, h.1))
 same_rising (x ∷ xs) [] up_x up_y there back = absurd (let h = there x (0, omega arith, refl) in omega (arith, h.1))

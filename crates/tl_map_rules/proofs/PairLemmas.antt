@@ -6,7 +6,8 @@ use Rattle.std.proofs.lemmas.List.Sums.{sum_by-cons}
 use Rattle.tl_geom.specs.declared.point.Point.{Point}
 use Rattle.tl_record.specs.declared.record.Record.{Record}
 use Rattle.tl_record.specs.declared.record.Record.TheVariants.{Shape}
-use Rattle.tl_map_rules.specs.ChainsOf.{same_point, is_shape_at, pairs_at, used, some_used, has_gap}
+use Rattle.tl_map_rules.specs.ChainsOf.{is_shape_at, pairs_at, used, some_used, has_gap}
+use Rattle.tl_record.specs.Joining.{same_point}
 use Rattle.tl_map_rules.specs.Keeping.Pairs.{some_unused, dedup_after}
 use Rattle.tl_map_rules.proofs.CountLemmas.{one_counted}
 

@@ -1,6 +1,6 @@
 -- The chains that a list of records draws: each chain's points, and all chains by rising TLID.
 use Rattle.std.specs.Prelude.{◌≡◌, ℕ, zero, suc, ◌-◌, Bool, true, false, ◌&&◌, ◌==◌, if◌then◌else◌, Option, Some, None, List, [], ◌∷◌, ◌++◌, length, sum_by, count_by, All, Contains}
-use Rattle.std.specs.Ordering.{int_eq}
+use Rattle.tl_record.specs.Joining.{same_point}
 use Rattle.std.specs.List.{dedup}
 use Rattle.std.specs.List.Sorted.{IsStrictlyIncreasing}
 use Rattle.tl_geom.specs.declared.point.Point.{Point}
@@ -64,10 +64,6 @@ abbrev pub has_gap : List (Option Point) → Bool
 has_gap [] = false
 has_gap (None ∷ pairs) = some_used pairs
 has_gap (Some p ∷ pairs) = has_gap pairs
-
--- is this one point
-abbrev pub same_point : Point → Point → Bool
-same_point p q = int_eq p.x q.x && int_eq p.y q.y
 
 -- the start, the used pairs and the end, where a run of equal neighbours is kept once
 abbrev pub points_between : Point → List (Option Point) → Point → List Point

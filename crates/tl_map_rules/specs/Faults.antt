@@ -14,26 +14,26 @@ use Rattle.tl_map_rules.specs.MapOf.{sides_in, polygons_in, landmarks_in, links_
 use Rattle.tl_map_county.specs.Limits.{most_chains, most_segments, most_polygons, most_landmarks}
 
 -- two type 1 records have TLID t
-abbrev pub IsRepeated : List Record → ℕ → Type 0
-IsRepeated rs t = 2 ≤ count_by (is_chain t) rs
+abbrev pub IsChainRepeated : List Record → ℕ → Type 0
+IsChainRepeated rs t = 2 ≤ count_by (is_chain t) rs
 
 -- a type 2 record has TLID t, and no type 1 record has
 abbrev pub IsStray : List Record → ℕ → Type 0
 IsStray rs t = (1 ≤ shape_count rs t) × (count_by (is_chain t) rs ≡ 0)
 
 -- the RTSQ of the type 2 records of TLID t are 1 to their number, each once
-abbrev pub IsNumbered : List Record → ℕ → Type 0
-IsNumbered rs t = (n : ℕ) → 1 ≤ n → n ≤ shape_count rs t → count_by (is_shape_at t n) rs ≡ 1
+abbrev pub AreShapesNumbered : List Record → ℕ → Type 0
+AreShapesNumbered rs t = (n : ℕ) → 1 ≤ n → n ≤ shape_count rs t → count_by (is_shape_at t n) rs ≡ 1
 
 -- they are, and a used pair comes after an unused one
 pub record IsBroken (rs : List Record) (t : ℕ) : Type 0 where
-  pub numbered : IsNumbered rs t
+  pub numbered : AreShapesNumbered rs t
   pub gap : has_gap (pairs_of rs t) ≡ true
 
 -- TLID t has a chain, and all its points are one point
 pub record IsDegenerate (rs : List Record) (t : ℕ) : Type 0 where
-  pub once : ¬ IsRepeated rs t
-  pub numbered : IsNumbered rs t
+  pub once : ¬ IsChainRepeated rs t
+  pub numbered : AreShapesNumbered rs t
   pub no_gap : ¬ IsBroken rs t
   pub from : Point
   pub to : Point
@@ -42,9 +42,9 @@ pub record IsDegenerate (rs : List Record) (t : ℕ) : Type 0 where
 
 -- no type 1 record stands twice, and each type 2 record has its place in a chain
 pub record AreJoined (rs : List Record) : Type 0 where
-  pub once : (t : ℕ) → ¬ IsRepeated rs t
+  pub once : (t : ℕ) → ¬ IsChainRepeated rs t
   pub no_stray : (t : ℕ) → ¬ IsStray rs t
-  pub numbered : (t : ℕ) → IsNumbered rs t
+  pub numbered : (t : ℕ) → AreShapesNumbered rs t
   pub no_gap : (t : ℕ) → ¬ IsBroken rs t
 
 -- a type 1 record has TLID t
@@ -80,9 +80,9 @@ IsTooMany rs Landmarks = most_landmarks < length (first_landmarks rs)
 
 -- the fault is true of the records
 abbrev pub IsTrueOf : List Record → RecordFault → Type 0
-IsTrueOf rs (DuplicateChain t) = IsRepeated rs t
+IsTrueOf rs (DuplicateChain t) = IsChainRepeated rs t
 IsTrueOf rs (ShapeWithoutChain t) = IsStray rs t
-IsTrueOf rs (ShapeSequence t) = ¬ IsNumbered rs t
+IsTrueOf rs (ShapeSequence t) = ¬ AreShapesNumbered rs t
 IsTrueOf rs (ShapeGap t) = IsBroken rs t
 IsTrueOf rs (ChainWithoutSides t) = HasChain rs t × ¬ HasSides rs t
 IsTrueOf rs (SidesWithoutChain t) = HasSides rs t × ¬ HasChain rs t

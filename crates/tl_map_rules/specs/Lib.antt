@@ -6,3 +6,4 @@ pub mod Rows
 pub mod Messages
 pub mod Reading
 pub mod Keeping
+pub mod Listing

@@ -8,6 +8,7 @@ mod entry;
 mod fault;
 mod lacking;
 pub mod laws;
+pub mod listing;
 mod rows;
 
 pub use entry::{ChainEntry, Fill, LandmarkEntry, LinkEntry, ShapeEntry, SidesEntry};

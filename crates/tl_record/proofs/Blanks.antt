@@ -1,7 +1,7 @@
 -- Blanks at the end of a field.
 use Rattle.std.proofs.Common.{◌≡◌, ℕ, zero, suc, ◌+◌, ◌-◌, ◌<◌, ◌≤◌, true, false, ◌&&◌, Bool, List, [], ◌∷◌, ◌++◌, length, take, drop, length-drop, get_or, refl, ap, sym, ◌∙◌, arith, replicate}
 use Rattle.std.proofs.Common.{inl, inr, take_all, map, not, cond, eqb}
-use Rattle.std.proofs.lemmas.Bool.{cases_Bool, cases_lt}
+use Rattle.std.proofs.lemmas.Bool.{cases_Bool, cases_lt, and_parts as both_parts}
 use Rattle.std.proofs.lemmas.List.{take_more, take-append-le, take-take, drop-drop}
 use Rattle.std.proofs.lemmas.List.Sums.{prefix_len-le-length}
 use Rattle.std.proofs.lemmas.Simd.{first_set_mask_l}
@@ -55,10 +55,6 @@ no_blank_less bytes n positive within is =
 all_blanks : (n : ℕ) → list_all is_blank (replicate n blank) ≡ true
 all_blanks zero = refl
 all_blanks (suc n) = all_blanks n
-
-both_parts : (a b : Bool) → (a && b) ≡ true → (a ≡ true) × (b ≡ true)
-both_parts true b h = (refl, h)
-both_parts false b h = cc
 
 -- a line that ends inside a field reads as if blanks stood in the rest of it
 no_more : (blanks : List ℕ) → list_all is_blank blanks ≡ true → without_leading_blanks blanks ≡ []

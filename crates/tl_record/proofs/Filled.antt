@@ -8,10 +8,7 @@ use Rattle.std.specs.Char.{is_ascii_digit}
 use Rattle.std.proofs.Common.{Option, Some, None, IfSome}
 use Rattle.tl_record.specs.Fields.{is_blank, without_trailing_blanks, trimmed, digits_spell, decimal, negated, not_negated, signed_spells, unsigned_spells, number_spelt, coordinate_spelt}
 use Rattle.tl_record.specs.declared.number.Spelt.TheVariants.{Value}
-
-both_parts : (a b : Bool) → (a && b) ≡ true → (a ≡ true) × (b ≡ true)
-both_parts true b h = (refl, h)
-both_parts false b h = cc
+use Rattle.std.proofs.lemmas.Bool.{and_parts as both_parts}
 
 no_blank : (byte : ℕ) → is_ascii_digit byte ≡ true → is_blank byte ≡ false
 no_blank byte is = grind arith

@@ -22,7 +22,7 @@ accepted PassedOver P p = p
 accepted (Read r) P p = p
 accepted (Refused cause) P p = tt
 
-not_empty : (front rest : List ℕ) (byte : ℕ) → front ++ byte ∷ rest ≢ []
+pub not_empty : (front rest : List ℕ) (byte : ℕ) → front ++ byte ∷ rest ≢ []
 not_empty [] rest byte is = cc
 not_empty (first ∷ front) rest byte is = cc
 

@@ -5,10 +5,7 @@ use Rattle.std.proofs.lemmas.Bool.{cases_Bool, eqb-true}
 use Rattle.memchr.specs.Find.{is_byte}
 use Rattle.tl_record.specs.Lines.{line_feed, line_feeds, raw_lines, with_first_byte, joined_lines, AreLinesOf}
 use Rattle.tl_record.proofs.LineLemmas.{first_line_before, after_first_line_before, first_line_whole, after_first_line_whole, raw_lines-first, other_counts}
-
-not_empty : (front rest : List ℕ) (byte : ℕ) → front ++ byte ∷ rest ≢ []
-not_empty [] rest byte is = cc
-not_empty (first ∷ front) rest byte is = cc
+use Rattle.tl_record.proofs.NextLemmas.{not_empty}
 
 -- an empty line stands before the lines
 feed_before : (text : List ℕ) (lines : List (List ℕ)) → AreLinesOf text lines → AreLinesOf (line_feed ∷ text) ([] ∷ lines)

@@ -36,17 +36,17 @@ tells_same (Shape t n pairs) = tells_shape_at t n
 tells_same (Sides t start end left right) = tells_sides t
 tells_same other = λ r. false
 
-abbrev pub same_place : Point → Point → Bool
-same_place p q = int_eq p.x q.x && int_eq p.y q.y
+abbrev pub same_point : Point → Point → Bool
+same_point p q = int_eq p.x q.x && int_eq p.y q.y
 
 -- these are its ends
 abbrev pub has_ends : Point → Point → Record → Bool
-has_ends from to (Chain t start end) = same_place from start && same_place to end
+has_ends from to (Chain t start end) = same_point from start && same_point to end
 has_ends from to other = false
 
 -- these are its pairs
 abbrev pub has_pairs : List (Option Point) → Record → Bool
-has_pairs pairs (Shape t n others) = pointwise (option_eq same_place) pairs others
+has_pairs pairs (Shape t n others) = pointwise (option_eq same_point) pairs others
 has_pairs pairs other = false
 
 -- zero-cell ids differ where both are given

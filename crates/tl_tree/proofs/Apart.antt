@@ -2,7 +2,7 @@
 use Rattle.std.proofs.Common.{◌≡◌, ℕ, suc, ◌<◌, List, [], ◌∷◌, length, get_or, Option, refl, arith}
 use Rattle.tl_geom.specs.declared.rect.Rect.{Rect}
 use Rattle.tl_geom.specs.Rectangle.{AreMeeting, Covers}
-use Rattle.tl_tree_index.specs.Pairs.{row_sum, cross_sum, meeting, AllRow, AllCross, AreFree}
+use Rattle.tl_tree_index.specs.Pairs.{row_sum, cross_sum, meeting, AllRow, AllCross, AreToldApart}
 use Rattle.tl_tree_index.specs.Fits.{AreBelow, CoversAll}
 use Rattle.tl_tree.proofs.PairTests.{meeting-apart, KeepsLaw, free-apart}
 
@@ -21,12 +21,12 @@ module _ (b : ℕ → Rect) where
   cross-apart r q (x ∷ xs) ys ne h k = omega (arith, row-apart r q x ys ne h.0 k, cross-apart r q xs ys ne h.1 k)
 
   module _ {C : Type 0} (n : ℕ) (tells : ℕ → ℕ → Option C → Type 0) where
-    pub row-free : KeepsLaw tells n b → (r q : Rect) (x : ℕ) (ys : List ℕ) → (AreMeeting r q → ⊥) → x < n → AreBelow n ys → Covers r (b x) → CoversAll b q ys → AllRow (AreFree tells) x ys
+    pub row-free : KeepsLaw tells n b → (r q : Rect) (x : ℕ) (ys : List ℕ) → (AreMeeting r q → ⊥) → x < n → AreBelow n ys → Covers r (b x) → CoversAll b q ys → AllRow (AreToldApart tells) x ys
     row-free law r q x [] ne k l c d = tt
     row-free law r q x (y ∷ ys) ne k l c d =
         (free-apart tells n b law x y k l.0 (λ m. ne (wider-meet r q (b x) (b y) c d.0 m)), row-free law r q x ys ne k l.1 c d.1)
 
-    pub cross-free : KeepsLaw tells n b → (r q : Rect) (xs ys : List ℕ) → (AreMeeting r q → ⊥) → AreBelow n xs → AreBelow n ys → CoversAll b r xs → CoversAll b q ys → AllCross (AreFree tells) xs ys
+    pub cross-free : KeepsLaw tells n b → (r q : Rect) (xs ys : List ℕ) → (AreMeeting r q → ⊥) → AreBelow n xs → AreBelow n ys → CoversAll b r xs → CoversAll b q ys → AllCross (AreToldApart tells) xs ys
     cross-free law r q [] ys ne k l c d = tt
     cross-free law r q (x ∷ xs) ys ne k l c d = (row-free law r q x ys ne k.0 l c.0 d, cross-free law r q xs ys ne k.1 l c.1 d)
 
@@ -45,7 +45,7 @@ row-none b x [] ne = refl
 row-none b x (y ∷ ys) ne =
     omega (arith, meeting-apart b x y (λ m. ne 0 (omega arith) (turned (b x) (b y) m)), row-none b x ys (λ k l m. ne (suc k) (omega (arith, l)) m))
 
-pub row-none_free : {C : Type 0} (n : ℕ) (tells : ℕ → ℕ → Option C → Type 0) (b : ℕ → Rect) → KeepsLaw tells n b → (x : ℕ) (ys : List ℕ) → x < n → AreBelow n ys → ((k : ℕ) → k < length ys → Meets b x ys k → ⊥) → AllRow (AreFree tells) x ys
+pub row-none_free : {C : Type 0} (n : ℕ) (tells : ℕ → ℕ → Option C → Type 0) (b : ℕ → Rect) → KeepsLaw tells n b → (x : ℕ) (ys : List ℕ) → x < n → AreBelow n ys → ((k : ℕ) → k < length ys → Meets b x ys k → ⊥) → AllRow (AreToldApart tells) x ys
 row-none_free n tells b law x [] k l ne = tt
 row-none_free n tells b law x (y ∷ ys) k l ne =
     (free-apart tells n b law x y k l.0 (λ m. ne 0 (omega arith) (turned (b x) (b y) m)), row-none_free n tells b law x ys k l.1 (λ i h m. ne (suc i) (omega (arith, h)) m))
@@ -54,5 +54,5 @@ row-none_free n tells b law x (y ∷ ys) k l ne =
 pub one-none : (b : ℕ → Rect) (x y : ℕ) → (AreMeeting (b y) (b x) → ⊥) → meeting b x y ≡ 0
 one-none b x y ne = meeting-apart b x y (λ m. ne (turned (b x) (b y) m))
 
-pub one-none_free : {C : Type 0} (n : ℕ) (tells : ℕ → ℕ → Option C → Type 0) (b : ℕ → Rect) → KeepsLaw tells n b → (x y : ℕ) → x < n → y < n → (AreMeeting (b y) (b x) → ⊥) → AreFree tells x y
+pub one-none_free : {C : Type 0} (n : ℕ) (tells : ℕ → ℕ → Option C → Type 0) (b : ℕ → Rect) → KeepsLaw tells n b → (x y : ℕ) → x < n → y < n → (AreMeeting (b y) (b x) → ⊥) → AreToldApart tells x y
 one-none_free n tells b law x y k l ne = free-apart tells n b law x y k l (λ m. ne (turned (b x) (b y) m))

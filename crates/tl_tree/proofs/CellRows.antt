@@ -12,11 +12,11 @@ use Rattle.tl_geom.specs.Rectangle.{AreMeeting}
 use Rattle.tl_tree.specs.Keeping.Cells.{AreLaneCells, AreCellsOf}
 use Rattle.tl_tree.specs.Keeping.Marking.{AreBoundsOf}
 use Rattle.tl_tree_index.specs.Fits.{AreBelow}
-use Rattle.tl_tree_index.specs.Pairs.{meeting, row_sum, cross_sum, AllRow, AllCross, AreFree}
+use Rattle.tl_tree_index.specs.Pairs.{meeting, row_sum, cross_sum, AllRow, AllCross, AreToldApart}
 use Rattle.tl_tree.proofs.Apart.{one-none, one-none_free}
-use Rattle.tl_tree.proofs.Marks8.{by_test}
 use Rattle.tl_tree.proofs.PairTests.{KeepsLaw}
 use Rattle.tl_tree.proofs.Steps.{row-step, row-end, cross-step, cross-end, all_row-step, all_row-end, all_cross-step, all_cross-end, below-at}
+use Rattle.tl_geom.proofs.Turns.{below-or as by_test}
 
 -- bits behind some others
 pub bit-behind : (m t k : ℕ) → bit_at (m / 2 ^ t) k ≡ bit_at m (k + t)
@@ -279,28 +279,28 @@ module _ (b : ℕ → Rect) (xs ys : List ℕ) (cells : ℕ) (marked : AreCellsO
         step-unmarked p (ap (bit_at cells) z ∙ none 0 (omega arith)) ∙ skip-unmarked t (p + 1) (λ k l. let n : p + 1 + k ≡ p + suc k = omega arith in ap (bit_at cells) n ∙ none (suc k) (omega (arith, l))) ∙ ap (rest (meeting b) xs ys) e
 
     module _ {C : Type 0} (n : ℕ) (tells : ℕ → ℕ → Option C → Type 0) (law : KeepsLaw tells n b) (below : AreBelow n xs) (others : AreBelow n ys) where
-      free-unmarked : (p : ℕ) → bit_at cells p ≡ 0 → RestAll (AreFree tells) xs ys (p + 1) → RestAll (AreFree tells) xs ys p
+      free-unmarked : (p : ℕ) → bit_at cells p ≡ 0 → RestAll (AreToldApart tells) xs ys (p + 1) → RestAll (AreToldApart tells) xs ys p
       free-unmarked p none r = by_row (by_test (p / 8) (length xs))
         where
-          by_place : p / 8 < length xs → (p % 8 < length ys) ⊎ (length ys ≤ p % 8) → AllRow (AreFree tells) (get_or xs (p / 8) 0) (cell ys p)
+          by_place : p / 8 < length xs → (p % 8 < length ys) ⊎ (length ys ≤ p % 8) → AllRow (AreToldApart tells) (get_or xs (p / 8) 0) (cell ys p)
           by_place h (inl l) =
               let a = p % 8 in
-              all-cell-in (AreFree tells) (get_or xs (p / 8) 0) ys a l (one-none_free n tells b law (get_or xs (p / 8) 0) (get_or ys a 0) (below-at n xs (p / 8) h below) (below-at n ys a l others) (unmarked-apart p h none l))
-          by_place h (inr l) = all-cell-out (AreFree tells) (get_or xs (p / 8) 0) ys (p % 8) l
+              all-cell-in (AreToldApart tells) (get_or xs (p / 8) 0) ys a l (one-none_free n tells b law (get_or xs (p / 8) 0) (get_or ys a 0) (below-at n xs (p / 8) h below) (below-at n ys a l others) (unmarked-apart p h none l))
+          by_place h (inr l) = all-cell-out (AreToldApart tells) (get_or xs (p / 8) 0) ys (p % 8) l
 
-          by_row : (p / 8 < length xs) ⊎ (length xs ≤ p / 8) → RestAll (AreFree tells) xs ys p
-          by_row (inl h) = all-cell-step (AreFree tells) xs ys p h few (by_place h (by_test (p % 8) (length ys))) r
-          by_row (inr h) = all-rest-end (AreFree tells) xs ys p h
+          by_row : (p / 8 < length xs) ⊎ (length xs ≤ p / 8) → RestAll (AreToldApart tells) xs ys p
+          by_row (inl h) = all-cell-step (AreToldApart tells) xs ys p h few (by_place h (by_test (p % 8) (length ys))) r
+          by_row (inr h) = all-rest-end (AreToldApart tells) xs ys p h
 
-      pub free-skip : (t p : ℕ) → ((k : ℕ) → k < t → bit_at cells (p + k) ≡ 0) → RestAll (AreFree tells) xs ys (p + t) → RestAll (AreFree tells) xs ys p
+      pub free-skip : (t p : ℕ) → ((k : ℕ) → k < t → bit_at cells (p + k) ≡ 0) → RestAll (AreToldApart tells) xs ys (p + t) → RestAll (AreToldApart tells) xs ys p
       free-skip zero p none r =
           let e : p + 0 ≡ p = omega arith in
-          let Q : ℕ → Type 0 = RestAll (AreFree tells) xs ys in
+          let Q : ℕ → Type 0 = RestAll (AreToldApart tells) xs ys in
           subst Q e r
       free-skip (suc t) p none r =
           let e : p + suc t ≡ p + 1 + t = omega arith in
           let z : p ≡ p + 0 = omega arith in
-          let Q : ℕ → Type 0 = RestAll (AreFree tells) xs ys in
+          let Q : ℕ → Type 0 = RestAll (AreToldApart tells) xs ys in
           free-unmarked p (ap (bit_at cells) z ∙ none 0 (omega arith)) (free-skip t (p + 1) (λ k l. let m : p + 1 + k ≡ p + suc k = omega arith in ap (bit_at cells) m ∙ none (suc k) (omega (arith, l))) (subst Q e r))
 
 -- ---- cells of lanes that are the bounds of items

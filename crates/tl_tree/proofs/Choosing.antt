@@ -1,6 +1,6 @@
 -- Pairs that are chosen: one that was tested, and how many there are of them.
 use Rattle.std.proofs.Common.{◌≡◌, ℕ, zero, suc, ◌<◌, ◌≤◌, min, max, Bool, true, false, ◌&&◌, eqb, Option, None, if◌then◌else◌, refl, sym, subst, arith}
-use Rattle.std.proofs.lemmas.Bool.{false≢true}
+use Rattle.std.proofs.lemmas.Bool.{false≢true, and_parts as both}
 use Rattle.std.proofs.lemmas.Bool.Decides.{nat_tests}
 use Rattle.tl_geom.specs.declared.rect.Rect.{Rect}
 use Rattle.tl_geom.specs.Rectangle.{AreMeeting}
@@ -12,10 +12,6 @@ use Rattle.tl_tree.proofs.Leaving.{enough_from}
 use Rattle.tl_tree.proofs.PairTests.{below_or, free-told, meeting-1, meeting-swap}
 
 -- ---- one pair
-
-both : (a b : Bool) → (a && b) ≡ true → (a ≡ true) × (b ≡ true)
-both true b e = (refl, e)
-both false b e = absurd (false≢true e)
 
 same : (i j : ℕ) → eqb i j ≡ true → i ≡ j
 same i j e = grind (arith, nat_tests)

@@ -6,7 +6,7 @@ use Rattle.tl_geom.specs.Rectangle.{AreMeeting, Covers}
 use Rattle.tl_tree.specs.declared.walk.Tree.{Tree}
 use Rattle.tl_tree.specs.declared.walk.Below.{Below}
 use Rattle.tl_tree.specs.declared.walk.Below.TheVariants.{Items, Children}
-use Rattle.tl_tree_index.specs.Pairs.{meeting, cross_sum, AllRow, AllCross, AreFree}
+use Rattle.tl_tree_index.specs.Pairs.{meeting, cross_sum, AllRow, AllCross, AreToldApart}
 use Rattle.tl_tree_index.specs.Fits.{AreBelow, CoversAll}
 use Rattle.tl_tree_index.specs.Trees.{Forest}
 use Rattle.tl_tree.specs.Keeping.Listing.{first_items, listed_items, AllSound, IsFirst, StandsFor, StandsForItems, AreListed, MayList, AreListedItems, MayListItems}
@@ -62,11 +62,11 @@ module _ {W : Type 0} (see : W → Forest) where
     pub one-listed : (old : List W) (at : W) (first : Tree W) → IsFirst see first (see at) → AreSound n b (see at) → StandsFor n b tells see xs old (items_below see first.below) (old ++ at ∷ [])
     one-listed old at first h k =
         let e = first-items-of (see at) first h.others h.split in
-        let P : List ℕ → Type 0 = AllCross (AreFree tells) xs in
+        let P : List ℕ → Type 0 = AllCross (AreToldApart tells) xs in
         record {
           sum = omega (arith, cross-more (meeting b) xs old at, ap (cross_sum (meeting b) xs) e);
           most = λ f. omega (arith, cross-more f xs old at, ap (cross_sum f xs) e);
-          free = λ f. let m = all-more (AreFree tells) xs old at f in (m.0, subst P e m.1);
+          free = λ f. let m = all-more (AreToldApart tells) xs old at f in (m.0, subst P e m.1);
           sound = sound-more n b old at k;
         }
 
@@ -77,7 +77,7 @@ module _ {W : Type 0} (see : W → Forest) where
         let no : AreMeeting tree.rect first.rect → ⊥ = λ m. ne (record { point = m.point; in_first = m.in_second; in_second = m.in_first }) in
         let e = cross-apart b tree.rect first.rect (items_below see tree.below) ys no s.covers k.covers in
         let f = cross-free b n tells law tree.rect first.rect (items_below see tree.below) ys no s.known k.known s.covers k.covers in
-        let P : List ℕ → Type 0 = λ zs. AllCross (AreFree tells) zs ys in
+        let P : List ℕ → Type 0 = λ zs. AllCross (AreToldApart tells) zs ys in
         record {
           sum = omega (arith, e, ap (λ zs. cross_sum (meeting b) zs ys) same);
           most = λ f. omega arith;
@@ -88,22 +88,22 @@ module _ {W : Type 0} (see : W → Forest) where
     -- nothing is to be listed
     pub none-listed : (old : List W) (more : List ℕ) → more ≡ [] → StandsFor n b tells see xs old more old
     none-listed old more e =
-        let P : List ℕ → Type 0 = AllCross (AreFree tells) xs in
+        let P : List ℕ → Type 0 = AllCross (AreToldApart tells) xs in
         record {
           sum = omega (arith, cross-nil (meeting b) xs, ap (cross_sum (meeting b) xs) e);
           most = λ f. omega arith;
-          free = λ h. (h, subst P (sym e) (all_cross-nil (AreFree tells) xs));
+          free = λ h. (h, subst P (sym e) (all_cross-nil (AreToldApart tells) xs));
           sound = λ h. h;
         }
 
     -- one after the other
     pub both-listed : (old mid new : List W) (ys zs more : List ℕ) → more ≡ ys ++ zs → StandsFor n b tells see xs old ys mid → StandsFor n b tells see xs mid zs new → StandsFor n b tells see xs old more new
     both-listed old mid new ys zs more e h k =
-        let P : List ℕ → Type 0 = AllCross (AreFree tells) xs in
+        let P : List ℕ → Type 0 = AllCross (AreToldApart tells) xs in
         record {
           sum = omega (arith, h.sum, k.sum, ap (cross_sum (meeting b) xs) e, cross-append_right (meeting b) xs ys zs);
           most = λ f. omega (arith, h.most f, k.most f, ap (cross_sum f xs) e, cross-append_right f xs ys zs);
-          free = λ f. let m = k.free f in let l = h.free m.0 in (l.0, subst P (sym e) (all_cross-join (AreFree tells) xs ys zs l.1 m.1));
+          free = λ f. let m = k.free f in let l = h.free m.0 in (l.0, subst P (sym e) (all_cross-join (AreToldApart tells) xs ys zs l.1 m.1));
           sound = λ s. k.sound (h.sound s);
         }
 
@@ -130,7 +130,7 @@ all_cross-append P (x ∷ xs) ys zs h k = (h.0, all_cross-append P xs ys zs h.1 
 pub record Lists {C : Type 0} (n : ℕ) (b : ℕ → Rect) (tells : ℕ → ℕ → Option C → Type 0) (xs : List ℕ) (y : ℕ) (old new : List ℕ) : Type 0 where
   pub sum : cross_sum (meeting b) xs new ≡ cross_sum (meeting b) xs old + cross_sum (meeting b) xs (y ∷ [])
   pub most : (f : ℕ → ℕ → ℕ) → cross_sum f xs new ≤ cross_sum f xs old + cross_sum f xs (y ∷ [])
-  pub free : AllCross (AreFree tells) xs new → AllCross (AreFree tells) xs old × AllCross (AreFree tells) xs (y ∷ [])
+  pub free : AllCross (AreToldApart tells) xs new → AllCross (AreToldApart tells) xs old × AllCross (AreToldApart tells) xs (y ∷ [])
   pub known : AreBelow n old → AreBelow n new
 
 below-more : (n : ℕ) (ys : List ℕ) (y : ℕ) → y < n → AreBelow n ys → AreBelow n (ys ++ y ∷ [])
@@ -146,7 +146,7 @@ module _ {C : Type 0} (n : ℕ) (b : ℕ → Rect) (tells : ℕ → ℕ → Opti
       record {
         sum = cross-append_right (meeting b) xs old (y ∷ []);
         most = λ f. omega (arith, cross-append_right f xs old (y ∷ []));
-        free = all_cross-parts (AreFree tells) xs old (y ∷ []);
+        free = all_cross-parts (AreToldApart tells) xs old (y ∷ []);
         known = below-more n old y h;
       }
 
@@ -172,20 +172,20 @@ module _ {C : Type 0} (n : ℕ) (b : ℕ → Rect) (tells : ℕ → ℕ → Opti
       let e = at_drop_more (λ (zs : List ℕ). cross_sum f xs zs) others k 0 h in
       omega (arith, e, cross-append_right f xs (get_or others k 0 ∷ []) (drop (k + 1) others))
 
-  pub item-free : (others : List ℕ) (k : ℕ) → k < length others → AllCross (AreFree tells) xs (get_or others k 0 ∷ []) → AllCross (AreFree tells) xs (drop (k + 1) others) → AllCross (AreFree tells) xs (drop k others)
+  pub item-free : (others : List ℕ) (k : ℕ) → k < length others → AllCross (AreToldApart tells) xs (get_or others k 0 ∷ []) → AllCross (AreToldApart tells) xs (drop (k + 1) others) → AllCross (AreToldApart tells) xs (drop k others)
   item-free others k h p q =
       let e = at_drop_more (λ (zs : List ℕ). zs) others k 0 h in
-      let P : List ℕ → Type 0 = AllCross (AreFree tells) xs in
-      subst P (sym e) (all_cross-join (AreFree tells) xs (get_or others k 0 ∷ []) (drop (k + 1) others) p q)
+      let P : List ℕ → Type 0 = AllCross (AreToldApart tells) xs in
+      subst P (sym e) (all_cross-join (AreToldApart tells) xs (get_or others k 0 ∷ []) (drop (k + 1) others) p q)
 
   -- nothing is to be listed
   pub none-items : (old more : List ℕ) → more ≡ [] → StandsForItems n b tells xs old more old
   none-items old more e =
-      let P : List ℕ → Type 0 = AllCross (AreFree tells) xs in
+      let P : List ℕ → Type 0 = AllCross (AreToldApart tells) xs in
       record {
         sum = omega (arith, cross-nil (meeting b) xs, ap (cross_sum (meeting b) xs) e);
         most = λ f. omega arith;
-        free = λ h. (h, subst P (sym e) (all_cross-nil (AreFree tells) xs));
+        free = λ h. (h, subst P (sym e) (all_cross-nil (AreToldApart tells) xs));
         known = λ k. k;
       }
 
@@ -203,11 +203,11 @@ module _ {C : Type 0} (n : ℕ) (b : ℕ → Rect) (tells : ℕ → ℕ → Opti
   -- some items were listed, and then others
   pub both-items : (old mid new ys zs more : List ℕ) → more ≡ ys ++ zs → StandsForItems n b tells xs old ys mid → StandsForItems n b tells xs mid zs new → StandsForItems n b tells xs old more new
   both-items old mid new ys zs more e h k =
-      let P : List ℕ → Type 0 = AllCross (AreFree tells) xs in
+      let P : List ℕ → Type 0 = AllCross (AreToldApart tells) xs in
       record {
         sum = omega (arith, h.sum, k.sum, ap (cross_sum (meeting b) xs) e, cross-append_right (meeting b) xs ys zs);
         most = λ f. omega (arith, h.most f, k.most f, ap (cross_sum f xs) e, cross-append_right f xs ys zs);
-        free = λ f. let m = k.free f in let l = h.free m.0 in (l.0, subst P (sym e) (all_cross-join (AreFree tells) xs ys zs l.1 m.1));
+        free = λ f. let m = k.free f in let l = h.free m.0 in (l.0, subst P (sym e) (all_cross-join (AreToldApart tells) xs ys zs l.1 m.1));
         known = λ m. k.known (h.known m);
       }
 

@@ -7,11 +7,7 @@ use Rattle.tl_geom.specs.EightRectangles.{lane}
 use Rattle.tl_geom.specs.Rectangle.{AreMeeting}
 use Rattle.tl_tree.specs.Keeping.Marking.{Includes, MeetsAt, AreBoundsOf}
 use Rattle.std.proofs.lemmas.Nat.Bits.{bit_at-suc}
-
-pub by_test : (k n : ℕ) → (k < n) ⊎ (n ≤ k)
-by_test k zero = inr (omega arith)
-by_test zero (suc n) = inl (omega arith)
-by_test (suc k) (suc n) = ⊎_elim (λ h. inl (omega (arith, h))) (λ h. inr (omega (arith, h))) (by_test k n)
+use Rattle.tl_geom.proofs.Turns.{below-or as by_test}
 
 with_top : (a k : ℕ) → k < 7 → bit_at (a + 128) k ≡ bit_at a k
 with_top a zero h = omega arith

@@ -7,13 +7,13 @@ use Rattle.tl_geom.specs.declared.rect.Rect.{Rect}
 use Rattle.tl_geom.specs.Rectangle.{AreMeeting}
 use Rattle.tl_tree_index.specs.Fits.{AreBelow}
 use Rattle.tl_tree.specs.Keeping.OwnPairs.{partner, own_sum, AllOwn, AreThere, AreOwnCells}
-use Rattle.tl_tree_index.specs.Pairs.{meeting, row_sum, cross_sum, pair_sum, AllCross, AllPairs, AreFree}
+use Rattle.tl_tree_index.specs.Pairs.{meeting, row_sum, cross_sum, pair_sum, AllCross, AllPairs, AreToldApart}
 use Rattle.tl_tree.proofs.Apart.{one-none, one-none_free}
 use Rattle.tl_tree.proofs.CellRows.{cell-in, all-cell-in}
-use Rattle.tl_tree.proofs.Marks8.{by_test}
 use Rattle.tl_tree.proofs.PairLemmas.{cross-nil, all_cross-nil, IsSymmetric, Turns}
 use Rattle.tl_tree.proofs.PairTests.{KeepsLaw}
 use Rattle.tl_tree.proofs.Steps.{below-at}
+use Rattle.tl_geom.proofs.Turns.{below-or as by_test}
 
 -- ---- the cells below some number
 
@@ -104,23 +104,23 @@ module _ (b : ℕ → Rect) (xs : List ℕ) (cells : ℕ) (marked : AreOwnCells 
       omega (arith, ap (own_sums (meeting b) xs) e, own-more (meeting b) xs (p + t), z, s)
 
   module _ {C : Type 0} (n : ℕ) (tells : ℕ → ℕ → Option C → Type 0) (law : KeepsLaw tells n b) (below : AreBelow n xs) where
-    own-unmarked_free : (p : ℕ) → p < 28 → bit_at cells p ≡ 0 → AllOwn (AreFree tells) xs p
+    own-unmarked_free : (p : ℕ) → p < 28 → bit_at cells p ≡ 0 → AllOwn (AreToldApart tells) xs p
     own-unmarked_free p lt none = in_first (by_test (p % 8) (length xs))
       where
-        in_second : p % 8 < length xs → (partner p < length xs) ⊎ (length xs ≤ partner p) → AllOwn (AreFree tells) xs p
+        in_second : p % 8 < length xs → (partner p < length xs) ⊎ (length xs ≤ partner p) → AllOwn (AreToldApart tells) xs p
         in_second i (inl j) =
             let h : AreThere xs p = record { first = i; second = j } in
-            all-own-in (AreFree tells) xs p h (one-none_free n tells b law (get_or xs (partner p) 0) (get_or xs (p % 8) 0) (below-at n xs (partner p) j below) (below-at n xs (p % 8) i below) (unmarked-apart p lt none h))
-        in_second i (inr j) = all-own-out (AreFree tells) xs p (inr j)
+            all-own-in (AreToldApart tells) xs p h (one-none_free n tells b law (get_or xs (partner p) 0) (get_or xs (p % 8) 0) (below-at n xs (partner p) j below) (below-at n xs (p % 8) i below) (unmarked-apart p lt none h))
+        in_second i (inr j) = all-own-out (AreToldApart tells) xs p (inr j)
 
-        in_first : (p % 8 < length xs) ⊎ (length xs ≤ p % 8) → AllOwn (AreFree tells) xs p
+        in_first : (p % 8 < length xs) ⊎ (length xs ≤ p % 8) → AllOwn (AreToldApart tells) xs p
         in_first (inl i) = in_second i (by_test (partner p) (length xs))
-        in_first (inr i) = all-own-out (AreFree tells) xs p (inl i)
+        in_first (inr i) = all-own-out (AreToldApart tells) xs p (inl i)
 
-    pub owns-skip : (t p : ℕ) → p + t ≤ 28 → ((k : ℕ) → k < t → bit_at cells (p + k) ≡ 0) → AllOwns (AreFree tells) xs p → AllOwns (AreFree tells) xs (p + t)
+    pub owns-skip : (t p : ℕ) → p + t ≤ 28 → ((k : ℕ) → k < t → bit_at cells (p + k) ≡ 0) → AllOwns (AreToldApart tells) xs p → AllOwns (AreToldApart tells) xs (p + t)
     owns-skip t p le none h q lt = by_place (by_test q p)
       where
-        by_place : (q < p) ⊎ (p ≤ q) → AllOwn (AreFree tells) xs q
+        by_place : (q < p) ⊎ (p ≤ q) → AllOwn (AreToldApart tells) xs q
         by_place (inl l) = h q l
         by_place (inr l) =
             let e : p + (q - p) ≡ q = omega (arith, l) in

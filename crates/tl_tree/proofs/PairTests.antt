@@ -7,7 +7,7 @@ use Rattle.std.proofs.lemmas.Bool.Decides.{nat_tests}
 use Rattle.std.proofs.lemmas.Int.{ints, clamps}
 use Rattle.tl_geom.specs.declared.rect.Rect.{Rect}
 use Rattle.tl_geom.specs.Rectangle.{AreMeeting}
-use Rattle.tl_tree_index.specs.Pairs.{overlaps, meeting, AreFree}
+use Rattle.tl_tree_index.specs.Pairs.{overlaps, meeting, AreToldApart}
 
 T-true : (b : Bool) → T b → b ≡ true
 T-true true h = refl
@@ -54,15 +54,6 @@ meeting-overlaps r q e =
       in_second = record { west = omega (arith, ints, clamps); east = omega (arith, ints, clamps, h); south = omega (arith, ints, clamps); north = omega (arith, ints, clamps, k) };
     }
 
--- the same of the tests in either direction
-pub meeting_by : (r q : Rect) → int_max r.xmin q.xmin ≤ℤ int_min r.xmax q.xmax → int_max r.ymin q.ymin ≤ℤ int_min r.ymax q.ymax → AreMeeting r q
-meeting_by r q h k = meeting-overlaps r q (both-true _ _ (le-true _ _ h) (le-true _ _ k))
-
-pub by_meeting : (r q : Rect) → AreMeeting r q → (int_max r.xmin q.xmin ≤ℤ int_min r.xmax q.xmax) × (int_max r.ymin q.ymin ≤ℤ int_min r.ymax q.ymax)
-by_meeting r q m =
-    let e = overlaps-meeting r q m in
-    (true-le _ _ (first-true _ _ e), true-le _ _ (second-true (int_le (int_max r.xmin q.xmin) (int_min r.xmax q.xmax)) _ e))
-
 -- ---- meeting
 
 pub meeting-equal : (b : ℕ → Rect) (i j : ℕ) → i ≡ j → meeting b i j ≡ 0
@@ -108,15 +99,15 @@ below_or (suc i) zero f g h = h (omega arith)
 below_or (suc i) (suc j) f g h = below_or i j (λ k. f (omega arith)) (λ e. g (ap suc e)) (λ k. h (omega arith))
 
 module _ {C : Type 0} (tells : ℕ → ℕ → Option C → Type 0) where
-  pub free-turned : (i j : ℕ) → AreFree tells i j → AreFree tells j i
+  pub free-turned : (i j : ℕ) → AreToldApart tells i j → AreToldApart tells j i
   free-turned i j h = record { up = h.down; down = h.up }
 
   -- an item and itself are no pair
-  pub free-equal : (i j : ℕ) → i ≡ j → AreFree tells i j
+  pub free-equal : (i j : ℕ) → i ≡ j → AreToldApart tells i j
   free-equal i j e = record { up = λ h. absurd (omega (arith, e, h)); down = λ h. absurd (omega (arith, e, h)) }
 
   -- what is told of the lesser and the greater one
-  pub free-told : (i j : ℕ) → tells (min i j) (max i j) None → AreFree tells i j
+  pub free-told : (i j : ℕ) → tells (min i j) (max i j) None → AreToldApart tells i j
   free-told i j t =
       record {
         up = λ h. let P : ℕ → Type 0 = λ k. tells k (max i j) None in let Q : ℕ → Type 0 = λ k. tells i k None in subst Q (max-up h) (subst P (min-up h) t);
@@ -139,7 +130,7 @@ module _ {C : Type 0} (tells : ℕ → ℕ → Option C → Type 0) where
   abbrev pub KeepsLaw : ℕ → (ℕ → Rect) → Type 0
   KeepsLaw n b = (i j : ℕ) → i < j → j < n → (AreMeeting (b i) (b j) → ⊥) → tells i j None
 
-  pub free-apart : (n : ℕ) (b : ℕ → Rect) → KeepsLaw n b → (i j : ℕ) → i < n → j < n → (AreMeeting (b i) (b j) → ⊥) → AreFree tells i j
+  pub free-apart : (n : ℕ) (b : ℕ → Rect) → KeepsLaw n b → (i j : ℕ) → i < n → j < n → (AreMeeting (b i) (b j) → ⊥) → AreToldApart tells i j
   free-apart n b law i j h k ne =
       record {
         up = λ l. law i j l k ne;

@@ -10,10 +10,7 @@ use Rattle.tl_tree_index.specs.Fits.{AreBelow, CoversAll, CoversBelow}
 use Rattle.tl_tree_index.specs.Trees.{Forest, none, leaf_items, node_count}
 use Rattle.tl_tree.specs.Keeping.Walking.{followed, items_below, size_of, AreSound, IsSound, CoveredBelow, Collects}
 use Rattle.tl_tree.proofs.Hitting.{collects-both}
-
-pub below-append : (n : ℕ) (xs ys : List ℕ) → AreBelow n (xs ++ ys) → AreBelow n xs × AreBelow n ys
-below-append n [] ys h = (tt, h)
-below-append n (x ∷ xs) ys h = let k : AreBelow n xs × AreBelow n ys = below-append n xs ys h.1 in ((h.0, k.0), k.1)
+use Rattle.tl_tree.proofs.Steps.{below-parts as below-append}
 
 pub cross-none : (f : ℕ → ℕ → ℕ) (xs : List ℕ) (ts : Forest) → ts ≡ none → cross_sum f xs (leaf_items ts) ≡ 0
 cross-none f xs ts e = ap (λ us. cross_sum f xs (leaf_items us)) e ∙ cross-nil f xs

@@ -1,7 +1,7 @@
 //! The check of a tree against items.
 ghost use Rattle.std.specs.Prelude.{◌≡◌, ℕ, ◌<◌, ◌+◌, ◌^◌, ◌↔◌, length, None, OnOk, IfOk, IfErr};
 ghost use Rattle.tl_tree_index.specs.Keeping.Marked.{mark_at, AreMarked};
-ghost use Rattle.tl_tree.specs.Keeping.Checking.{IsMarkFault, AreChecked, IsChecked, IsFaultAt, IsTold};
+ghost use Rattle.tl_tree.specs.Keeping.Checking.{IsMarkFault, AreChecked, IsChecked, IsFaultAt, IsAnsweredBy};
 ghost use Rattle.tl_tree.specs.Keeping.Checking.{IsFaultBelow};
 ghost use Rattle.tl_tree_index.specs.Fits.{Fits, MayFind};
 ghost use Rattle.tl_tree_index.specs.Trees.{node_count};
@@ -41,7 +41,7 @@ fn check_below<I: Items, W: Trees>(
 ) -> Result<Rect, TreeFault>
     requires marks { length marks.old ≡ I.count items.now }
     requires numbers { number.old + size_of W.forest tree.now.below < 2 ^ 32 + 1 }
-    ensures { IsTold (IsChecked (I.bounds_of items.now) W.forest tree.now.below marks.old marks.new)
+    ensures { IsAnsweredBy (IsChecked (I.bounds_of items.now) W.forest tree.now.below marks.old marks.new)
         (number.new + 1 ≡ number.old + size_of W.forest tree.now.below)
         (IsFaultBelow (I.bounds_of items.now) marks.old number.old W.forest tree.now.below) result }
 {
@@ -64,7 +64,7 @@ fn check_trees<I: Items, W: Trees>(
 ) -> Result<Rect, TreeFault>
     requires marks { length marks.old ≡ I.count items.now }
     requires numbers { number.old + node_count (W.forest trees.now) < 2 ^ 32 }
-    ensures { IsTold (AreChecked (I.bounds_of items.now) (W.forest trees.now) marks.old marks.new)
+    ensures { IsAnsweredBy (AreChecked (I.bounds_of items.now) (W.forest trees.now) marks.old marks.new)
         (number.new ≡ number.old + node_count (W.forest trees.now))
         (IsFaultAt (I.bounds_of items.now) marks.old number.old (W.forest trees.now)) result }
 {

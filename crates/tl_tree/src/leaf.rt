@@ -4,7 +4,7 @@ ghost use Rattle.tl_tree_index.specs.Fits.{AreBelow, CoversAll};
 ghost use Rattle.tl_tree.specs.Keeping.Listing.{listed_items, AllSound, sum_beside, AllBeside};
 ghost use Rattle.tl_tree.specs.Keeping.Marking.{AreBoundsOf};
 ghost use Rattle.tl_tree.specs.Keeping.Walking.{MayLeave};
-ghost use Rattle.tl_tree_index.specs.Pairs.{cross_sum, pair_sum, AllCross, AllPairs, AreFree};
+ghost use Rattle.tl_tree_index.specs.Pairs.{cross_sum, pair_sum, AllCross, AllPairs, AreToldApart};
 
 use crate::Items;
 use crate::cells::cells_of;
@@ -32,7 +32,7 @@ fn test_rows<I: Items>(
     requires nothing_found { progress.old.found ≡ None }
     ensures { MayLeave (I.count items.now) (I.bounds_of items.now) (I.tells items.now)
         (λ f. cross_sum f some.now others.now)
-        (AllCross (AreFree (I.tells items.now)) some.now others.now) progress.old progress.new result }
+        (AllCross (AreToldApart (I.tells items.now)) some.now others.now) progress.old progress.new result }
 {
     test_cells(
         items,
@@ -58,7 +58,7 @@ fn test_blocks<I: Items>(
     requires nothing_found { progress.old.found ≡ None }
     ensures { MayLeave (I.count items.now) (I.bounds_of items.now) (I.tells items.now)
         (λ f. cross_sum f some.now others.now)
-        (AllCross (AreFree (I.tells items.now)) some.now others.now) progress.old progress.new result }
+        (AllCross (AreToldApart (I.tells items.now)) some.now others.now) progress.old progress.new result }
 {
     if others.len() <= 8 {
         return test_rows(items, some, bounds, others, progress);
@@ -83,7 +83,7 @@ fn test_pairs<I: Items>(
     requires nothing_found { progress.old.found ≡ None }
     ensures { MayLeave (I.count items.now) (I.bounds_of items.now) (I.tells items.now)
         (λ f. pair_sum f some.now)
-        (AllPairs (AreFree (I.tells items.now)) some.now) progress.old progress.new result }
+        (AllPairs (AreToldApart (I.tells items.now)) some.now) progress.old progress.new result }
 {
     if some.len() > 8 {
         return test_all_pairs(items, some, progress);
@@ -106,7 +106,7 @@ fn test_unlisted<I: Items, W: Trees>(
     requires nothing_found { progress.old.found ≡ None }
     ensures { MayLeave (I.count items.now) (I.bounds_of items.now) (I.tells items.now)
         (λ f. cross_sum f some.now (listed_items W.forest near.now))
-        (AllCross (AreFree (I.tells items.now)) some.now (listed_items W.forest near.now)) progress.old progress.new result }
+        (AllCross (AreToldApart (I.tells items.now)) some.now (listed_items W.forest near.now)) progress.old progress.new result }
 {
     let tree = Tree {
         rect: around,
@@ -133,7 +133,7 @@ fn test_listed<I: Items, W: Trees>(
     requires nothing_found { progress.old.found ≡ None }
     ensures { MayLeave (I.count items.now) (I.bounds_of items.now) (I.tells items.now)
         (λ f. cross_sum f some.now (listed_items W.forest near.now))
-        (AllCross (AreFree (I.tells items.now)) some.now (listed_items W.forest near.now)) progress.old progress.new result }
+        (AllCross (AreToldApart (I.tells items.now)) some.now (listed_items W.forest near.now)) progress.old progress.new result }
 {
     if some.len() > 8 {
         return test_unlisted(items, some, around, near, progress);
@@ -160,7 +160,7 @@ pub fn test_leaf<I: Items, W: Trees>(
     requires nothing_found { progress.old.found ≡ None }
     ensures { MayLeave (I.count items.now) (I.bounds_of items.now) (I.tells items.now)
         (λ f. sum_beside f some.now (listed_items W.forest near.now))
-        (AllBeside (AreFree (I.tells items.now)) some.now (listed_items W.forest near.now))
+        (AllBeside (AreToldApart (I.tells items.now)) some.now (listed_items W.forest near.now))
         progress.old progress.new result }
 {
     let bounds = bounds_of_eight(items, some);

@@ -4,7 +4,7 @@ ghost use Rattle.tl_geom.specs.Rectangle.{AreMeeting};
 ghost use Rattle.tl_tree_index.specs.Fits.{AreBelow};
 ghost use Rattle.tl_tree.specs.Keeping.OwnPairs.{partner, own_sum, AllOwn, AreThere, AreOwnCells};
 ghost use Rattle.tl_tree.specs.Keeping.Walking.{MayLeave};
-ghost use Rattle.tl_tree_index.specs.Pairs.{pair_sum, AllPairs, AreFree};
+ghost use Rattle.tl_tree_index.specs.Pairs.{pair_sum, AllPairs, AreToldApart};
 
 use crate::Items;
 use crate::search::{Progress, test_meeting};
@@ -25,7 +25,7 @@ fn test_own_cell<I: Items>(
     requires nothing_found { progress.old.found ≡ None }
     ensures { MayLeave (I.count items.now) (I.bounds_of items.now) (I.tells items.now)
         (λ f. own_sum f some.now place)
-        (AllOwn (AreFree (I.tells items.now)) some.now place) progress.old progress.new result }
+        (AllOwn (AreToldApart (I.tells items.now)) some.now place) progress.old progress.new result }
 {
     let first = place % 8;
     let second = (first + place / 8 + 1) % 8;
@@ -50,7 +50,7 @@ pub fn test_own_pairs<I: Items>(
     requires nothing_found { progress.old.found ≡ None }
     ensures { MayLeave (I.count items.now) (I.bounds_of items.now) (I.tells items.now)
         (λ f. pair_sum f some.now)
-        (AllPairs (AreFree (I.tells items.now)) some.now) progress.old progress.new result }
+        (AllPairs (AreToldApart (I.tells items.now)) some.now) progress.old progress.new result }
 {
     let (mut later, mut place) = (cells, 0usize);
     while later != 0 {

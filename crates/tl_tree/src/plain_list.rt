@@ -1,6 +1,6 @@
 //! The plain index: a list of all items.
 ghost use Rattle.std.specs.Prelude.{◌≡◌, ◌<◌, ◌≤◌};
-ghost use Rattle.tl_tree_index.specs.Pairs.{row_sum, AllRow, AreFree, indices};
+ghost use Rattle.tl_tree_index.specs.Pairs.{row_sum, AllRow, AreToldApart, indices};
 ghost use Rattle.tl_tree.specs.Keeping.Walking.{MayLeave};
 
 use crate::search::{Progress, answer, test_pair};
@@ -36,7 +36,7 @@ fn test_below<I: Items>(items: &I, j: u32, progress: &mut Progress<I::C>) -> boo
     requires nothing_found { progress.old.found ≡ None }
     ensures { MayLeave (I.count items.now) (I.bounds_of items.now) (I.tells items.now)
         (λ f. row_sum f j (indices j))
-        (AllRow (AreFree (I.tells items.now)) j (indices j)) progress.old progress.new result }
+        (AllRow (AreToldApart (I.tells items.now)) j (indices j)) progress.old progress.new result }
 {
     for i in 0..j {
         if !test_pair(items, j, i, progress) {

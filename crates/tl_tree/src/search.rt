@@ -7,7 +7,7 @@ ghost use Rattle.tl_tree_index.specs.Fits.{AreBelow, Fits};
 ghost use Rattle.tl_tree.specs.Keeping.Cells.{AreCellsOf};
 ghost use Rattle.tl_tree.specs.Keeping.Listing.{first_items, listed_items, AllSound, sum_beside, AllBeside};
 ghost use Rattle.tl_tree.specs.Keeping.Marking.{Includes, RootMeets};
-ghost use Rattle.tl_tree_index.specs.Pairs.{row_sum, cross_sum, pair_sum, AllRow, AllCross, AllPairs, AreFree};
+ghost use Rattle.tl_tree_index.specs.Pairs.{row_sum, cross_sum, pair_sum, AllRow, AllCross, AllPairs, AreToldApart};
 ghost use Rattle.tl_tree_index.specs.Searches.{MayAnswer};
 ghost use Rattle.tl_tree_index.specs.Trees.{leaf_items};
 ghost use Rattle.tl_tree.specs.Keeping.Walking.{MayLeave, answer_of, items_below, IsSound, AreSound};
@@ -47,7 +47,7 @@ pub fn test_meeting<I: Items>(items: &I, i: u32, j: u32, progress: &mut Progress
     requires meeting { AreMeeting (I.bounds_of items.now j) (I.bounds_of items.now i) }
     requires nothing_found { progress.old.found ≡ None }
     ensures { MayLeave (I.count items.now) (I.bounds_of items.now) (I.tells items.now)
-        (λ f. f i j) (AreFree (I.tells items.now) i j) progress.old progress.new result }
+        (λ f. f i j) (AreToldApart (I.tells items.now) i j) progress.old progress.new result }
 {
     let (low, high) = (i.min(j), i.max(j));
     if low == high {
@@ -74,7 +74,7 @@ pub fn test_pair<I: Items>(items: &I, i: u32, j: u32, progress: &mut Progress<I:
     requires second { j < I.count items.now }
     requires nothing_found { progress.old.found ≡ None }
     ensures { MayLeave (I.count items.now) (I.bounds_of items.now) (I.tells items.now)
-        (λ f. f i j) (AreFree (I.tells items.now) i j) progress.old progress.new result }
+        (λ f. f i j) (AreToldApart (I.tells items.now) i j) progress.old progress.new result }
 {
     if items.bounds(j).meets(items.bounds(i)) {
         test_meeting(items, i, j, progress)
@@ -91,7 +91,7 @@ fn test_each<I: Items>(items: &I, i: u32, others: &[u32], progress: &mut Progres
     requires nothing_found { progress.old.found ≡ None }
     ensures { MayLeave (I.count items.now) (I.bounds_of items.now) (I.tells items.now)
         (λ f. row_sum f i others.now)
-        (AllRow (AreFree (I.tells items.now)) i others.now) progress.old progress.new result }
+        (AllRow (AreToldApart (I.tells items.now)) i others.now) progress.old progress.new result }
 {
     for j in others {
         if !test_pair(items, i, *j, progress) {
@@ -117,7 +117,7 @@ fn test_cell<I: Items>(
     requires nothing_found { progress.old.found ≡ None }
     ensures { MayLeave (I.count items.now) (I.bounds_of items.now) (I.tells items.now)
         (λ f. row_sum f i (take 1 (drop at others.now)))
-        (AllRow (AreFree (I.tells items.now)) i (take 1 (drop at others.now))) progress.old progress.new result }
+        (AllRow (AreToldApart (I.tells items.now)) i (take 1 (drop at others.now))) progress.old progress.new result }
 {
     if others.len() <= at {
         return true;
@@ -142,7 +142,7 @@ pub fn test_cells<I: Items>(
     requires nothing_found { progress.old.found ≡ None }
     ensures { MayLeave (I.count items.now) (I.bounds_of items.now) (I.tells items.now)
         (λ f. cross_sum f some.now others.now)
-        (AllCross (AreFree (I.tells items.now)) some.now others.now) progress.old progress.new result }
+        (AllCross (AreToldApart (I.tells items.now)) some.now others.now) progress.old progress.new result }
 {
     let (mut later, mut place) = (cells, 0usize);
     while later != 0 {
@@ -174,7 +174,7 @@ pub fn test_all<I: Items>(
     requires nothing_found { progress.old.found ≡ None }
     ensures { MayLeave (I.count items.now) (I.bounds_of items.now) (I.tells items.now)
         (λ f. cross_sum f some.now others.now)
-        (AllCross (AreFree (I.tells items.now)) some.now others.now) progress.old progress.new result }
+        (AllCross (AreToldApart (I.tells items.now)) some.now others.now) progress.old progress.new result }
 {
     for i in some {
         if !test_each(items, *i, others, progress) {
@@ -196,7 +196,7 @@ pub fn test_cross<I: Items>(
     requires nothing_found { progress.old.found ≡ None }
     ensures { MayLeave (I.count items.now) (I.bounds_of items.now) (I.tells items.now)
         (λ f. cross_sum f some.now others.now)
-        (AllCross (AreFree (I.tells items.now)) some.now others.now) progress.old progress.new result }
+        (AllCross (AreToldApart (I.tells items.now)) some.now others.now) progress.old progress.new result }
 {
     if some.len() > 8 || others.len() > 8 {
         return test_all(items, some, others, progress);
@@ -218,7 +218,7 @@ fn test_behind<I: Items>(items: &I, some: &[u32], k: usize, progress: &mut Progr
     requires nothing_found { progress.old.found ≡ None }
     ensures { MayLeave (I.count items.now) (I.bounds_of items.now) (I.tells items.now)
         (λ f. row_sum f (get_or some.now k 0) (drop (k + 1) some.now))
-        (AllRow (AreFree (I.tells items.now)) (get_or some.now k 0) (drop (k + 1) some.now))
+        (AllRow (AreToldApart (I.tells items.now)) (get_or some.now k 0) (drop (k + 1) some.now))
         progress.old progress.new result }
 {
     test_each(items, some[k], &some[k + 1..], progress)
@@ -231,7 +231,7 @@ pub fn test_all_pairs<I: Items>(items: &I, some: &[u32], progress: &mut Progress
     requires nothing_found { progress.old.found ≡ None }
     ensures { MayLeave (I.count items.now) (I.bounds_of items.now) (I.tells items.now)
         (λ f. pair_sum f some.now)
-        (AllPairs (AreFree (I.tells items.now)) some.now) progress.old progress.new result }
+        (AllPairs (AreToldApart (I.tells items.now)) some.now) progress.old progress.new result }
 {
     for k in 0..some.len() {
         if !test_behind(items, some, k, progress) {
@@ -255,7 +255,7 @@ pub fn search_two<I: Items, W: Trees>(
     ensures { MayLeave (I.count items.now) (I.bounds_of items.now) (I.tells items.now)
         (λ f. cross_sum f
         (items_below W.forest tree.now.below) (items_below W.forest other.now.below))
-        (AllCross (AreFree (I.tells items.now))
+        (AllCross (AreToldApart (I.tells items.now))
         (items_below W.forest tree.now.below) (items_below W.forest other.now.below)) progress.old progress.new result }
 {
     if !do_meet(tree.rect, other.rect) {
@@ -283,7 +283,7 @@ pub fn search_between<I: Items, W: Trees>(
     ensures { MayLeave (I.count items.now) (I.bounds_of items.now) (I.tells items.now)
         (λ f. cross_sum f
         (items_below W.forest tree.now.below) (leaf_items (W.forest others.now)))
-        (AllCross (AreFree (I.tells items.now))
+        (AllCross (AreToldApart (I.tells items.now))
         (items_below W.forest tree.now.below) (leaf_items (W.forest others.now))) progress.old progress.new result }
 {
     search_marked(
@@ -312,7 +312,7 @@ fn search_marked<I: Items, W: Trees>(
     ensures { MayLeave (I.count items.now) (I.bounds_of items.now) (I.tells items.now)
         (λ f. cross_sum f
         (items_below W.forest tree.now.below) (leaf_items (W.forest others.now)))
-        (AllCross (AreFree (I.tells items.now))
+        (AllCross (AreToldApart (I.tells items.now))
         (items_below W.forest tree.now.below) (leaf_items (W.forest others.now))) progress.old progress.new result }
 {
     let Some((other, rest)) = others.split_first() else {
@@ -340,7 +340,7 @@ fn search_if_marked<I: Items, W: Trees>(
     ensures { MayLeave (I.count items.now) (I.bounds_of items.now) (I.tells items.now)
         (λ f. cross_sum f
         (items_below W.forest tree.now.below) (items_below W.forest other.now.below))
-        (AllCross (AreFree (I.tells items.now))
+        (AllCross (AreToldApart (I.tells items.now))
         (items_below W.forest tree.now.below) (items_below W.forest other.now.below)) progress.old progress.new result }
 {
     if marked {
@@ -363,7 +363,7 @@ fn search_first<I: Items, W: Trees>(
     ensures { MayLeave (I.count items.now) (I.bounds_of items.now) (I.tells items.now)
         (λ f. cross_sum f
         (items_below W.forest tree.now.below) (first_items (W.forest at.now)))
-        (AllCross (AreFree (I.tells items.now))
+        (AllCross (AreToldApart (I.tells items.now))
         (items_below W.forest tree.now.below) (first_items (W.forest at.now))) progress.old progress.new result }
 {
     let Some((first, _)) = at.split_first() else {
@@ -385,7 +385,7 @@ pub fn search_listed<I: Items, W: Trees>(
     ensures { MayLeave (I.count items.now) (I.bounds_of items.now) (I.tells items.now)
         (λ f. cross_sum f
         (items_below W.forest tree.now.below) (listed_items W.forest near.now))
-        (AllCross (AreFree (I.tells items.now))
+        (AllCross (AreToldApart (I.tells items.now))
         (items_below W.forest tree.now.below) (listed_items W.forest near.now)) progress.old progress.new result }
 {
     let Some((at, rest)) = near.split_first() else {
@@ -412,7 +412,7 @@ pub fn search_one<I: Items, W: Trees>(
     ensures { MayLeave (I.count items.now) (I.bounds_of items.now) (I.tells items.now)
         (λ f. sum_beside f
         (items_below W.forest tree.now.below) (listed_items W.forest near.now))
-        (AllBeside (AreFree (I.tells items.now))
+        (AllBeside (AreToldApart (I.tells items.now))
         (items_below W.forest tree.now.below) (listed_items W.forest near.now)) progress.old progress.new result }
 {
     match &tree.below {
@@ -438,7 +438,7 @@ fn search_among<I: Items, W: Trees>(
     ensures { MayLeave (I.count items.now) (I.bounds_of items.now) (I.tells items.now)
         (λ f. sum_beside f (items_below W.forest tree.now.below)
         (leaf_items (W.forest rest.now) ++ listed_items W.forest others.now))
-        (AllBeside (AreFree (I.tells items.now)) (items_below W.forest tree.now.below)
+        (AllBeside (AreToldApart (I.tells items.now)) (items_below W.forest tree.now.below)
         (leaf_items (W.forest rest.now) ++ listed_items W.forest others.now)) progress.old progress.new result }
 {
     if room.len() < LIST {
@@ -469,7 +469,7 @@ fn search_unlisted<I: Items, W: Trees>(
     ensures { MayLeave (I.count items.now) (I.bounds_of items.now) (I.tells items.now)
         (λ f. sum_beside f (items_below W.forest tree.now.below)
         (leaf_items (W.forest rest.now) ++ listed_items W.forest others.now))
-        (AllBeside (AreFree (I.tells items.now)) (items_below W.forest tree.now.below)
+        (AllBeside (AreToldApart (I.tells items.now)) (items_below W.forest tree.now.below)
         (leaf_items (W.forest rest.now) ++ listed_items W.forest others.now)) progress.old progress.new result }
 {
     if !search_between(items, tree, rest, progress) {
@@ -496,7 +496,7 @@ pub fn search_within<I: Items, W: Trees>(
     ensures { MayLeave (I.count items.now) (I.bounds_of items.now) (I.tells items.now)
         (λ f. sum_beside f
         (leaf_items (W.forest trees.now)) (listed_items W.forest others.now))
-        (AllBeside (AreFree (I.tells items.now))
+        (AllBeside (AreToldApart (I.tells items.now))
         (leaf_items (W.forest trees.now)) (listed_items W.forest others.now)) progress.old progress.new result }
 {
     let Some((tree, rest)) = trees.split_first() else {

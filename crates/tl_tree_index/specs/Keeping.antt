@@ -1,2 +1,3 @@
 -- What checks and walks keep on their way. No public contract cites a file of this folder.
 pub mod Marked
+pub mod Nodes

@@ -5,3 +5,5 @@ pub mod Trees
 pub mod Preorder
 pub mod Fits
 pub mod Keeping
+pub mod Packed
+pub mod Lists

@@ -49,6 +49,6 @@ AllPairs P [] = Unit {0}
 AllPairs P (x ∷ xs) = AllRow P x xs × AllPairs P xs
 
 -- where x and y are two items, it is told of them, the lower one first, that they don't conflict
-pub record AreFree {C : Type 0} (tells : ℕ → ℕ → Option C → Type 0) (x y : ℕ) : Type 0 where
+pub record AreToldApart {C : Type 0} (tells : ℕ → ℕ → Option C → Type 0) (x y : ℕ) : Type 0 where
   pub up : x < y → tells x y None
   pub down : y < x → tells y x None

@@ -21,7 +21,7 @@ pub record IsConflict {C : Type 0} (n : ℕ) (tells : ℕ → ℕ → Option C �
   pub told : tells i j (Some c)
 
 -- no two of the n items conflict, and at most budget pairs have bounds that meet
-pub record IsClear {C : Type 0} (n : ℕ) (bounds : ℕ → Rect) (tells : ℕ → ℕ → Option C → Type 0) (budget : ℕ) : Type 0 where
+pub record IsFreeOfConflicts {C : Type 0} (n : ℕ) (bounds : ℕ → Rect) (tells : ℕ → ℕ → Option C → Type 0) (budget : ℕ) : Type 0 where
   pub none : (i j : ℕ) → i < j → j < n → tells i j None
   pub within : meeting_pairs bounds n ≤ budget
 
@@ -41,5 +41,5 @@ pub record IsBeyond {C : Type 0} (n : ℕ) (bounds : ℕ → Rect) (tells : ℕ 
 -- what a search with this budget may answer
 abbrev pub MayAnswer : {C : Type 0} → ℕ → (ℕ → Rect) → (ℕ → ℕ → Option C → Type 0) → ℕ → Search C → Type 0
 MayAnswer n bounds tells budget (Found i j c) = IsConflict n tells i j c
-MayAnswer n bounds tells budget Clear = IsClear n bounds tells budget
+MayAnswer n bounds tells budget Clear = IsFreeOfConflicts n bounds tells budget
 MayAnswer n bounds tells budget Budget = IsBeyond n bounds tells budget

@@ -5,16 +5,22 @@
 //! the indexes.
 #![tactic(auto)]
 
+mod curve;
 mod fault;
 mod index;
 mod items;
 mod node;
+mod order;
+mod packing;
 mod preorder;
 mod probe;
+mod tree;
 
 pub use fault::{TreeFault, TreeStop};
 pub use index::{BoxIndex, Memory};
 pub use items::{Conflict, Items, Search};
 pub use node::TreeNode;
+pub use order::{Placed, order_items};
+pub use packing::pack;
 pub use preorder::is_preorder;
 pub use probe::Probe;

@@ -9,7 +9,7 @@ use tl_geom::{Point, Rect};
 use tl_tree::{
     BoxIndex, BoxTree, FlatTree, Items, PlainList, Search, TreeFault, TreeNode, is_preorder,
 };
-use tl_tree_pack::pack;
+use tl_tree_index::pack;
 
 fn leaf(bounds: Rect, items: &[u32]) -> TreeNode {
     let mut kept = ArrayVec::new();

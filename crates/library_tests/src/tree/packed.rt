@@ -3,7 +3,7 @@
 use crate::tree::items::{Counting, rect};
 use std::alloc::{AllocError, Global};
 use tl_tree::{FlatTree, TreeNode};
-use tl_tree_pack::pack;
+use tl_tree_index::pack;
 
 /// The nodes in preorder: of an inner node how many children it has, of a leaf how many items.
 fn shape(alloc: Global, nodes: &[TreeNode]) -> Result<String, AllocError> {

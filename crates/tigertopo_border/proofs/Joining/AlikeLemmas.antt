@@ -8,11 +8,11 @@ use Rattle.tl_record_key.specs.declared.key.PolyKey.{PolyKey}
 use Rattle.tl_record.specs.declared.record.Record.{Record}
 use Rattle.tl_record.specs.declared.record.Record.TheVariants.{Chain, Shape, Sides}
 use Rattle.tl_record.specs.Joining.{fits, first_given, one_of_two, is_told_twice}
-use Rattle.tl_map_join.specs.declared.place.Place.{Place}
-use Rattle.tl_map_join.specs.Keeping.Places.{is_at}
-use Rattle.tl_map_join.proofs.ApartLemmas.{key}
+use Rattle.tl_map.specs.declared.joined.place.Place.{Place}
+use Rattle.tl_map.specs.Joined.Keeping.Places.{is_at}
+use Rattle.tl_map.proofs.JoinedLemmas.ApartLemmas.{key}
 use Rattle.tl_map_rules.specs.ChainsOf.{shape_count, pairs_at, pairs_up_to, pairs_of}
-use Rattle.tl_map_rules.specs.Faults.{IsNumbered}
+use Rattle.tl_map_rules.specs.Faults.{AreShapesNumbered}
 use Rattle.tl_map_rules.proofs.PairLemmas.{pairs_at_is}
 use Rattle.tigertopo_border.specs.Parts.{all_records, HaveNoFaultButMany}
 use Rattle.tigertopo_border.proofs.Joining.KeyedLemmas.{told, AreJoinedOf, first_at, second_at, joined_apart, joined_twice, joined_none}
@@ -45,7 +45,7 @@ same_pairs_up_to js rs t (suc m) same =
     let rest = same_pairs_up_to js rs t m (λ n low high. same n low (omega (arith, high))) in
     λ i. rest i ++ last i
 
-pub pairs_alike : (js rs : List Record) (t : ℕ) → IsNumbered js t → IsNumbered rs t → ((n : ℕ) → 1 ≤ n → AreAlike t n (told (key t 50 n) js) (told (key t 50 n) rs)) → pairs_of js t ≡ pairs_of rs t
+pub pairs_alike : (js rs : List Record) (t : ℕ) → AreShapesNumbered js t → AreShapesNumbered rs t → ((n : ℕ) → 1 ≤ n → AreAlike t n (told (key t 50 n) js) (told (key t 50 n) rs)) → pairs_of js t ≡ pairs_of rs t
 pairs_alike js rs t one other alike =
     let many : shape_count js t ≡ shape_count rs t =
     as_many js rs t one other (λ n low. shapes_counted js t n ∙ same_length t n _ _ (alike n low) ∙ sym (shapes_counted rs t n)) in

@@ -7,11 +7,11 @@ use Rattle.tl_map_county.specs.declared.polygons.Polygon.{Polygon}
 use Rattle.tl_map_county.specs.declared.sides.Side.{Side}
 use Rattle.tl_map_county.specs.declared.sides.Side.TheVariants.{Outside, Polygon as InPolygon}
 use Rattle.tl_map_county.specs.TheMap.{TheMap, MapChain}
-use Rattle.tl_check_parts.specs.Told.{IsNamed, AreTold}
-use Rattle.tl_check_parts.specs.Homes.{Homes, is_of, is_blank, own, tells, IsOfParts, IsTold}
-use Rattle.tl_check_parts.specs.Joined.{IsJoined}
-use Rattle.tl_check_parts.specs.Borders.{as_one, has_blank, AreBordersOf, of_borders, AreRising}
-use Rattle.tl_check_parts.proofs.Told.{there}
+use Rattle.tigertopo_border.specs.Whole.Told.{IsNamed, AreTold}
+use Rattle.tigertopo_border.specs.Whole.Homes.{Homes, is_of, is_blank, own, tells, IsOfParts, IsToldByParts}
+use Rattle.tigertopo_border.specs.Whole.Joined.{IsJoined}
+use Rattle.tigertopo_border.specs.Whole.Borders.{as_one, has_blank, AreBordersOf, of_borders, AreTlidsRising}
+use Rattle.tigertopo_border.proofs.WholeLemmas.Told.{there}
 use Rattle.tigertopo_border.specs.Parts.{part_at, number_at, teller_at, homes_of}
 use Rattle.tigertopo_border.specs.InParts.{EmptyComeLast}
 use Rattle.tigertopo_border.proofs.Joining.InLemmas.{In, from_place, placed}
@@ -118,7 +118,7 @@ blank_teller homes k e d named told left right =
 -- ---- borders that are joined
 
 module _ (parts borders : List TheMap) (m b : TheMap) (of_parts : IsJoined (homes_of parts) parts m) (are : AreBordersOf parts borders) (is : IsJoined (homes_of borders) borders b)
-    (last : EmptyComeLast parts) (rising : AreRising b.chains) where
+    (last : EmptyComeLast parts) (rising : AreTlidsRising b.chains) where
   many_is : (k : ℕ) (border : TheMap) → slice_get borders k ≡ Some border → (part : TheMap) × (slice_get parts k ≡ Some part) × (length border.polygons ≡ length (take 1 part.polygons))
   many_is k border at = let part = item_beside parts borders k border (sym are.many) at in (part.0, part.1, (are.each k part.0 border part.1 at).many)
 
@@ -160,7 +160,7 @@ module _ (parts borders : List TheMap) (m b : TheMap) (of_parts : IsJoined (home
   same_is_of k Outside within = refl
   same_is_of k (InPolygon p) within = let at = own_place p within in rw at.part refl
 
-  is_told : (c : MapChain) → In c b.chains → IsTold (homes_of borders) (length borders) c
+  is_told : (c : MapChain) → In c b.chains → IsToldByParts (homes_of borders) (length borders) c
   is_told c has = let at = placed b.chains c has in is.told at.0 c at.1
 
   -- who tells a chain without a name
@@ -222,7 +222,7 @@ module _ (parts borders : List TheMap) (m b : TheMap) (of_parts : IsJoined (home
       within_too Outside within = tt
       within_too (InPolygon p) within = let at = own_place p within in let same = at.part in omega (arith, within, same)
 
-      told_too : (c : MapChain) → In c b.chains → IsTold (of_borders (homes_of parts)) (length borders) c
+      told_too : (c : MapChain) → In c b.chains → IsToldByParts (of_borders (homes_of parts)) (length borders) c
       told_too c has =
           let told = is_told c has in
           record {

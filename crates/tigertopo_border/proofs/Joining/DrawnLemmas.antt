@@ -7,7 +7,7 @@ use Rattle.tl_geom.specs.declared.point.Point.{Point}
 use Rattle.tl_record_key.specs.declared.key.PolyKey.{PolyKey}
 use Rattle.tl_record.specs.declared.record.Record.{Record}
 use Rattle.tl_record.specs.declared.record.Record.TheVariants.{Chain, Sides}
-use Rattle.tl_map_join.proofs.ApartLemmas.{key}
+use Rattle.tl_map.proofs.JoinedLemmas.ApartLemmas.{key}
 use Rattle.tl_map_county.specs.Chains.{CompleteChain, tlids}
 use Rattle.tl_map_county.specs.TheMap.{TheMap, MapChain}
 use Rattle.tl_map_rules.specs.declared.entry.SidesEntry.{SidesEntry}

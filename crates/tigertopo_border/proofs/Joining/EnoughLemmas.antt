@@ -7,10 +7,10 @@ use Rattle.tl_record.specs.Layout.{layout_with}
 use Rattle.tl_record.specs.Records.{records_of}
 use Rattle.tl_map_county.specs.TheMap.{TheMap}
 use Rattle.tl_map_rules.specs.Reading.{IsReadFrom}
-use Rattle.tl_check_parts.specs.Borders.{IsBorderOf, AreBordersOf}
-use Rattle.tl_check_parts.specs.Sound.{IsSoundWithFaces, AreSoundWithFaces}
-use Rattle.tl_check_parts.proofs.Bordering.{joined_borders}
-use Rattle.tl_check_parts.proofs.Enough.{parts_are_enough}
+use Rattle.tigertopo_border.specs.Whole.Borders.{IsBorderOf, AreBordersOf}
+use Rattle.tigertopo_border.specs.Whole.Sound.{IsSoundWithFaces, AreSoundWithFaces}
+use Rattle.tigertopo_border.proofs.WholeLemmas.Bordering.{joined_borders}
+use Rattle.tigertopo_border.proofs.WholeLemmas.Enough.{parts_are_enough}
 use Rattle.tigertopo_border.specs.Border.{border_text}
 use Rattle.tigertopo_border.specs.Spellable.{IsName}
 use Rattle.tigertopo_border.specs.Readable.{IsReadable}

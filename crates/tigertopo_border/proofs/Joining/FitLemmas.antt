@@ -7,14 +7,15 @@ use Rattle.std.proofs.lemmas.Bool.{true≢false, cases_Bool, and_parts, not-true
 use Rattle.std.proofs.lemmas.List.Elements.{filter_agree}
 use Rattle.std.proofs.lemmas.List.Folds.{list_any_at}
 use Rattle.tl_geom.specs.declared.point.Point.{Point}
-use Rattle.tl_geom.proofs.Conditions.{same_point}
+use Rattle.tl_geom.proofs.Conditions.{same_point as one_point}
 use Rattle.tl_record_key.specs.declared.key.PolyKey.{PolyKey}
 use Rattle.tl_record.specs.declared.record.Record.{Record}
 use Rattle.tl_record.specs.declared.record.Record.TheVariants.{Chain, Shape, Sides}
-use Rattle.tl_record.specs.Joining.{tells_chain, tells_sides, tells_shape_at, same_place, sides_complete, ids_agree, fits, are_two_that_fit, is_shape_apart, is_told_twice}
-use Rattle.tl_map_join.proofs.ApartLemmas.{key, chain_at, shape_at, sides_at}
+use Rattle.tl_record.specs.Joining.{tells_chain, tells_sides, tells_shape_at, same_point, sides_complete, ids_agree, fits, are_two_that_fit, is_shape_apart, is_told_twice}
+use Rattle.tl_map.proofs.JoinedLemmas.ApartLemmas.{key, chain_at, shape_at, sides_at}
 use Rattle.tigertopo_border.proofs.Joining.KeyedLemmas.{told}
 use Rattle.tigertopo_border.proofs.Joining.InLemmas.{In, contained}
+use Rattle.tl_map.proofs.JoinedLemmas.JoinLemmas.{twice_fit as twice_parts}
 
 -- these are two, and they fit
 pub record AreTwo (xs : List Record) : Type 0 where
@@ -43,21 +44,21 @@ none_each (x ∷ xs) ys none = absurd (let wrong : x ∷ (xs ++ ys) ≡ [] = non
 
 pub same_ends : (t u : ℕ) (f g o p : Point) → fits (Chain t f o) (Chain u g p) ≡ true → (f ≡ g) × (o ≡ p)
 same_ends t u f g o p fit =
-    let both = and_parts (same_place f g) (same_place o p) fit in
-    (same_point f g (same_place f g) refl both.0, same_point o p (same_place o p) refl both.1)
+    let both = and_parts (same_point f g) (same_point o p) fit in
+    (one_point f g (same_point f g) refl both.0, one_point o p (same_point o p) refl both.1)
 
-same_pair : (p q : Option Point) → option_eq same_place p q ≡ true → p ≡ q
+same_pair : (p q : Option Point) → option_eq same_point p q ≡ true → p ≡ q
 same_pair None None same = refl
 same_pair None (Some q) same = absurd (true≢false (sym same))
 same_pair (Some p) None same = absurd (true≢false (sym same))
-same_pair (Some p) (Some q) same = ap (λ x. Some x) (same_point p q (same_place p q) refl same)
+same_pair (Some p) (Some q) same = ap (λ x. Some x) (one_point p q (same_point p q) refl same)
 
-same_pairs : (ps qs : List (Option Point)) → pointwise (option_eq same_place) ps qs ≡ true → ps ≡ qs
+same_pairs : (ps qs : List (Option Point)) → pointwise (option_eq same_point) ps qs ≡ true → ps ≡ qs
 same_pairs [] [] same = refl
 same_pairs [] (q ∷ qs) same = absurd (true≢false (sym same))
 same_pairs (p ∷ ps) [] same = absurd (true≢false (sym same))
 same_pairs (p ∷ ps) (q ∷ qs) same =
-    let both = and_parts (option_eq same_place p q) (pointwise (option_eq same_place) ps qs) same in
+    let both = and_parts (option_eq same_point p q) (pointwise (option_eq same_point) ps qs) same in
     let first = same_pair p q both.0 in
     let rest = same_pairs ps qs both.1 in
     λ i. first i ∷ rest i
@@ -89,14 +90,6 @@ pub record IsToldTwice (rs : List Record) (t : ℕ) : Type 0 where
   pub chain : AreTwo (told (key t 49 0) rs)
   pub sides : AreTwo (told (key t 73 0) rs)
   pub shapes : (n : ℕ) (pairs : List (Option Point)) → In (Shape t n pairs) rs → AreTwo (told (key t 50 n) rs)
-
-twice_parts : (rs : List Record) (t : ℕ) → is_told_twice rs t ≡ true
-    → (are_two_that_fit (filter (tells_chain t) rs) ≡ true) × (are_two_that_fit (filter (tells_sides t) rs) ≡ true) × (list_any (is_shape_apart rs t) rs ≡ false)
-unfolding is_told_twice
-twice_parts rs t holds =
-    let one = and_parts (are_two_that_fit (filter (tells_chain t) rs)) (are_two_that_fit (filter (tells_sides t) rs) && not (list_any (is_shape_apart rs t) rs)) holds in
-    let two = and_parts (are_two_that_fit (filter (tells_sides t) rs)) (not (list_any (is_shape_apart rs t) rs)) one.1 in
-    (one.0, two.0, not-true (list_any (is_shape_apart rs t) rs) two.1)
 
 pub told_twice : (rs : List Record) (t : ℕ) → is_told_twice rs t ≡ true → IsToldTwice rs t
 told_twice rs t twice =

@@ -9,10 +9,10 @@ use Rattle.tl_record.specs.declared.options.TheConstants.{PLAIN}
 use Rattle.tl_record.specs.declared.record.Record.{Record}
 use Rattle.tl_record.specs.Layout.{layout_with}
 use Rattle.tl_record.specs.Records.{lines_read}
-use Rattle.tl_map_join.specs.Told.{joined_records}
+use Rattle.tl_map.specs.Joined.Told.{joined_records}
 use Rattle.tl_map_county.specs.TheMap.{TheMap}
 use Rattle.tl_map_rules.specs.MapOf.{IsMapOf}
-use Rattle.tl_check_parts.specs.Sound.{IsSoundWithFaces, AreSoundWithFaces}
+use Rattle.tigertopo_border.specs.Whole.Sound.{IsSoundWithFaces, AreSoundWithFaces}
 use Rattle.tigertopo_files.specs.Joining.{joined}
 use Rattle.tigertopo_border.specs.Parts.{is_of_no_landmark, without_landmarks, all_records, HaveNoFaultButMany}
 use Rattle.tigertopo_border.specs.InParts.{joining, line_records, records_together, border_texts, IsDrawnTogether, AreReadApart, AreNames, EmptyComeLast, IsDrawnInParts}

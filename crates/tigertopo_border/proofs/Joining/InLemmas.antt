@@ -91,10 +91,6 @@ in_counted p (y ∷ xs) x holds (inr more) = omega (arith, in_counted p xs x hol
 
 -- ---- short lists
 
-pub empty : {X : Type 0} (xs : List X) → length xs ≡ 0 → xs ≡ []
-empty [] none = refl
-empty (x ∷ xs) none = absurd (omega (arith, none))
-
 pub single : {X : Type 0} (xs : List X) (x : X) → length xs ≤ 1 → In x xs → xs ≡ x ∷ []
 single [] x few has = absurd has
 single (y ∷ []) x few (inl same) = ap (λ z. z ∷ []) same

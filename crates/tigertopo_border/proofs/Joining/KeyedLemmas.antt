@@ -7,12 +7,12 @@ use Rattle.tl_record_key.specs.declared.key.PolyKey.{PolyKey}
 use Rattle.tl_record.specs.declared.record.Record.{Record}
 use Rattle.tl_record.specs.declared.record.Record.TheVariants.{Chain, Shape, Sides, PolyPoint, Landmark, AreaLink}
 use Rattle.tl_record.specs.Joining.{tells_same, is_told_twice, is_of_twice_told, with_sides_of, one_of_two, one_of, joined_one}
-use Rattle.tl_map_join.specs.declared.place.Place.{Place}
-use Rattle.tl_map_join.specs.Keeping.Places.{place_of, is_at}
-use Rattle.tl_map_join.specs.Told.{before_rest, joined_rest}
-use Rattle.tl_map_join.proofs.PlaceLemmas.{key_of, at_own}
-use Rattle.tl_map_join.proofs.ApartLemmas.{key}
-use Rattle.tl_map_join.proofs.JoinLemmas.{same_at, stays_apart, stays_once}
+use Rattle.tl_map.specs.declared.joined.place.Place.{Place}
+use Rattle.tl_map.specs.Joined.Keeping.Places.{place_of, is_at}
+use Rattle.tl_map.specs.Joined.Told.{before_rest, joined_rest}
+use Rattle.tl_map.proofs.JoinedLemmas.PlaceLemmas.{key_of, at_own}
+use Rattle.tl_map.proofs.JoinedLemmas.ApartLemmas.{key}
+use Rattle.tl_map.proofs.JoinedLemmas.JoinLemmas.{same_at, stays_apart, stays_once, of_key}
 use Rattle.tl_map_rules.specs.MapOf.{polygon_at, polygons_in}
 
 -- what the records tell at a key
@@ -66,14 +66,6 @@ one_of_at rs r p (a ∷ []) own is = own
 one_of_at rs r p (a ∷ b ∷ []) own is =
     one_of_two_at p a b (key_of p a (first_at p rs a (b ∷ []) is)) (key_of p b (second_at p rs a b [] is))
 one_of_at rs r p (a ∷ b ∷ c ∷ more) own is = own
-
-of_key : (rs : List Record) (r : Record) (p : Place) → place_of r ≡ Some p → is_of_twice_told rs r ≡ is_told_twice rs p.tlid
-of_key rs (Chain t from to) p h = let e : key t 49 0 ≡ p = cc in ap (λ (q : Place). is_told_twice rs q.tlid) e
-of_key rs (Shape t n pairs) p h = let e : key t 50 n ≡ p = cc in ap (λ (q : Place). is_told_twice rs q.tlid) e
-of_key rs (Sides t start end left right) p h = let e : key t 73 0 ≡ p = cc in ap (λ (q : Place). is_told_twice rs q.tlid) e
-of_key rs (PolyPoint k q) p h = absurd (let wrong : None ≡ Some p = h in cc)
-of_key rs (Landmark n q) p h = absurd (let wrong : None ≡ Some p = h in cc)
-of_key rs (AreaLink k n) p h = absurd (let wrong : None ≡ Some p = h in cc)
 
 -- the records that tell the same are those of the key
 same_told : (rs : List Record) (r : Record) (p : Place) → place_of r ≡ Some p → filter (tells_same r) rs ≡ told p rs

@@ -10,7 +10,7 @@ use Rattle.tl_map_county.specs.TheMap.{TheMap}
 use Rattle.tl_map_rules.specs.declared.fault.RecordFault.TheVariants.{SideWithoutPolygon}
 use Rattle.tl_map_rules.specs.MapOf.{sides_in, polygons_in, keys, same_key, place_of, side_of}
 use Rattle.tl_map_rules.proofs.KeyLemmas.{same_key-refl, same_key-is}
-use Rattle.tl_check_parts.specs.Homes.{own, is_of}
+use Rattle.tigertopo_border.specs.Whole.Homes.{own, is_of}
 use Rattle.tigertopo_border.specs.Parts.{homes_of, part_at, number_at, HaveNoFaultButMany}
 use Rattle.tigertopo_border.proofs.Joining.InLemmas.{In, contained, from_contained}
 use Rattle.tigertopo_border.proofs.Joining.TellLemmas.{entry, in_entries}

@@ -7,8 +7,8 @@ use Rattle.std.proofs.lemmas.Option.{slice_get_within}
 use Rattle.tl_record_key.specs.declared.key.PolyKey.{PolyKey}
 use Rattle.tl_record.specs.declared.record.Record.{Record}
 use Rattle.tl_record.specs.declared.record.Record.TheVariants.{Chain, Sides}
-use Rattle.tl_map_join.specs.Keeping.Places.{is_at}
-use Rattle.tl_map_join.proofs.ApartLemmas.{key}
+use Rattle.tl_map.specs.Joined.Keeping.Places.{is_at}
+use Rattle.tl_map.proofs.JoinedLemmas.ApartLemmas.{key}
 use Rattle.tl_map_county.specs.declared.polygons.Polygon.{Polygon}
 use Rattle.tl_map_county.specs.declared.sides.Side.{Side}
 use Rattle.tl_map_county.specs.declared.sides.Side.TheVariants.{Outside}
@@ -16,9 +16,9 @@ use Rattle.tl_map_county.specs.TheMap.{TheMap, MapChain}
 use Rattle.tl_map_rules.specs.declared.fault.RecordFault.TheVariants.{DuplicatePolygon}
 use Rattle.tl_map_rules.specs.MapOf.{polygons_in, keys, place_of, side_of, IsMapOf}
 use Rattle.tl_map_rules.specs.Faults.{HasChain, StandsTwice}
-use Rattle.tl_check_parts.specs.Told.{AreTold}
-use Rattle.tl_check_parts.specs.Homes.{is_of, is_blank, own, tells, IsOfParts, IsTold}
-use Rattle.tl_check_parts.specs.Joined.{IsJoined}
+use Rattle.tigertopo_border.specs.Whole.Told.{AreTold}
+use Rattle.tigertopo_border.specs.Whole.Homes.{is_of, is_blank, own, tells, IsOfParts, IsToldByParts}
+use Rattle.tigertopo_border.specs.Whole.Joined.{IsJoined}
 use Rattle.tigertopo_border.specs.Parts.{all_records, has_chain, part_at, teller_at, homes_of, DrawParts, HaveNoFaultButMany}
 use Rattle.tigertopo_border.proofs.Joining.KeyedLemmas.{told, AreJoinedOf}
 use Rattle.tigertopo_border.proofs.Joining.InLemmas.{In, from_place, from_passing, one_in, contained, from_contained}
@@ -154,7 +154,7 @@ module _ (lists : List (List Record)) (parts : List TheMap) (m : TheMap) (draw :
       let has = part_has who.place who.one part.0 who.is part.1 t (tells_chain_of t who.one who.it) in
       omega (arith, teller_before parts t who.place part.0 part.1 has, slice_get_within parts who.place part.0 part.1)
 
-  is_told : (c : MapChain) → In c m.chains → IsTold (homes_of parts) (length parts) c
+  is_told : (c : MapChain) → In c m.chains → IsToldByParts (homes_of parts) (length parts) c
   is_told c has =
       let known = known_chain c has in
       record {

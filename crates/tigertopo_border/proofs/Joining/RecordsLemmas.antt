@@ -3,10 +3,10 @@ use Rattle.std.proofs.Common.{◌≡◌, ℕ, zero, suc, Bool, true, false, List
 use Rattle.std.specs.Prelude.{slice_get}
 use Rattle.std.proofs.lemmas.List.{length-map}
 use Rattle.tl_record.specs.declared.record.Record.{Record}
-use Rattle.tl_map_join.specs.Told.{joined_records}
+use Rattle.tl_map.specs.Joined.Told.{joined_records}
 use Rattle.tl_map_county.specs.TheMap.{TheMap}
 use Rattle.tl_map_rules.specs.MapOf.{IsMapOf}
-use Rattle.tl_check_parts.specs.Joined.{IsJoined}
+use Rattle.tigertopo_border.specs.Whole.Joined.{IsJoined}
 use Rattle.tigertopo_border.specs.Parts.{all_records, homes_of, DrawParts, HaveNoFaultButMany}
 use Rattle.tigertopo_border.proofs.Joining.KeyedLemmas.{joined_itself}
 use Rattle.tigertopo_border.proofs.Joining.DrawnLemmas.{by_places}

@@ -5,14 +5,15 @@ use Rattle.std.specs.List.{AllByRecursion}
 use Rattle.std.proofs.lemmas.Bool.{cases_lt}
 use Rattle.std.proofs.lemmas.List.Elements.{filter-append}
 use Rattle.tl_record.specs.declared.record.Record.{Record}
-use Rattle.tl_map_join.specs.declared.place.Place.{Place}
-use Rattle.tl_map_join.specs.Keeping.Places.{is_at}
-use Rattle.tl_map_join.proofs.ApartLemmas.{key}
+use Rattle.tl_map.specs.declared.joined.place.Place.{Place}
+use Rattle.tl_map.specs.Joined.Keeping.Places.{is_at}
+use Rattle.tl_map.proofs.JoinedLemmas.ApartLemmas.{key}
 use Rattle.tigertopo_border.specs.Parts.{is_of_no_landmark, without_landmarks, all_records, HaveNoFaultButMany}
 use Rattle.tigertopo_border.proofs.Joining.KeyedLemmas.{told}
-use Rattle.tigertopo_border.proofs.Joining.InLemmas.{In, in_both, from_passing, empty}
+use Rattle.tigertopo_border.proofs.Joining.InLemmas.{In, in_both, from_passing}
 use Rattle.tigertopo_border.proofs.Joining.TellLemmas.{chain_once, silent}
 use Rattle.tigertopo_border.proofs.Joining.WithoutLemmas.{told_without}
+use Rattle.tl_tree_index.proofs.ListLemmas.{no_items as empty}
 
 -- a record of all is one of a list
 pub record IsOfOne (lists : List (List Record)) (x : Record) : Type 0 where

@@ -5,7 +5,7 @@ use Rattle.std.proofs.lemmas.List.Sums.{sum_by-cons}
 use Rattle.tl_record.specs.declared.record.Record.{Record}
 use Rattle.tl_record.specs.declared.record.Record.TheVariants.{Chain, Shape, Sides, PolyPoint, Landmark, AreaLink}
 use Rattle.tl_map_rules.specs.ChainsOf.{is_shape, is_shape_at, shape_count}
-use Rattle.tl_map_rules.specs.Faults.{IsNumbered}
+use Rattle.tl_map_rules.specs.Faults.{AreShapesNumbered}
 
 -- the sum of a function's values from 0 to n
 abbrev pub up_to : (ℕ → ℕ) → ℕ → ℕ
@@ -82,19 +82,19 @@ more f m (suc n) before = elim (cases_lt m n) [
 ]
 
 -- behind the last number there is none
-pub none_past : (rs : List Record) (t n : ℕ) → IsNumbered rs t → shape_count rs t < n → at_number rs t n ≡ 0
+pub none_past : (rs : List Record) (t n : ℕ) → AreShapesNumbered rs t → shape_count rs t < n → at_number rs t n ≡ 0
 none_past rs t n numbered past =
     omega (arith, ones (at_number rs t) (shape_count rs t) numbered (shape_count rs t) (omega arith), more (at_number rs t) (shape_count rs t) n past, numbers_counted rs t n)
 
 -- no number stands twice
-pub once_at_most : (rs : List Record) (t n : ℕ) → IsNumbered rs t → 1 ≤ n → at_number rs t n ≤ 1
+pub once_at_most : (rs : List Record) (t n : ℕ) → AreShapesNumbered rs t → 1 ≤ n → at_number rs t n ≤ 1
 once_at_most rs t n numbered some = elim (cases_lt (shape_count rs t) n) [
   | inl past ↦ omega (arith, none_past rs t n numbered past)
   | inr within ↦ omega (arith, numbered n some (omega (arith, within)))
 ]
 
 -- lists that have the same numbers have as many records
-pub as_many : (rs js : List Record) (t : ℕ) → IsNumbered rs t → IsNumbered js t → ((n : ℕ) → 1 ≤ n → at_number rs t n ≡ at_number js t n) → shape_count rs t ≡ shape_count js t
+pub as_many : (rs js : List Record) (t : ℕ) → AreShapesNumbered rs t → AreShapesNumbered js t → ((n : ℕ) → 1 ≤ n → at_number rs t n ≡ at_number js t n) → shape_count rs t ≡ shape_count js t
 as_many rs js t one other same = elim (cases_lt (shape_count rs t) (shape_count js t)) [
   | inl fewer ↦
       let n = shape_count rs t + 1 in

@@ -7,19 +7,20 @@ use Rattle.std.proofs.lemmas.List.Folds.{list_any_none}
 use Rattle.tl_record.specs.declared.record.Record.{Record}
 use Rattle.tl_record.specs.declared.record.Record.TheVariants.{Chain, Shape, Sides, PolyPoint, Landmark, AreaLink}
 use Rattle.tl_record.specs.Joining.{tells_chain, tells_sides, tells_shape_at, are_two_that_fit, is_shape_apart, is_told_twice}
-use Rattle.tl_map_join.specs.declared.place.Place.{Place}
-use Rattle.tl_map_join.specs.Keeping.Places.{is_at}
-use Rattle.tl_map_join.specs.Told.{joined_records}
-use Rattle.tl_map_join.proofs.PlaceLemmas.{key_of, at_own}
-use Rattle.tl_map_join.proofs.ApartLemmas.{key, chain_at, shape_at, sides_at}
+use Rattle.tl_map.specs.declared.joined.place.Place.{Place}
+use Rattle.tl_map.specs.Joined.Keeping.Places.{is_at}
+use Rattle.tl_map.specs.Joined.Told.{joined_records}
+use Rattle.tl_map.proofs.JoinedLemmas.PlaceLemmas.{key_of, at_own}
+use Rattle.tl_map.proofs.JoinedLemmas.ApartLemmas.{key, chain_at, shape_at, sides_at}
 use Rattle.tl_map_rules.specs.MapOf.{polygons_in}
 use Rattle.tigertopo_border.specs.Parts.{all_records, HaveNoFaultButMany}
 use Rattle.tigertopo_border.proofs.Joining.KeyedLemmas.{told, joined_apart, joined_twice, joined_none, polygons_stay, AreJoinedOf}
-use Rattle.tigertopo_border.proofs.Joining.InLemmas.{In, from_contained, in_passing, from_passing, empty}
+use Rattle.tigertopo_border.proofs.Joining.InLemmas.{In, from_contained, in_passing, from_passing}
 use Rattle.tigertopo_border.proofs.Joining.TellLemmas.{chain_once, silent, first_told}
 use Rattle.tigertopo_border.proofs.Joining.SeveralLemmas.{chains, told_both, many_both}
 use Rattle.tigertopo_border.proofs.Joining.WithoutLemmas.{polygons_both}
 use Rattle.tigertopo_border.proofs.Joining.FitLemmas.{AreTwo, IsToldTwice, told_twice}
+use Rattle.tl_tree_index.proofs.ListLemmas.{no_items as empty}
 
 -- ---- a chain is told twice by what is told at its keys
 

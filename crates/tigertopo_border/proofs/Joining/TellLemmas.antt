@@ -8,15 +8,15 @@ use Rattle.tl_geom.specs.declared.point.Point.{Point}
 use Rattle.tl_record_key.specs.declared.key.PolyKey.{PolyKey}
 use Rattle.tl_record.specs.declared.record.Record.{Record}
 use Rattle.tl_record.specs.declared.record.Record.TheVariants.{Chain, Shape, Sides, PolyPoint, Landmark, AreaLink}
-use Rattle.tl_map_join.specs.declared.place.Place.{Place}
-use Rattle.tl_map_join.specs.Keeping.Places.{is_at}
-use Rattle.tl_map_join.proofs.PlaceLemmas.{key_of}
-use Rattle.tl_map_join.proofs.ApartLemmas.{key}
+use Rattle.tl_map.specs.declared.joined.place.Place.{Place}
+use Rattle.tl_map.specs.Joined.Keeping.Places.{is_at}
+use Rattle.tl_map.proofs.JoinedLemmas.PlaceLemmas.{key_of}
+use Rattle.tl_map.proofs.JoinedLemmas.ApartLemmas.{key}
 use Rattle.tl_map_rules.specs.declared.entry.SidesEntry.{SidesEntry}
 use Rattle.tl_map_rules.specs.declared.fault.RecordFault.TheVariants.{DuplicateChain, ShapeWithoutChain, ShapeSequence, ChainWithoutSides, SidesWithoutChain, DuplicateSides}
 use Rattle.tl_map_rules.specs.ChainsOf.{is_chain, is_shape, is_shape_at}
 use Rattle.tl_map_rules.specs.MapOf.{sides_at, sides_in}
-use Rattle.tl_map_rules.specs.Faults.{IsNumbered, HasChain, HasSides}
+use Rattle.tl_map_rules.specs.Faults.{AreShapesNumbered, HasChain, HasSides}
 use Rattle.tigertopo_border.specs.Parts.{HaveNoFaultButMany}
 use Rattle.tigertopo_border.proofs.Joining.KeyedLemmas.{told}
 use Rattle.tigertopo_border.proofs.Joining.ShapeLemmas.{at_number, once_at_most}
@@ -251,7 +251,7 @@ module _ (rs : List Record) (none : HaveNoFaultButMany rs) (t : ℕ) where
   pub tells : HasChain rs t → Tells rs t
   tells has = tells_with has.0 has.1 (from_contained rs (Chain t has.0 has.1) has.2) (told (key t 73 0) rs) refl
 
-  pub numbered : IsNumbered rs t
+  pub numbered : AreShapesNumbered rs t
   numbered n low high = elim (cases_Bool (eqb (count_by (is_shape_at t n) rs) 1)) [
     | inl one ↦ eqb-true _ 1 one
     | inr other ↦ absurd (none (ShapeSequence t) (λ what same. cc) (λ all. true≢false (sym (eq-eqb _ 1 (all n low high)) ∙ other)))

@@ -6,12 +6,12 @@ use Rattle.tl_record.specs.declared.options.Options.{Options}
 use Rattle.tl_record.specs.Layout.{layout_with}
 use Rattle.tl_record.specs.Lines.{raw_lines}
 use Rattle.tl_record.specs.Records.{Records, records_of_lines, lines_read, joined_where}
-use Rattle.tl_map_join.specs.Told.{joined_records}
-use Rattle.tl_map_join.proofs.JoinLemmas.{records_joined}
+use Rattle.tl_map.specs.Joined.Told.{joined_records}
+use Rattle.tl_map.proofs.JoinedLemmas.JoinLemmas.{records_joined}
 use Rattle.tl_map_county.specs.TheMap.{TheMap}
 use Rattle.tl_map_rules.specs.MapOf.{IsMapOf}
 use Rattle.tl_map_rules.specs.Reading.{records_in}
-use Rattle.tl_check_parts.specs.Joined.{IsJoined}
+use Rattle.tigertopo_border.specs.Whole.Joined.{IsJoined}
 use Rattle.tigertopo_files.specs.Joining.{joined}
 use Rattle.tigertopo_faults.specs.Places.LinePlaces.{lines_of_all}
 use Rattle.tigertopo_faults.proofs.PlaceLemmas.{joined_lines_are}

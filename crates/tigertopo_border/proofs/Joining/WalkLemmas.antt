@@ -9,9 +9,9 @@ use Rattle.tl_map_county.specs.declared.sides.Side.{Side}
 use Rattle.tl_map_county.specs.TheMap.{MapChain}
 use Rattle.tl_map_rules.specs.MapOf.{without_sides}
 use Rattle.tl_map_rules.proofs.KnownLemmas.{far}
-use Rattle.tl_check_parts.specs.Told.{IsNamed, AreTold}
-use Rattle.tl_check_parts.specs.Borders.{AreRising}
-use Rattle.tl_check_parts.proofs.Matching.{one_of_tlid, told_by}
+use Rattle.tigertopo_border.specs.Whole.Told.{IsNamed, AreTold}
+use Rattle.tigertopo_border.specs.Whole.Borders.{AreTlidsRising}
+use Rattle.tigertopo_border.proofs.WholeLemmas.Matching.{one_of_tlid, told_by}
 use Rattle.tigertopo_border.proofs.Joining.InLemmas.{In, placed, from_place}
 
 tlid_at : (chains : List MapChain) (c : ℕ) (chain : MapChain) → slice_get chains c ≡ Some chain → get_or (tlids (map without_sides chains)) c 0 ≡ chain.tlid
@@ -20,14 +20,14 @@ tlid_at (d ∷ chains) zero chain is = let same : d ≡ chain = cc in ap (λ (x 
 tlid_at (d ∷ chains) (suc c) chain is = tlid_at chains c chain is
 
 -- the chains of a map rise
-pub rising_chains : (chains : List MapChain) → IsStrictlyIncreasing (tlids (map without_sides chains)) → AreRising chains
+pub rising_chains : (chains : List MapChain) → IsStrictlyIncreasing (tlids (map without_sides chains)) → AreTlidsRising chains
 rising_chains chains up c d one other before is there =
     let within = slice_get_within chains d other there in
     let long = length-map (map without_sides chains) (λ (x : CompleteChain). x.tlid) in
     omega (arith, far (tlids (map without_sides chains)) up c d before (omega (arith, within, long, length-map chains without_sides)), tlid_at chains c one is, tlid_at chains d other there)
 
 -- chains of one TLID are one
-pub same_chain : (chains : List MapChain) → AreRising chains → (one other : MapChain) → In one chains → In other chains → one.tlid ≡ other.tlid → one ≡ other
+pub same_chain : (chains : List MapChain) → AreTlidsRising chains → (one other : MapChain) → In one chains → In other chains → one.tlid ≡ other.tlid → one ≡ other
 same_chain chains rising one other here there same =
     let p = placed chains one here in
     let q = placed chains other there in
@@ -47,7 +47,7 @@ module _ (names : Side → Side) (told : MapChain → Bool) where
     pub told_is : told chain ≡ true
     pub named : IsNamed names chain o
 
-  pub told_from : (cs os : List MapChain) → AreRising cs → AreRising os → ((o : MapChain) → In o os → HasNamed cs o) → ((c : MapChain) → In c cs → told c ≡ true → HasTlid os c.tlid) → AreTold names told cs os
+  pub told_from : (cs os : List MapChain) → AreTlidsRising cs → AreTlidsRising os → ((o : MapChain) → In o os → HasNamed cs o) → ((c : MapChain) → In c cs → told c ≡ true → HasTlid os c.tlid) → AreTold names told cs os
   told_from cs os rising rising_too have need =
       told_by names told cs os rising rising_too
       (λ c chain is told_is.

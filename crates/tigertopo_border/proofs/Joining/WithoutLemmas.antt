@@ -5,8 +5,8 @@ use Rattle.std.proofs.lemmas.Bool.{cases_Bool}
 use Rattle.std.proofs.lemmas.List.Elements.{filter_map-append}
 use Rattle.tl_record.specs.declared.record.Record.{Record}
 use Rattle.tl_record.specs.declared.record.Record.TheVariants.{Chain, Shape, Sides, PolyPoint, Landmark, AreaLink}
-use Rattle.tl_map_join.specs.declared.place.Place.{Place}
-use Rattle.tl_map_join.specs.Keeping.Places.{is_at}
+use Rattle.tl_map.specs.declared.joined.place.Place.{Place}
+use Rattle.tl_map.specs.Joined.Keeping.Places.{is_at}
 use Rattle.tl_map_county.specs.declared.polygons.Polygon.{Polygon}
 use Rattle.tl_map_rules.specs.MapOf.{polygon_at, polygons_in}
 use Rattle.tigertopo_border.specs.Parts.{without_landmarks, all_records}

@@ -57,7 +57,7 @@ any_more : (p : List ℕ → Bool) (lines : List (List ℕ)) (count : ℕ) (any 
     → (any || p (get_or lines count [])) ≡ list_any p (take (count + 1) lines)
 any_more p lines count any within so_far = ap (λ (b : Bool). b || p (get_or lines count [])) so_far ∙ sym (list_any_more p lines count [] within)
 
-or_true : (b : Bool) → (b || true) ≡ true
+pub or_true : (b : Bool) → (b || true) ≡ true
 or_true true = refl
 or_true false = refl
 

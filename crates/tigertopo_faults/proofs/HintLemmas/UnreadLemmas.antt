@@ -15,6 +15,7 @@ use Rattle.tigertopo_faults.specs.Hint.Hints.{first_bytes}
 use Rattle.tigertopo_faults.specs.Hint.Telling.{HaveTexts, TellsUnread}
 use Rattle.tigertopo_faults.specs.Hint.Unread.{IsHeld, files_text, held_by, held_of, holds_chain, is_read, more_text, told_text, unread_text}
 use Rattle.tigertopo_faults.proofs.HintLemmas.HintLemmas.{same_count, text_at}
+use Rattle.tigertopo_faults.proofs.HintLemmas.KindLemmas.{or_true}
 
 -- a text with such a line holds chains
 chain_held : (text : List ℕ) → holds_chain text ≡ true → held_of text ≡ Chains
@@ -36,10 +37,6 @@ not_held text held is other = elim (cases_Bool (holds_chain text)) [
   | inl there ↦ absurd (other (is ∙ chain_held text there))
   | inr none ↦ none
 ]
-
-or_true : (b : Bool) → (b || true) ≡ true
-or_true true = refl
-or_true false = refl
 
 any_there : (texts : List (List ℕ)) (i : ℕ) → i < length texts → holds_chain (get_or texts i []) ≡ true → list_any holds_chain texts ≡ true
 any_there [] i within there = absurd (omega arith)

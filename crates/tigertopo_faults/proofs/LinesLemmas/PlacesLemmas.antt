@@ -9,10 +9,7 @@ use Rattle.tl_record_key.specs.declared.key.PolyKey.{PolyKey}
 use Rattle.tl_map_county.specs.declared.polygons.Polygon.{Polygon}
 use Rattle.tl_map_rules.specs.MapOf.{same_key}
 use Rattle.tigertopo_faults.specs.Lines.Places.{point_of_key}
-
--- a list from the place of one of it on
-from_place : {A : Type 0} (xs : List A) (n : ℕ) (x : A) → slice_get xs n ≡ Some x → drop n xs ≡ x ∷ drop (n + 1) xs
-from_place xs n x is = drop_more xs n x (slice_get_within xs n x is) ∙ ap (λ y. y ∷ drop (n + 1) xs) (get_or_from_slice_get xs n x x is)
+use Rattle.tigertopo_pictures.proofs.PieceLemmas.{from_place}
 
 -- before the first, the index has nothing
 pub keyed_none : (polygons : List Polygon) (entries : List (PolyKey × Point)) (n : ℕ) → entries ≡ [] → length polygons ≤ n

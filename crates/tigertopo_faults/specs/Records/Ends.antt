@@ -4,7 +4,7 @@ use Rattle.tl_geom.specs.declared.point.Point.{Point}
 use Rattle.tl_record.specs.declared.record.Record.{Record}
 use Rattle.tl_record.specs.declared.record.Record.TheVariants.{Chain, Shape}
 use Rattle.tl_map_county.specs.TheMap.{MapChain}
-use Rattle.tl_map_rules.specs.ChainsOf.{same_point}
+use Rattle.tl_record.specs.Joining.{same_point}
 use Rattle.tigertopo_faults.specs.declared.records.line.RecordLine.{RecordLine}
 use Rattle.tigertopo_faults.specs.declared.records.line.Part.{Part}
 use Rattle.tigertopo_faults.specs.declared.records.line.Part.TheVariants.{Start, Pair, End}

@@ -41,7 +41,7 @@ border_faulty u l k wanted faces m fault true = record {
 -- ---- what is answered of records
 
 -- the fault of records that have no map is true of them
-true_fault : (options : Options) (known : Option (List ℕ)) (fault : TheMapFault) → IsOfRecords (layout_with options) known (λ fault. ⊤) fault → IsTrueFault options known fault
+pub true_fault : (options : Options) (known : Option (List ℕ)) (fault : TheMapFault) → IsOfRecords (layout_with options) known (λ fault. ⊤) fault → IsTrueFault options known fault
 true_fault options known (Records fault) of = of.1
 true_fault options known (NoRecords lacking) of = of
 true_fault options known (Meet meet) of = absurd of

@@ -29,6 +29,7 @@ use Rattle.tigertopo_program.specs.declared.answer.Answer.{Answer}
 use Rattle.tigertopo_program.specs.Answers.{IsSaid, IsReadMap}
 use Rattle.tigertopo_program.specs.Records.{IsOfRecords, IsTrueFault, StopsNever, StopsRecords}
 use Rattle.tigertopo_program.specs.Building.{BuildAnswers, IsBuilt, IsBuildOf}
+use Rattle.tigertopo_program.proofs.BorderLemmas.BorderLemmas.{true_fault}
 
 -- the report of a map, where the certificate has its walks
 report_of : (m : TheMap) (c : TheCertificate) (report : Report) → IsValid m c → AreNumbers m (length c.walks) report → IsReport m report
@@ -81,16 +82,6 @@ module _ (u : Under) (l : Log) (k : Bool) (name : List ℕ) (faces : Bool) (m : 
   build_stopped R Budget memory r is = absurd memory
 
 -- ---- what is answered of records
-
--- the fault of records that have no map is true of them
-true_fault : (options : Options) (known : Option (List ℕ)) (fault : TheMapFault) → IsOfRecords (layout_with options) known (λ fault. ⊤) fault → IsTrueFault options known fault
-true_fault options known (Records fault) of = of.1
-true_fault options known (NoRecords lacking) of = of
-true_fault options known (Meet meet) of = absurd of
-true_fault options known (Side node first next) of = absurd of
-true_fault options known (PolygonPoint fault) of = absurd of
-true_fault options known (Cell odds) of = absurd of
-true_fault options known (Face fault) of = absurd of
 
 -- they were read, and no file was made
 pub build_of_fault : (w : World) (names : List (List ℕ)) (name : List ℕ) (options : Options) (known : Option (List ℕ)) (fault : TheMapFault)

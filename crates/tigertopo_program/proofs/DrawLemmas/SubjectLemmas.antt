@@ -23,7 +23,7 @@ use Rattle.tl_cert_output.specs.declared.stop.Stop.TheVariants.{Device}
 use Rattle.tl_list_text.specs.declared.listing.Listing.{Listing}
 use Rattle.tl_list_text.specs.declared.listing.Listing.TheVariants.{Sound, Refused, Faults}
 use Rattle.tl_list.specs.Listings.{IsListingOf, AreFaults}
-use Rattle.tl_list_map.specs.MapFaults.{AreFaultsFor}
+use Rattle.tl_decide.specs.MapFaults.{AreFaultsFor}
 use Rattle.tl_list.specs.declared.of_records.Findings.{Findings}
 use Rattle.tl_list.specs.Findings.{AreFindingsOf, IsMapIfAny, IsOfNoMap, BeginWithRecords, SaysWhy}
 use Rattle.tl_list.specs.Telling.{IsTrueAmongFaults}
@@ -34,7 +34,7 @@ use Rattle.tigertopo_program.specs.Draw.Subjects.{AreFaultsOf, AreToShow}
 use Rattle.tigertopo_program.specs.Draw.Keeping.{listed_faults, listed_touched, first_listed}
 use Rattle.tigertopo_program.specs.Lists.Keeping.{stop_of_refusal}
 
-first_is : (layout : Layout) (text : List ℕ) → slice_get (refusals_of layout text) 0 ≡ (records_of layout text).refusal
+pub first_is : (layout : Layout) (text : List ℕ) → slice_get (refusals_of layout text) 0 ≡ (records_of layout text).refusal
 first_is layout text = first_of_judged (judgements layout 0 (raw_lines text))
 
 -- ---- where there is a map

@@ -7,7 +7,7 @@ use Rattle.tl_map_rules.specs.Reading.{IsReadFrom}
 use Rattle.tl_map_county.specs.TheMap.{TheMap}
 use Rattle.tl_check_verdict.specs.declared.fault.MapFault.{MapFault}
 use Rattle.tl_check_verdict.specs.Sound.{IsSound, IsSoundFor}
-use Rattle.tl_list_map.specs.MapFaults.{AreFaultsFor}
+use Rattle.tl_decide.specs.MapFaults.{AreFaultsFor}
 use Rattle.tigertopo_program.specs.Records.{IsOfRecords}
 use Rattle.tigertopo_program.specs.declared.draw.subject.Subject.{Subject}
 

@@ -4,11 +4,11 @@ use Rattle.tl_map_rules.specs.declared.fault.MapStop.{MapStop}
 use Rattle.tl_map_county.specs.TheMap.{TheMap}
 use Rattle.tl_map_county.specs.declared.map.Map.{Map}
 use Rattle.tl_tree_index.specs.Trees.{depth, tree_of}
-use Rattle.tl_tree_pack.specs.Packed.{IsEvenlySplit}
+use Rattle.tl_tree_index.specs.Packed.{IsEvenlySplit}
 use Rattle.tl_cert.specs.Certificates.{TheCertificate}
-use Rattle.tl_check_verdict.specs.Sound.{IsSound, IsSoundFor}
+use Rattle.tl_check_verdict.specs.Sound.{IsSoundFor}
 use Rattle.tl_check_verdict.specs.Valid.{IsValid}
-use Rattle.tl_check_verdict.specs.Truth.{IsTrueOfMap, IsTrueOfMapFor}
+use Rattle.tl_check_verdict.specs.Truth.{IsTrueOfMapFor}
 use Rattle.tl_check_verdict.specs.Verdicts.{IsReport}
 use Rattle.tl_build.specs.declared.answer.Audit.TheVariants as audit
 use Rattle.tl_build.specs.declared.answer.Built.TheVariants as built
@@ -16,13 +16,7 @@ use Rattle.tl_build.specs.Auditing.{Auditing, IsMemoryStop}
 use Rattle.tl_build.specs.Building.{Building}
 use Rattle.tl_build.specs.Keeping.Refusing.{refusal_of}
 
--- what an audit says of a map, without faces
-abbrev pub Audits : TheMap → Auditing → Type 0
-Audits m (Ok (audit.Sound report)) = IsSound m × IsReport m report
-Audits m (Ok (audit.Fault fault)) = IsTrueOfMap m fault
-Audits m (Err stop) = IsMemoryStop stop
-
--- the same where faces may be asked for
+-- what an audit says of a map, where faces may be asked for
 abbrev pub AuditsFor : (faces : Bool) → TheMap → Auditing → Type 0
 AuditsFor faces m (Ok (audit.Sound report)) = IsSoundFor faces m × IsReport m report
 AuditsFor faces m (Ok (audit.Fault fault)) = IsTrueOfMapFor faces m fault
@@ -40,13 +34,7 @@ pub record IsBuilt (m : TheMap) (cert : TheCertificate) : Type 0 where
   pub shallow : depth (tree_of cert.tree) ≤ 8
   pub split : IsEvenlySplit (tree_of cert.tree)
 
--- what a build says of a map, without faces
-abbrev pub Builds : TheMap → Building → Type 0
-Builds m (Ok (built.Cert cert)) = IsSound m × IsBuilt m cert
-Builds m (Ok (built.Fault fault)) = IsTrueOfMap m fault
-Builds m (Err stop) = IsMemoryStop stop
-
--- the same where faces may be asked for
+-- what a build says of a map, where faces may be asked for
 abbrev pub BuildsFor : (faces : Bool) → TheMap → Building → Type 0
 BuildsFor faces m (Ok (built.Cert cert)) = IsSoundFor faces m × IsBuilt m cert
 BuildsFor faces m (Ok (built.Fault fault)) = IsTrueOfMapFor faces m fault

@@ -2,7 +2,7 @@
 use Rattle.std.specs.Prelude.{◌≡◌, ◌≤◌}
 use Rattle.tl_map_county.specs.TheMap.{TheMap}
 use Rattle.tl_tree_index.specs.Trees.{depth, tree_of}
-use Rattle.tl_tree_pack.specs.Packed.{IsEvenlySplit}
+use Rattle.tl_tree_index.specs.Packed.{IsEvenlySplit}
 use Rattle.tl_check_planar.specs.Planar.{IsPlanar}
 use Rattle.tl_check_sides.specs.Lists.{HoldOnce}
 use Rattle.tl_check_sides.specs.Sides.{dart_count}

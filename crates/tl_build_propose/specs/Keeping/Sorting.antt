@@ -6,7 +6,7 @@ use Rattle.tl_map_county.specs.TheMap.{MapChain}
 use Rattle.tl_map_county.specs.Darts.{dart_start, Heads}
 use Rattle.tl_map_county.specs.Nodes.{AreNodes}
 use Rattle.tl_geom.specs.Turning.{IsBelow}
-use Rattle.tl_tree_pack.specs.Lists.{HoldsAll}
+use Rattle.tl_tree_index.specs.Lists.{HoldsAll}
 use Rattle.tl_check_sides.specs.declared.headed.HeadedDart.{HeadedDart}
 use Rattle.tl_build_propose.specs.Keeping.Lists.{darts_in}
 

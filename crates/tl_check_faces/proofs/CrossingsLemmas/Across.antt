@@ -5,14 +5,17 @@ use Rattle.std.proofs.lemmas.Bool.{false≢true}
 use Rattle.std.proofs.lemmas.Int.{ints}
 use Rattle.tl_geom.specs.declared.point.Point.{Point}
 use Rattle.tl_geom.specs.declared.segment.Segment.{Segment}
-use Rattle.tl_geom.specs.Plane.{turn_of}
+use Rattle.tl_geom.specs.Plane.{turn_of, whole}
 use Rattle.tl_geom.specs.Ray.{Crosses}
+use Rattle.tl_geom.proofs.AtPoints.{parted_by}
 use Rattle.tl_geom.proofs.Polynomials.{num, ◌⊖◌, ◌⊗◌, same}
 use Rattle.tl_geom.proofs.Rays.{crossed_up, crossed_down}
 use Rattle.tl_check_faces.specs.Crossings.Heights.{is_above}
 use Rattle.tl_check_faces.specs.Crossings.Rings.{goes_up_across, crossing}
-use Rattle.tl_check_faces.proofs.CrossingsLemmas.Telescoping.{bit, int_lt-true, int_lt-false, lt_of, le_of}
+use Rattle.tl_check_faces.proofs.CrossingsLemmas.Telescoping.{bit}
 use Rattle.tl_check_faces.proofs.CrossingsLemmas.AtHeight.{crosses_east, crosses_no_east}
+use Rattle.tl_check_inside.proofs.Sides.{is_lt as int_lt-true, no_lt as int_lt-false}
+use Rattle.tl_check_planar.proofs.ByHeight.Rising.{lt_of, le_of}
 
 -- ---- upward and downward
 
@@ -61,20 +64,20 @@ back_turn ax ay bx by qx qy =
     let a = num ax in let b = num ay in let c = num bx in let d = num by in let x = num qx in let y = num qy in
     same ((a ⊖ c) ⊗ (y ⊖ d) ⊖ (b ⊖ d) ⊗ (x ⊖ c)) (num (pos 0) ⊖ ((c ⊖ a) ⊗ (y ⊖ b) ⊖ (d ⊖ b) ⊗ (x ⊖ a))) (omega arith)
 
-turned_back : (a b q : Point) → turn_of b a q ≡ pos 0 -ℤ turn_of a b q
+pub turned_back : (a b q : Point) → turn_of b a q ≡ pos 0 -ℤ turn_of a b q
 turned_back a b q = back_turn a.x a.y b.x b.y q.x q.y
 
 module _ (s : Segment) (q : Point) where
-  pub crossed_upward : IsUpward q s.a s.b → Crosses s q
+  pub crossed_upward : IsUpward q s.a s.b → Crosses s (whole q)
   crossed_upward h = (crossed_up s q h.0 h.1).0 h.2
 
-  pub crossed_downward : IsUpward q s.b s.a → Crosses s q
+  pub crossed_downward : IsUpward q s.b s.a → Crosses s (whole q)
   crossed_downward h =
       let back : turn_of s.b s.a q ≡ pos 0 -ℤ turn_of s.a s.b q = turned_back s.a s.b q in
       let above = h.2 in
       (crossed_down s q h.0 h.1).0 (omega (arith, ints, back, above))
 
-  pub crossed_either : Crosses s q → IsUpward q s.a s.b ⊎ IsUpward q s.b s.a
+  pub crossed_either : Crosses s (whole q) → IsUpward q s.a s.b ⊎ IsUpward q s.b s.a
   crossed_either c =
       ⊎_elim
       (λ up. inl (up.0, up.1, (crossed_up s q up.0 up.1).1 c))
@@ -82,24 +85,24 @@ module _ (s : Segment) (q : Point) where
       let back : turn_of s.b s.a q ≡ pos 0 -ℤ turn_of s.a s.b q = turned_back s.a s.b q in
       let below : turn_of s.a s.b q <ℤ pos 0 = (crossed_down s q down.0 down.1).1 c in
       inr (down.0, down.1, omega (arith, ints, back, below)))
-      c.parted
+      (parted_by q s.a s.b c.parted)
 
   -- a segment that the ray crosses adds 1 where it goes up, and -1 where it doesn't; any other adds 0
-  pub crossed_up_adds : Crosses s q → s.a.y <ℤ s.b.y → crossing q s.a s.b ≡ pos 1
+  pub crossed_up_adds : Crosses s (whole q) → s.a.y <ℤ s.b.y → crossing q s.a s.b ≡ pos 1
   crossed_up_adds c up =
       ⊎_elim
       (λ h. adds_one q s.a s.b (upward_is q s.a s.b h))
       (λ h. absurd (let low = h.0 in let high = h.1 in omega (arith, ints, up, low, high)))
       (crossed_either c)
 
-  pub crossed_down_adds : Crosses s q → ¬ (s.a.y <ℤ s.b.y) → crossing q s.a s.b ≡ neg_ℤ (pos 1)
+  pub crossed_down_adds : Crosses s (whole q) → ¬ (s.a.y <ℤ s.b.y) → crossing q s.a s.b ≡ neg_ℤ (pos 1)
   crossed_down_adds c not_up =
       ⊎_elim
       (λ h. absurd (not_up (let low = h.0 in let high = h.1 in omega (arith, ints, low, high))))
       (λ h. takes_one q s.a s.b (upward_is q s.b s.a h))
       (crossed_either c)
 
-  pub uncrossed_adds : ¬ Crosses s q → crossing q s.a s.b ≡ pos 0
+  pub uncrossed_adds : ¬ Crosses s (whole q) → crossing q s.a s.b ≡ pos 0
   uncrossed_adds never =
       adds_nothing q s.a s.b
       (not_upward q s.a s.b (λ h. never (crossed_upward h)))

@@ -4,13 +4,16 @@ use Rattle.std.proofs.lemmas.Int.{ints}
 use Rattle.tl_geom.specs.declared.point.Point.{Point}
 use Rattle.tl_geom.specs.declared.rational.Rational.{Rational}
 use Rattle.tl_geom.specs.declared.segment.Segment.{Segment}
-use Rattle.tl_geom.specs.Plane.{IsOn, cross, whole, turn_of}
-use Rattle.tl_geom.specs.Ray.{IsParted, Crosses}
+use Rattle.tl_geom.specs.Plane.{IsOn, whole, turn_of}
+use Rattle.tl_geom.specs.Ray.{Crosses}
+use Rattle.tl_geom.proofs.AtPoints.{ArePartedBy, parted_by, is_parted, east_height, east_past, is_east}
 use Rattle.tl_geom.proofs.Polynomials.{num, ◌⊕◌, ◌⊖◌, ◌⊗◌, same, same_by_two}
 use Rattle.tl_geom.proofs.Signs.{mono_lt, product_above, above_of_product, times_zero, zero_product, sign}
 use Rattle.tl_geom.proofs.Places.{place, place_on, on_same}
 use Rattle.tl_check_planar.proofs.Ends.{same_by_products}
 use Rattle.tl_check_faces.specs.Crossings.West.{CrossesWest}
+use Rattle.tl_check_faces.proofs.Beside.{turned}
+use Rattle.tl_geom.proofs.Rays.{height_down, turn_at}
 
 -- a place of the segment at the height of q
 record IsPlaced (s : Segment) (q : Point) : Type 0 where
@@ -21,10 +24,7 @@ record IsPlaced (s : Segment) (q : Point) : Type 0 where
 height_up : (ay by qy : ℤ) → (by -ℤ ay) *ℤ ay +ℤ (qy -ℤ ay) *ℤ (by -ℤ ay) ≡ (by -ℤ ay) *ℤ qy
 height_up ay by qy = same ((num by ⊖ num ay) ⊗ num ay ⊕ (num qy ⊖ num ay) ⊗ (num by ⊖ num ay)) ((num by ⊖ num ay) ⊗ num qy) (omega arith)
 
-height_down : (ay by qy : ℤ) → (ay -ℤ by) *ℤ ay +ℤ (ay -ℤ qy) *ℤ (by -ℤ ay) ≡ (ay -ℤ by) *ℤ qy
-height_down ay by qy = same ((num ay ⊖ num by) ⊗ num ay ⊕ (num ay ⊖ num qy) ⊗ (num by ⊖ num ay)) ((num ay ⊖ num by) ⊗ num qy) (omega arith)
-
-placed : (s : Segment) (q : Point) → IsParted q s.a s.b → IsPlaced s q
+placed : (s : Segment) (q : Point) → ArePartedBy q s.a s.b → IsPlaced s q
 placed s q parted =
     ⊎_elim
     (λ up.
@@ -43,30 +43,19 @@ placed s q parted =
     })
     parted
 
-turned : (a b : ℤ) → a *ℤ b ≡ b *ℤ a
-turned a b = same (num a ⊗ num b) (num b ⊗ num a) (omega arith)
-
 -- a point whose height parts a segment has it to the east, or lies on it, or has it to the west
-pub east_or_west : (s : Segment) (q : Point) → IsParted q s.a s.b → Crosses s q ⊎ IsOn s (whole q) ⊎ CrossesWest s q
+pub east_or_west : (s : Segment) (q : Point) → ArePartedBy q s.a s.b → Crosses s (whole q) ⊎ IsOn s (whole q) ⊎ CrossesWest s q
 east_or_west s q parted =
     let p : IsPlaced s q = placed s q parted in
     ⊎_elim
-    (λ west. inr (inr (record { parted = parted; place = p.at; on_segment = p.on; to_the_west = record { height = p.height; past = omega (arith, ints, west) } })))
+    (λ west. inr (inr (record { parted = is_parted q s.a s.b parted; place = p.at; on_segment = p.on; to_the_west = record { height = p.height; past = omega (arith, ints, west) } })))
     (λ rest. ⊎_elim
     (λ here.
     let level : p.at.x ≡ p.at.d *ℤ q.x = omega (arith, ints, here) in
     inr (inl (on_same s p.at (whole q) (same_by_products p.at q (level ∙ turned p.at.d q.x) (p.height ∙ turned p.at.d q.y)) p.on)))
-    (λ east. inl (record { parted = parted; place = p.at; on_segment = p.on; to_the_east = record { height = p.height; past = omega (arith, ints, east) } }))
+    (λ east. inl (record { parted = is_parted q s.a s.b parted; place = p.at; on_segment = p.on; to_the_east = is_east q p.at p.height (omega (arith, ints, east)) }))
     rest)
     (sign (p.at.x -ℤ p.at.d *ℤ q.x))
-
--- a place of the segment at the height of q: how far it is to the east of q, and the turn to q
-turn_at : (ux uy ax ay qx qy x y d : ℤ) → cross ux uy (x -ℤ d *ℤ ax) (y -ℤ d *ℤ ay) ≡ pos 0 → y ≡ d *ℤ qy →
-    d *ℤ cross ux uy (qx -ℤ ax) (qy -ℤ ay) ≡ uy *ℤ (x -ℤ d *ℤ qx)
-turn_at ux uy ax ay qx qy x y d g e =
-    let u = num ux in let v = num uy in let w = num d in
-    same_by_two (w ⊗ (u ⊗ (num qy ⊖ num ay) ⊖ v ⊗ (num qx ⊖ num ax))) (v ⊗ (num x ⊖ w ⊗ num qx))
-    (num (pos 1)) (u ⊗ (num y ⊖ w ⊗ num ay) ⊖ v ⊗ (num x ⊖ w ⊗ num ax)) (num (pos 0)) u (w ⊗ num qy) (num y) g (sym e) (omega arith)
 
 -- two places at one height are as far to the east, each over its own d
 one_way_off : (t uy e d f l : ℤ) → d *ℤ t ≡ uy *ℤ e → l *ℤ t ≡ uy *ℤ f → uy *ℤ (l *ℤ e -ℤ d *ℤ f) ≡ pos 0
@@ -76,7 +65,7 @@ one_way_off t uy e d f l p q =
     (num d) (num l ⊗ num t) (num uy ⊗ num f) p q (omega arith)
 
 -- how far two places of a segment at the height of q are to the east
-module _ (s : Segment) (q : Point) (parted : IsParted q s.a s.b) (r w : Rational) (r_on : IsOn s r) (w_on : IsOn s w) (r_height : r.y ≡ r.d *ℤ q.y) (w_height : w.y ≡ w.d *ℤ q.y) where
+module _ (s : Segment) (q : Point) (parted : ArePartedBy q s.a s.b) (r w : Rational) (r_on : IsOn s r) (w_on : IsOn s w) (r_height : r.y ≡ r.d *ℤ q.y) (w_height : w.y ≡ w.d *ℤ q.y) where
   steep : s.b.y -ℤ s.a.y ≡ pos 0 → ⊥
   steep e = ⊎_elim (λ up. omega (arith, ints, up.0, up.1, e)) (λ down. omega (arith, ints, down.0, down.1, e)) parted
 
@@ -112,22 +101,24 @@ pub one_times : (a : ℤ) → a ≡ pos 1 *ℤ a
 one_times a = same (num a) (num (pos 1) ⊗ num a) (omega arith)
 
 -- a segment doesn't cross both rays
-pub not_both : (s : Segment) (q : Point) → Crosses s q → CrossesWest s q → ⊥
+pub not_both : (s : Segment) (q : Point) → Crosses s (whole q) → CrossesWest s q → ⊥
 not_both s q east west =
-    let h = both_east s q east.parted east.place west.place east.on_segment west.on_segment east.to_the_east.height west.to_the_west.height east.to_the_east.past in
+    let h = both_east s q (parted_by q s.a s.b east.parted) east.place west.place east.on_segment west.on_segment (east_height q east.place east.to_the_east)
+    west.to_the_west.height (east_past q east.place east.to_the_east) in
     let k = west.to_the_west.past in
     omega (arith, ints, h, k)
 
 -- nor one that q lies on
-pub not_east : (s : Segment) (q : Point) → IsOn s (whole q) → ¬ Crosses s q
+pub not_east : (s : Segment) (q : Point) → IsOn s (whole q) → ¬ Crosses s (whole q)
 not_east s q on east =
-    let h = both_here s q east.parted (whole q) east.place on east.on_segment (one_times q.y) east.to_the_east.height (one_times q.x) in
-    let k = east.to_the_east.past in
+    let h = both_here s q (parted_by q s.a s.b east.parted) (whole q) east.place on east.on_segment (one_times q.y)
+    (east_height q east.place east.to_the_east) (one_times q.x) in
+    let k = east_past q east.place east.to_the_east in
     omega (arith, ints, h, k)
 
 pub not_west : (s : Segment) (q : Point) → IsOn s (whole q) → ¬ CrossesWest s q
 not_west s q on west =
-    let h = both_here s q west.parted (whole q) west.place on west.on_segment (one_times q.y) west.to_the_west.height (one_times q.x) in
+    let h = both_here s q (parted_by q s.a s.b west.parted) (whole q) west.place on west.on_segment (one_times q.y) west.to_the_west.height (one_times q.x) in
     let k = west.to_the_west.past in
     omega (arith, ints, h, k)
 
@@ -145,13 +136,13 @@ all_west s q r a b on =
     ⊎_elim (λ h. omega (arith, ints, last, h.1)) (λ h. omega (arith, ints, first, h.1)) on.x_between
 
 -- so a parted segment is crossed to the east
-pub crosses_east : (s : Segment) (q : Point) → IsParted q s.a s.b → q.x <ℤ s.a.x → q.x <ℤ s.b.x → Crosses s q
+pub crosses_east : (s : Segment) (q : Point) → ArePartedBy q s.a s.b → q.x <ℤ s.a.x → q.x <ℤ s.b.x → Crosses s (whole q)
 crosses_east s q parted a b =
     let p : IsPlaced s q = placed s q parted in
-    record { parted = parted; place = p.at; on_segment = p.on; to_the_east = record { height = p.height; past = all_east s q p.at a b p.on } }
+    record { parted = is_parted q s.a s.b parted; place = p.at; on_segment = p.on; to_the_east = is_east q p.at p.height (all_east s q p.at a b p.on) }
 
-pub crosses_no_east : (s : Segment) (q : Point) → s.a.x <ℤ q.x → s.b.x <ℤ q.x → ¬ Crosses s q
+pub crosses_no_east : (s : Segment) (q : Point) → s.a.x <ℤ q.x → s.b.x <ℤ q.x → ¬ Crosses s (whole q)
 crosses_no_east s q a b c =
     let low : c.place.x <ℤ (c.place.d *ℤ q.x) = all_west s q c.place a b c.on_segment in
-    let high : (c.place.d *ℤ q.x) <ℤ c.place.x = c.to_the_east.past in
+    let high : (c.place.d *ℤ q.x) <ℤ c.place.x = east_past q c.place c.to_the_east in
     omega (arith, ints, low, high)

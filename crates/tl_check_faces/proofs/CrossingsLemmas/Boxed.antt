@@ -7,6 +7,7 @@ use Rattle.std.proofs.lemmas.Option.{slice_get_within, get_or_from_slice_get}
 use Rattle.tl_geom.specs.declared.point.Point.{Point}
 use Rattle.tl_geom.specs.Plane.{whole}
 use Rattle.tl_geom.specs.Ray.{Crosses}
+use Rattle.tl_geom.proofs.AtPoints.{parted_by}
 use Rattle.tl_map_county.specs.declared.sides.Side.{Side}
 use Rattle.tl_map_county.specs.TheMap.{MapChain}
 use Rattle.tl_map_county.specs.Segments.{segments_before}
@@ -84,7 +85,7 @@ module _ (chains : List MapChain) (proper : AreProper chains) (q : Point) (S : S
 
   -- ---- the ray crosses no segment of the boundary
 
-  missed : ((s : ℕ) (at : IsLocated chains s) → S at.number.chain.left ≢ S at.number.chain.right → ¬ Crosses at.segment q) → balance S (map (flanks_at chains) crossed) ≡ pos 0
+  missed : ((s : ℕ) (at : IsLocated chains s) → S at.number.chain.left ≢ S at.number.chain.right → ¬ Crosses at.segment (whole q)) → balance S (map (flanks_at chains) crossed) ≡ pos 0
   missed clear =
       let same = sum_same (λ s. times s crossed * bit (S (flanks_at chains s).near)) (λ s. times s crossed * bit (S (flanks_at chains s).far)) (segments_before chains (length chains)) (λ s lt. each s lt (located chains proper s lt)) in
       let near = near_total in
@@ -156,17 +157,17 @@ module _ (chains : List MapChain) (proper : AreProper chains) (q : Point) (S : S
 
 module _ (chains : List MapChain) (q : Point) (S : Side → Bool) (proper : AreProper chains) (apart : HeadApart chains) (agree : SidesAgree chains) where
   -- a segment of the boundary isn't crossed from east, south or north of the box
-  no_crossing : IsEastOf (IsOnBoundary chains S) q ⊎ IsSouthOf (IsOnBoundary chains S) q ⊎ IsNorthOf (IsOnBoundary chains S) q → (s : ℕ) (at : IsLocated chains s) → S at.number.chain.left ≢ S at.number.chain.right → ¬ Crosses at.segment q
+  no_crossing : IsEastOf (IsOnBoundary chains S) q ⊎ IsSouthOf (IsOnBoundary chains S) q ⊎ IsNorthOf (IsOnBoundary chains S) q → (s : ℕ) (at : IsLocated chains s) → S at.number.chain.left ≢ S at.number.chain.right → ¬ Crosses at.segment (whole q)
   no_crossing (inl of_east) s at ne crosses =
       crosses_no_east at.segment q (of_east at.segment.a (first_bounds chains S s at ne)) (of_east at.segment.b (last_bounds chains S s at ne)) crosses
   no_crossing (inr (inl of_south)) s at ne crosses =
       let a = of_south at.segment.a (first_bounds chains S s at ne) in
       let b = of_south at.segment.b (last_bounds chains S s at ne) in
-      ⊎_elim (λ up. omega (arith, ints, up.0, a)) (λ down. omega (arith, ints, down.0, b)) crosses.parted
+      ⊎_elim (λ up. omega (arith, ints, up.0, a)) (λ down. omega (arith, ints, down.0, b)) (parted_by q at.segment.a at.segment.b crosses.parted)
   no_crossing (inr (inr of_north)) s at ne crosses =
       let a = of_north at.segment.a (first_bounds chains S s at ne) in
       let b = of_north at.segment.b (last_bounds chains S s at ne) in
-      ⊎_elim (λ up. omega (arith, ints, up.1, b)) (λ down. omega (arith, ints, down.1, a)) crosses.parted
+      ⊎_elim (λ up. omega (arith, ints, up.1, b)) (λ down. omega (arith, ints, down.1, a)) (parted_by q at.segment.a at.segment.b crosses.parted)
 
   zero : IsOutsideOfBox (IsOnBoundary chains S) q → (crossed : List ℕ) → AreCrossed chains q crossed → balance S (map (flanks_at chains) crossed) ≡ pos 0
   zero outside crossed are =

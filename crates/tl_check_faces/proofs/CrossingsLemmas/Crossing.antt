@@ -2,10 +2,10 @@
 use Rattle.std.proofs.Common.{◌≡◌, ◌⊎◌, inl, inr, ⊎_elim, ℕ, ◌<◌, Bool, true, false, List, length, refl, sym, arith}
 use Rattle.std.proofs.lemmas.Int.{ints}
 use Rattle.tl_geom.specs.declared.point.Point.{Point}
-use Rattle.tl_geom.specs.declared.rational.Rational.{Rational}
 use Rattle.tl_geom.specs.declared.segment.Segment.{Segment}
 use Rattle.tl_geom.specs.Plane.{IsOn, whole}
-use Rattle.tl_geom.specs.Ray.{IsParted, Crosses}
+use Rattle.tl_geom.specs.Ray.{Crosses}
+use Rattle.tl_geom.proofs.AtPoints.{ArePartedBy, parted_by}
 use Rattle.tl_map_county.specs.TheMap.{MapChain}
 use Rattle.tl_map_county.specs.Segments.{segments_before}
 use Rattle.tl_check_inside.specs.Inside.{flanks_at, flanks_between, IsCrossed}
@@ -16,13 +16,14 @@ use Rattle.tl_check_faces.specs.Crossings.Headings.{AreProper}
 use Rattle.tl_check_faces.specs.Crossings.West.{CrossesWest, IsCrossedWest}
 use Rattle.tl_check_faces.proofs.CrossingsLemmas.AtHeight.{east_or_west, not_both, not_east, not_west}
 use Rattle.tl_check_faces.proofs.CrossingsLemmas.Located.{IsLocated, located}
-use Rattle.tl_check_faces.proofs.CrossingsLemmas.Telescoping.{lt_of, le_of}
+use Rattle.tl_check_inside.proofs.Hitting.{on_same}
+use Rattle.tl_check_planar.proofs.ByHeight.Rising.{lt_of, le_of}
 
 -- ---- parted ends
 
 pub data IsPart (q a b : Point) : Type 0 where
-  parted : parts q.y a b ≡ true → IsParted q a b → IsPart q a b
-  level : parts q.y a b ≡ false → ¬ IsParted q a b → IsPart q a b
+  parted : parts q.y a b ≡ true → ArePartedBy q a b → IsPart q a b
+  level : parts q.y a b ≡ false → ¬ ArePartedBy q a b → IsPart q a b
 
 pub part : (q a b : Point) → IsPart q a b
 part q a b = go (is_above q.y a) (is_above q.y b) refl refl
@@ -40,10 +41,10 @@ part q a b = go (is_above q.y a) (is_above q.y b) refl refl
 -- ---- a segment
 
 pub data IsKind (s : Segment) (q : Point) : Type 0 where
-  east : parts q.y s.a s.b ≡ true → Crosses s q → ¬ CrossesWest s q → IsKind s q
-  here : parts q.y s.a s.b ≡ true → IsOn s (whole q) → ¬ Crosses s q → ¬ CrossesWest s q → IsKind s q
-  west : parts q.y s.a s.b ≡ true → ¬ Crosses s q → CrossesWest s q → IsKind s q
-  neither : parts q.y s.a s.b ≡ false → ¬ Crosses s q → ¬ CrossesWest s q → IsKind s q
+  east : parts q.y s.a s.b ≡ true → Crosses s (whole q) → ¬ CrossesWest s q → IsKind s q
+  here : parts q.y s.a s.b ≡ true → IsOn s (whole q) → ¬ Crosses s (whole q) → ¬ CrossesWest s q → IsKind s q
+  west : parts q.y s.a s.b ≡ true → ¬ Crosses s (whole q) → CrossesWest s q → IsKind s q
+  neither : parts q.y s.a s.b ≡ false → ¬ Crosses s (whole q) → ¬ CrossesWest s q → IsKind s q
 
 pub kind : (s : Segment) (q : Point) → IsKind s q
 kind s q = go (part q s.a s.b)
@@ -53,17 +54,10 @@ kind s q = go (part q s.a s.b)
         ⊎_elim (λ c. east e c (λ w. not_both s q c w))
         (λ rest. ⊎_elim (λ on. here e on (not_east s q on) (not_west s q on)) (λ w. west e (λ c. not_both s q c w) w) rest)
         (east_or_west s q h)
-    go (level e never) = neither e (λ c. never c.parted) (λ c. never c.parted)
-
-on_same : (s t : Segment) (r : Rational) → HaveSameEnds s t → IsOn s r → IsOn t r
-on_same s t r e on = record {
-  straight = rw (sym e.first, sym e.last) on.straight;
-  x_between = rw (sym e.first, sym e.last) on.x_between;
-  y_between = rw (sym e.first, sym e.last) on.y_between;
-}
+    go (level e never) = neither e (λ c. never (parted_by q s.a s.b c.parted)) (λ c. never (parted_by q s.a s.b c.parted))
 
 module _ (chains : List MapChain) (q : Point) (s : ℕ) (at : IsLocated chains s) where
-  pub crossed_there : IsCrossed chains q s → Crosses at.segment q
+  pub crossed_there : IsCrossed chains q s → Crosses at.segment (whole q)
   crossed_there h =
       let same : HaveSameEnds h.segment at.segment = same_ends chains s h.c h.k at.c at.k h.segment at.segment h.number h.joins at.number at.joins in
       record {
@@ -73,7 +67,7 @@ module _ (chains : List MapChain) (q : Point) (s : ℕ) (at : IsLocated chains s
         to_the_east = h.crosses.to_the_east;
       }
 
-  pub crossed_back : Crosses at.segment q → IsCrossed chains q s
+  pub crossed_back : Crosses at.segment (whole q) → IsCrossed chains q s
   crossed_back h = record { c = at.c; k = at.k; segment = at.segment; number = at.number; joins = at.joins; crosses = h }
 
   pub west_there : IsCrossedWest chains q s → CrossesWest at.segment q

@@ -11,7 +11,7 @@ use Rattle.tl_geom.specs.declared.rational.Rational.{Rational}
 use Rattle.tl_geom.specs.declared.segment.Segment.{Segment}
 use Rattle.tl_geom.specs.Plane.{IsOn}
 use Rattle.tl_geom.proofs.Places.{point_same}
-use Rattle.tl_map_county.specs.Chains.{IsProper}
+use Rattle.tl_map_county.specs.Chains.{IsProperChain}
 use Rattle.tl_map_county.specs.declared.sides.Side.TheVariants.{Outside}
 use Rattle.tl_map_county.specs.TheMap.{MapChain}
 use Rattle.tl_map_county.specs.Darts.{directed, is_along, dart_start, dart_second, Heads}
@@ -38,7 +38,7 @@ pub record AreFirst (points : List Point) (along : Bool) : Type 0 where
 no_point : Point
 no_point = record { x = pos 0; y = pos 0 }
 
-pub are_first : (points : List Point) → IsProper points → (along : Bool) → AreFirst points along
+pub are_first : (points : List Point) → IsProperChain points → (along : Bool) → AreFirst points along
 are_first points proper true =
     let several = proper.several in
     let e = slice_get-get_or points 0 no_point (omega (arith, several)) in

@@ -7,7 +7,7 @@ use Rattle.std.proofs.lemmas.List.Sums.{sum_by-cons}
 use Rattle.std.proofs.lemmas.Option.{slice_get-get_or}
 use Rattle.tl_geom.specs.declared.point.Point.{Point}
 use Rattle.tl_geom.specs.declared.segment.Segment.{Segment}
-use Rattle.tl_map_county.specs.Chains.{IsProper}
+use Rattle.tl_map_county.specs.Chains.{IsProperChain}
 use Rattle.tl_map_county.specs.declared.sides.Side.{Side}
 use Rattle.tl_map_county.specs.TheMap.{MapChain}
 use Rattle.tl_map_county.specs.Segments.{segments_before, IsSegmentOf, Joins}
@@ -52,7 +52,7 @@ located chains proper s lt =
     let at : IsPlacedSegment chains s = placed_segment chains s lt in
     let points : List Point = at.number.chain.points in
     let place = at.number.place in
-    let own : IsProper at.number.chain.points = proper at.c at.number.chain at.number.is in
+    let own : IsProperChain at.number.chain.points = proper at.c at.number.chain at.number.is in
     let segment : Segment = record { a = get_or points at.k no_point; b = get_or points (at.k + 1) no_point; different = own.distinct at.k no_point place } in
     let from : slice_get at.number.chain.points at.k ≡ Some segment.a = slice_get-get_or points at.k no_point (omega (arith, place)) in
     let to : slice_get at.number.chain.points (at.k + 1) ≡ Some segment.b = slice_get-get_or points (at.k + 1) no_point place in

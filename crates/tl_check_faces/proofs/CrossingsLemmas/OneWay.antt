@@ -77,11 +77,11 @@ pub record ShareTwo (s t : Segment) : Type 0 where
   pub one_inside : ¬ IsSame one (whole s.a)
   pub other_inside : ¬ IsSame other (whole s.a)
 
-scaled_x : (ux uy vx vy : ℤ) → cross ux uy vx vy ≡ pos 0 → (ux *ℤ vx +ℤ uy *ℤ vy) *ℤ ux ≡ (ux *ℤ ux +ℤ uy *ℤ uy) *ℤ vx
+pub scaled_x : (ux uy vx vy : ℤ) → cross ux uy vx vy ≡ pos 0 → (ux *ℤ vx +ℤ uy *ℤ vy) *ℤ ux ≡ (ux *ℤ ux +ℤ uy *ℤ uy) *ℤ vx
 scaled_x ux uy vx vy e =
     same_by ((num ux ⊗ num vx ⊕ num uy ⊗ num vy) ⊗ num ux) ((num ux ⊗ num ux ⊕ num uy ⊗ num uy) ⊗ num vx) (num uy) (num ux ⊗ num vy ⊖ num uy ⊗ num vx) (num (pos 0)) e (omega arith)
 
-scaled_y : (ux uy vx vy : ℤ) → cross ux uy vx vy ≡ pos 0 → (ux *ℤ vx +ℤ uy *ℤ vy) *ℤ uy ≡ (ux *ℤ ux +ℤ uy *ℤ uy) *ℤ vy
+pub scaled_y : (ux uy vx vy : ℤ) → cross ux uy vx vy ≡ pos 0 → (ux *ℤ vx +ℤ uy *ℤ vy) *ℤ uy ≡ (ux *ℤ ux +ℤ uy *ℤ uy) *ℤ vy
 scaled_y ux uy vx vy e =
     same_by ((num ux ⊗ num vx ⊕ num uy ⊗ num vy) ⊗ num uy) ((num ux ⊗ num ux ⊕ num uy ⊗ num uy) ⊗ num vy) (num (pos 0) ⊖ num ux) (num ux ⊗ num vy ⊖ num uy ⊗ num vx) (num (pos 0)) e (omega arith)
 

@@ -13,10 +13,11 @@ use Rattle.tl_check_inside.specs.declared.flanks.Flanks.{Flanks}
 use Rattle.tl_check_inside.specs.Inside.{flanks_at, flanks_between, balance}
 use Rattle.tl_check_faces.specs.Crossings.Headings.{AreProper}
 use Rattle.tl_check_faces.proofs.CrossingsLemmas.Sums.{sum_below, sum_same}
-use Rattle.tl_check_faces.proofs.CrossingsLemmas.Telescoping.{bit, int_lt-true, int_lt-false}
+use Rattle.tl_check_faces.proofs.CrossingsLemmas.Telescoping.{bit}
 use Rattle.tl_check_faces.proofs.CrossingsLemmas.Located.{IsLocated, located, each_from, each_along, each_of, each_at, length-each}
 use Rattle.tl_check_faces.proofs.CrossingsLemmas.Listing.{places_sum, listed_count}
 use Rattle.tl_check_faces.proofs.CrossingsLemmas.Crossing.{flanks_are}
+use Rattle.tl_check_inside.proofs.Sides.{is_lt as int_lt-true, no_lt as int_lt-false}
 
 -- ---- one segment
 

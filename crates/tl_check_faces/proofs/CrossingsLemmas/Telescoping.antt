@@ -1,42 +1,19 @@
 -- Along a chain the crossings of a height add up to what is above it at the chain's two ends.
-use Rattle.std.proofs.Common.{◌≡◌, ⊎_elim, ℕ, ◌+◌, ℤ, ◌-ℤ◌, ◌<ℤ◌, ◌≤ℤ◌, Bool, true, false, cond, T, List, [], ◌∷◌, count_by, refl, sym, subst, ◌∙◌, arith}
+use Rattle.std.proofs.Common.{◌≡◌, ℕ, ◌+◌, ℤ, Bool, true, false, cond, List, [], ◌∷◌, count_by, refl, arith}
 use Rattle.std.specs.Prelude.{int_lt}
-use Rattle.std.proofs.lemmas.Bool.{false≢true}
 use Rattle.std.proofs.lemmas.Int.{ints}
 use Rattle.std.proofs.lemmas.List.Sums.{sum_by-cons, sum_by-append}
-use Rattle.tl_geom.proofs.Signs.{sign}
 use Rattle.tl_geom.specs.declared.point.Point.{Point}
 use Rattle.tl_map_county.specs.declared.sides.Side.{Side}
 use Rattle.tl_map_county.specs.TheMap.{MapChain}
 use Rattle.tl_check_inside.specs.declared.flanks.Flanks.{Flanks}
 use Rattle.tl_check_inside.specs.Inside.{flanks_between}
 use Rattle.tl_check_faces.specs.Crossings.Heights.{is_above, parts, crossed_from, crossed_along, crossed_at}
+use Rattle.tl_check_inside.proofs.Sides.{is_lt as int_lt-true, no_lt as int_lt-false}
+use Rattle.tl_check_planar.proofs.ByHeight.Rising.{lt_of, le_of}
 
 abbrev pub bit : Bool → ℕ
 bit b = cond b 1 0
-
-pub int_lt-true : (x y : ℤ) → x <ℤ y → int_lt x y ≡ true
-int_lt-true x y h = go (int_lt x y) h.lt
-  where
-    go : (b : Bool) → T b → b ≡ true
-    go true t = refl
-    go false t = absurd t
-
-pub lt_of : (x y : ℤ) → int_lt x y ≡ true → x <ℤ y
-lt_of x y e = record { lt = subst T (sym e) tt }
-
-pub int_lt-false : (x y : ℤ) → y ≤ℤ x → int_lt x y ≡ false
-int_lt-false x y h = go (int_lt x y) refl
-  where
-    go : (b : Bool) → int_lt x y ≡ b → b ≡ false
-    go false e = refl
-    go true e = absurd (let lt : x <ℤ y = lt_of x y e in omega (arith, ints, lt, h))
-
-pub le_of : (x y : ℤ) → int_lt x y ≡ false → y ≤ℤ x
-le_of x y e =
-    ⊎_elim (λ less. absurd (false≢true (sym e ∙ int_lt-true x y (omega (arith, ints, less)))))
-    (λ rest. ⊎_elim (λ none. omega (arith, ints, none)) (λ more. omega (arith, ints, more)) rest)
-    (sign (x -ℤ y))
 
 -- ---- what counts at the ends of chains, by a weight of points
 

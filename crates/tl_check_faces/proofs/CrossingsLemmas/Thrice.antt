@@ -5,7 +5,7 @@ use Rattle.tl_geom.specs.declared.point.Point.{Point}
 use Rattle.tl_geom.specs.declared.direction.Direction.{Direction}
 use Rattle.tl_geom.specs.Plane.{cross}
 use Rattle.tl_geom.specs.Turning.{cross_of, dot_of, full}
-use Rattle.tl_map_county.specs.Chains.{IsProper}
+use Rattle.tl_map_county.specs.Chains.{IsProperChain}
 use Rattle.tl_map_county.specs.declared.sides.Side.{Side}
 use Rattle.tl_map_county.specs.declared.sides.Side.TheVariants.{Polygon}
 use Rattle.tl_map_county.specs.TheMap.{MapChain}
@@ -41,14 +41,14 @@ high_middle e = let y : pos 2 ≡ pos 1 = ap (λ (p : Point). p.y) e in omega (a
 middle_low : middle ≢ low
 middle_low e = let y : pos 1 ≡ pos 0 = ap (λ (p : Point). p.y) e in omega (arith, ints, y)
 
-straight : IsProper (low ∷ high ∷ [])
+straight : IsProperChain (low ∷ high ∷ [])
 straight = record { several = omega arith; distinct = distinct }
   where
     distinct : (k : ℕ) (d : Point) → k + 1 < length (low ∷ high ∷ []) → get_or (low ∷ high ∷ []) k d ≢ get_or (low ∷ high ∷ []) (k + 1) d
     distinct zero d lt = low_high
     distinct (suc k) d lt = absurd (let h : suc k + 1 < 2 = lt in omega (arith, h))
 
-bent : IsProper (high ∷ middle ∷ low ∷ [])
+bent : IsProperChain (high ∷ middle ∷ low ∷ [])
 bent = record { several = omega arith; distinct = distinct }
   where
     distinct : (k : ℕ) (d : Point) → k + 1 < length (high ∷ middle ∷ low ∷ []) → get_or (high ∷ middle ∷ low ∷ []) k d ≢ get_or (high ∷ middle ∷ low ∷ []) (k + 1) d
@@ -56,8 +56,8 @@ bent = record { several = omega arith; distinct = distinct }
     distinct (suc zero) d lt = middle_low
     distinct (suc (suc k)) d lt = absurd (let h : suc (suc k) + 1 < 3 = lt in omega (arith, h))
 
-points_of : (c x : MapChain) → Some c ≡ Some x → IsProper c.points → IsProper x.points
-points_of c x e proper = let same : c ≡ x = cc in subst (λ (z : MapChain). IsProper z.points) same proper
+points_of : (c x : MapChain) → Some c ≡ Some x → IsProperChain c.points → IsProperChain x.points
+points_of c x e proper = let same : c ≡ x = cc in subst (λ (z : MapChain). IsProperChain z.points) same proper
 
 pub proper : AreProper chains
 proper zero x e = points_of (chain_by 1 (low ∷ high ∷ [])) x e straight

@@ -6,13 +6,13 @@ use Rattle.tl_geom.specs.declared.rational.Rational.{Rational}
 use Rattle.tl_geom.specs.declared.segment.Segment.{Segment}
 use Rattle.tl_geom.specs.Plane.{IsOn, IsSame, whole, end_a, end_b}
 use Rattle.tl_geom.specs.Turning.{IsOneDirection}
-use Rattle.tl_map_county.specs.Chains.{IsProper}
+use Rattle.tl_map_county.specs.Chains.{IsProperChain}
 use Rattle.tl_map_county.specs.TheMap.{MapChain}
 use Rattle.tl_map_county.specs.Darts.{dart_start, dart_second, Heads}
 
 -- each chain has two points or more, where neighbours differ
 abbrev pub AreProper : List MapChain → Type 0
-AreProper chains = (c : ℕ) (chain : MapChain) → slice_get chains c ≡ Some chain → IsProper chain.points
+AreProper chains = (c : ℕ) (chain : MapChain) → slice_get chains c ≡ Some chain → IsProperChain chain.points
 
 -- two darts that start at one node and head in one direction are one dart
 abbrev pub HeadApart : List MapChain → Type 0

@@ -3,7 +3,7 @@ use Rattle.std.specs.Prelude.{◌≡◌, ℕ, ℤ, Bool, ◌*ℤ◌, ◌<ℤ◌,
 use Rattle.tl_geom.specs.declared.point.Point.{Point}
 use Rattle.tl_geom.specs.declared.rational.Rational.{Rational}
 use Rattle.tl_geom.specs.declared.segment.Segment.{Segment}
-use Rattle.tl_geom.specs.Plane.{IsOn}
+use Rattle.tl_geom.specs.Plane.{IsOn, whole}
 use Rattle.tl_geom.specs.Ray.{IsParted}
 use Rattle.tl_map_county.specs.declared.sides.Side.{Side}
 use Rattle.tl_map_county.specs.TheMap.{TheMap, MapChain, MapLandmark}
@@ -19,7 +19,7 @@ pub record IsWest (q : Point) (r : Rational) : Type 0 where
 
 -- the segment crosses the ray of q to the west: the height of q parts its ends, and a point of it is strictly west of q
 pub record CrossesWest (s : Segment) (q : Point) : Type 0 where
-  pub parted : IsParted q s.a s.b
+  pub parted : IsParted (whole q) s.a s.b
   pub place : Rational
   pub on_segment : IsOn s place
   pub to_the_west : IsWest q place

@@ -4,7 +4,8 @@ use Rattle.std.specs.List.Sorted.{IsSortedBy}
 use Rattle.std.specs.Ordering.{nat_cmp, int_cmp, ordering_then, is_lt}
 use Rattle.tl_check_planar.specs.ByHeight.Heights.{height, widest}
 use Rattle.tl_check_faces.specs.declared.odd.OddGap.{OddGap}
-use Rattle.tl_check_gaps.specs.Gaps.{order_of, AreInOrder, IsListed}
+use Rattle.tl_check_faces.specs.AllFaults.{order_of}
+use Rattle.tl_check_gaps.specs.Gaps.{AreInOrder, IsListed}
 
 -- one gap is sorted before another: by what stands west of them, then by what stands east, and then by their heights
 abbrev pub comes_first : OddGap → OddGap → Bool
@@ -17,7 +18,7 @@ abbrev pub AreSorted : List OddGap → Type 0
 AreSorted gaps = IsSortedBy comes_first gaps
 
 -- the gap at a place is between the same two as the one before it
-pub record IsRepeated (gaps : List OddGap) (k : ℕ) : Type 0 where
+pub record IsGapRepeated (gaps : List OddGap) (k : ℕ) : Type 0 where
   pub some : 0 < k
   pub west : (d : OddGap) → (slice_index_or gaps (k - 1) d).west ≡ (slice_index_or gaps k d).west
   pub east : (d : OddGap) → (slice_index_or gaps (k - 1) d).east ≡ (slice_index_or gaps k d).east

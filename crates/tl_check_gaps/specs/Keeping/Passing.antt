@@ -1,10 +1,8 @@
 -- A step of the sweep.
-use Rattle.std.specs.Prelude.{◌≡◌, ℕ, ◌+◌, Option, Some, List, ◌++◌}
+use Rattle.std.specs.Prelude.{◌≡◌, ℕ, Option, Some, List, ◌++◌}
 use Rattle.tl_geom.specs.declared.point.Point.{Point}
 use Rattle.tl_map_county.specs.TheMap.{MapChain}
-use Rattle.tl_tree_index.specs.Hits.{times}
 use Rattle.tl_check_planar.specs.ByHeight.Heights.{height, widest}
-use Rattle.tl_check_planar.specs.ByHeight.Neighbours.{AreTested, EachTwo}
 use Rattle.tl_check_gaps.specs.declared.watch.Watch.{Watch}
 use Rattle.tl_check_gaps.specs.Telling.{IsToldAlong, IsKept, StaysTrue, StaysAt}
 use Rattle.tl_check_gaps.specs.Keeping.Facing.{IsCounted}
@@ -26,11 +24,3 @@ pub record HasLooked (chains : List MapChain) (p : Point) (list next : List ℕ)
 pub record IsRecounted (chains : List MapChain) (p : Point) (west outs ins east : List ℕ) (was gaps : Option ℕ) (old new : Watch) : Type 0 where
   pub counted : IsCounted chains was (west ++ (outs ++ east)) → IsCounted chains gaps ((west ++ ins) ++ east)
   pub looked : IsCounted chains gaps ((west ++ ins) ++ east) → HasLooked chains p (west ++ (outs ++ east)) ((west ++ ins) ++ east) gaps old new
-
--- some segments left the list and others entered it, the neighbours are tested, the places where sides differ are counted, and the gaps
--- there are told, if they were
-pub record HasPassed (chains : List MapChain) (p : Point) (list next outs ins : List ℕ) (was gaps : Option ℕ) (old new : Watch) : Type 0 where
-  pub moved : (s : ℕ) → times s next + times s outs ≡ times s list + times s ins
-  pub tested : EachTwo (AreTested widest chains) list → EachTwo (AreTested widest chains) next
-  pub counted : IsCounted chains was list → IsCounted chains gaps next
-  pub watched : IsCounted chains was list → HasLooked chains p list next gaps old new

@@ -1,11 +1,11 @@
 -- What is watched of gaps on the way of a sweep.
-use Rattle.std.specs.Prelude.{◌≡◌, ◌⊎◌, ℕ, ◌<◌, ℤ, pos, ◌+ℤ◌, ◌<ℤ◌, ◌≤ℤ◌, Bool, List, [], length, slice_index_or, All}
+use Rattle.std.specs.Prelude.{◌≡◌, ◌⊎◌, ℕ, ◌<◌, ℤ, pos, ◌+ℤ◌, ◌<ℤ◌, ◌≤ℤ◌, List, [], length, slice_index_or, All}
 use Rattle.tl_geom.specs.declared.point.Point.{Point}
-use Rattle.tl_map_county.specs.TheMap.{TheMap, MapChain}
+use Rattle.tl_map_county.specs.TheMap.{MapChain}
 use Rattle.tl_check_planar.specs.Planar.{IsPlanar}
 use Rattle.tl_check_active.specs.declared.events.Event.{Event}
 use Rattle.tl_check_planar.specs.ByHeight.Heights.{height, widest}
-use Rattle.tl_check_planar.specs.ByHeight.Slabs.{IsListOf, AreSlabsTested}
+use Rattle.tl_check_planar.specs.ByHeight.Slabs.{IsListOf}
 use Rattle.tl_check_faces.specs.declared.odd.OddGap.{OddGap}
 use Rattle.tl_check_faces.specs.Facing.{FacesAgree}
 use Rattle.tl_check_faces.specs.Lists.{AreAllNear}
@@ -16,7 +16,6 @@ use Rattle.tl_check_gaps.specs.declared.watch.Watch.{Watch}
 use Rattle.tl_check_gaps.specs.Gaps.{AreAllOddGaps}
 use Rattle.tl_check_gaps.specs.Telling.{IsToldAlong}
 use Rattle.tl_check_gaps.specs.Keeping.Swept.{AreAbove}
-use Rattle.tl_check_gaps.specs.Keeping.Spotted.{AreMarks}
 
 -- gaps are still told: all were asked for, or none was told
 abbrev pub IsOpen : Watch → Type 0
@@ -67,10 +66,3 @@ pub record AreTrueGaps (chains : List MapChain) (gaps : Gaps) (told : List OddGa
   pub true_ones : All (IsLowestOddGap widest chains) told
   pub agree : told ≡ [] → FacesAgree chains
   pub whole : gaps ≡ choice.All → AreAllOddGaps widest chains told
-
--- a sweep has come to its end: each slab has a list, the polygons that are marked are placed, and of what was asked for what is told is so
-pub record IsSweptToEnd (m : TheMap) (found : List Bool) (old new : Watch) : Type 0 where
-  pub slabs : AreSlabsTested widest m.chains
-  pub marks : AreMarks m found
-  pub asked : new.asked ≡ old.asked
-  pub watched : IsWatchedToEnd m.chains new

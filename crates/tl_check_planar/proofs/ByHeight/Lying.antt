@@ -14,6 +14,7 @@ use Rattle.tl_check_planar.proofs.Ends.{same_by_products}
 use Rattle.tl_check_planar.specs.ByHeight.Heights.{height, height_of, turn_at}
 use Rattle.tl_check_planar.proofs.ByHeight.Order.{rise, rise_of}
 use Rattle.tl_check_planar.proofs.ByHeight.Rising.{AreEndsOf}
+use Rattle.tl_geom.proofs.Contacts.{exchanged}
 
 -- a place between two points, on their line
 pub record IsOnFrom (a b : Point) (r : Rational) : Type 0 where
@@ -31,9 +32,6 @@ turned_by ax ay bx by x y d =
 -- the turn by the same points the other way
 pub turned : (a b : Point) (r : Rational) → turn_at b a r ≡ pos 0 -ℤ turn_at a b r
 turned a b r = turned_by a.x a.y b.x b.y r.x r.y r.d
-
-exchanged : (p q v : ℤ) → IsBetween p q v → IsBetween q p v
-exchanged p q v = ⊎_elim (λ k. inr k) (λ k. inl k)
 
 on_back : (a b : Point) (r : Rational) → IsOnFrom a b r → IsOnFrom b a r
 on_back a b r on =

@@ -97,7 +97,7 @@ linear_above A B h d l m above low high from to =
 
 -- ---- two lines
 
-joined : (U W u w ha hc ax cx h x d : ℤ) →
+pub joined : (U W u w ha hc ax cx h x d : ℤ) →
     U *ℤ (w *ℤ (h -ℤ d *ℤ hc) -ℤ W *ℤ (x -ℤ d *ℤ cx)) -ℤ W *ℤ (u *ℤ (h -ℤ d *ℤ ha) -ℤ U *ℤ (x -ℤ d *ℤ ax))
     ≡ (U *ℤ w -ℤ W *ℤ u) *ℤ h +ℤ (U *ℤ (W *ℤ cx -ℤ w *ℤ hc) -ℤ W *ℤ (U *ℤ ax -ℤ u *ℤ ha)) *ℤ d
 joined U W u w ha hc ax cx h x d =
@@ -105,7 +105,7 @@ joined U W u w ha hc ax cx h x d =
     same (U' ⊗ (w' ⊗ (k ⊖ e ⊗ num hc) ⊖ W' ⊗ (num x ⊖ e ⊗ num cx)) ⊖ W' ⊗ (u' ⊗ (k ⊖ e ⊗ num ha) ⊖ U' ⊗ (num x ⊖ e ⊗ num ax)))
     ((U' ⊗ w' ⊖ W' ⊗ u') ⊗ k ⊕ (U' ⊗ (W' ⊗ num cx ⊖ w' ⊗ num hc) ⊖ W' ⊗ (U' ⊗ num ax ⊖ u' ⊗ num ha)) ⊗ e) (omega arith)
 
-factored : (K U W t v : ℤ) → K *ℤ (U *ℤ v -ℤ W *ℤ t) ≡ U *ℤ (K *ℤ v) -ℤ W *ℤ (K *ℤ t)
+pub factored : (K U W t v : ℤ) → K *ℤ (U *ℤ v -ℤ W *ℤ t) ≡ U *ℤ (K *ℤ v) -ℤ W *ℤ (K *ℤ t)
 factored K U W t v =
     let k = num K in
     same (k ⊗ (num U ⊗ num v ⊖ num W ⊗ num t)) (num U ⊗ (k ⊗ num v) ⊖ num W ⊗ (k ⊗ num t)) (omega arith)

@@ -13,7 +13,7 @@ use Rattle.tl_check_planar.specs.Planar.{IsOnSegment, IsChainEnd, MayShareWithin
 use Rattle.tl_check_planar.specs.Meets.{IsSharedBy, IsAllowed}
 use Rattle.tl_check_planar.proofs.Ends.{vertex_at}
 use Rattle.tl_check_planar.proofs.Planes.{one_points}
-use Rattle.tl_check_planar.specs.ByHeight.Slabs.{IsPointOf, IsEndPlace, AreVerticesTested}
+use Rattle.tl_check_planar.specs.ByHeight.Slabs.{IsChainPoint, IsEndPlace, AreVerticesTested}
 
 -- the place is the point at place k of a chain, one of the two of segment i
 record IsAtPlace (points : List Point) (i : ℕ) (r : Rational) : Type 0 where
@@ -68,8 +68,8 @@ may_share chains tested s t lt r m end end' =
     let other : IsAtPlace m.second.chain.points m.j r = at_place m.second.chain.points m.j r m.on_second end' in
     let here : other.point ≡ one.point = whole_same other.point one.point (same_trans (whole other.point) r (whole one.point) (same_sym r (whole other.point) other.same) one.same) in
     let is : slice_get m.second.chain.points other.k ≡ Some one.point = other.is ∙ ap Some here in
-    let first : IsPointOf chains m.c one.k one.point = record { chain = m.first.chain; is = m.first.is; point = one.is } in
-    let second : IsPointOf chains m.d other.k one.point = record { chain = m.second.chain; is = m.second.is; point = is } in
+    let first : IsChainPoint chains m.c one.k one.point = record { chain = m.first.chain; is = m.first.is; point = one.is } in
+    let second : IsChainPoint chains m.d other.k one.point = record { chain = m.second.chain; is = m.second.is; point = is } in
     let told : ((m.c ≡ m.d) × (one.k ≡ other.k)) ⊎ (IsEndPlace m.first.chain.points one.k × IsEndPlace m.second.chain.points other.k) =
     tested m.c one.k m.d other.k one.point first second in
     ⊎_elim

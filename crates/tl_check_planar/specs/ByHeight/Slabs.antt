@@ -25,7 +25,7 @@ abbrev pub AreSlabsTested : ℤ → List MapChain → Type 0
 AreSlabsTested K chains = (n : ℤ) → (list : List ℕ) × IsListOf K n chains list
 
 -- the point is point k of chain c
-pub record IsPointOf (chains : List MapChain) (c k : ℕ) (p : Point) : Type 0 where
+pub record IsChainPoint (chains : List MapChain) (c k : ℕ) (p : Point) : Type 0 where
   pub chain : MapChain
   pub is : slice_get chains c ≡ Some chain
   pub point : slice_get chain.points k ≡ Some p
@@ -38,5 +38,5 @@ IsEndPlace points k = (k ≡ 0) ⊎ (k + 1 ≡ length points)
 -- there is at an end of its chain, or there are two segments, which follow one another in one chain
 abbrev pub AreVerticesTested : List MapChain → Type 0
 AreVerticesTested chains =
-    (c k d j : ℕ) (p : Point) (one : IsPointOf chains c k p) (other : IsPointOf chains d j p) →
+    (c k d j : ℕ) (p : Point) (one : IsChainPoint chains c k p) (other : IsChainPoint chains d j p) →
     ((c ≡ d) × (k ≡ j)) ⊎ (IsEndPlace one.chain.points k × IsEndPlace other.chain.points j)

@@ -6,7 +6,7 @@ use Rattle.tl_check_inside.specs.declared.strips.Site.{Site}
 use Rattle.tl_check_inside.specs.Places.{IsOffChains}
 use Rattle.tl_check_inside.specs.Keeping.Tallies.{TellCounts}
 use Rattle.tl_check_points.specs.declared.labels.Gap.{Gap}
-use Rattle.tl_check_points.specs.declared.looking.Visit.{Visit}
+use Rattle.tl_check_points.specs.declared.visits.Visit.{Visit}
 use Rattle.tl_check_points.specs.Keeping.Ways.{IsWay}
 
 -- the point is on no chain, and the way from its gap tells the counts there

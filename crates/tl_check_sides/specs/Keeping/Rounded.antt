@@ -9,7 +9,7 @@ use Rattle.tl_check_sides.specs.declared.next.Next.{Next}
 use Rattle.tl_check_sides.specs.declared.rounds.Rounds.{Rounds}
 use Rattle.tl_check_sides.specs.Lists.{before, list_at, EachList}
 use Rattle.tl_check_sides.specs.Sides.{dart_count, IsNext}
-use Rattle.tl_check_sides.specs.Rounds.{round_start, HasOneNode, AreRising}
+use Rattle.tl_check_sides.specs.Rounds.{round_start, HasOneNode, AreHeadingsRising}
 use Rattle.tl_check_sides.specs.Keeping.Marked.{marked_count, MarkLists}
 
 -- behind each dart of the round the next one is kept
@@ -44,7 +44,7 @@ pub record HaveTaken (chains : List MapChain) (rounds : List (List ℕ)) (s : Ro
   pub marks : MarkLists (dart_count chains) rounds s.marks.items
   pub nodes : AreNodeMarks chains rounds s.nodes.items
   pub one_node : EachList (HasOneNode chains) rounds
-  pub rising : EachList (AreRising chains) rounds
+  pub rising : EachList (AreHeadingsRising chains) rounds
   pub headed : EachList (AreHeaded chains) rounds
   pub linked : EachList (AreLinked s.next.items) rounds
   pub apart : (r s : ℕ) (node : Point) → r < s → s < length rounds → round_start chains (list_at rounds r) ≡ Some node → round_start chains (list_at rounds s) ≢ Some node

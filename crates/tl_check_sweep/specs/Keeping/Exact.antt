@@ -1,5 +1,5 @@
 -- A step of the sweep of which the place is known by turns.
-use Rattle.std.specs.Prelude.{◌≡◌, ◌≢◌, ℕ, ◌<◌, ℤ, pos, ◌-ℤ◌, ◌≤ℤ◌, Option, None, Some, List, slice_get, All}
+use Rattle.std.specs.Prelude.{◌≡◌, ◌≢◌, ℕ, ◌<◌, pos, ◌-ℤ◌, ◌≤ℤ◌, Some, List, slice_get, All}
 use Rattle.tl_geom.specs.declared.point.Point.{Point}
 use Rattle.tl_geom.specs.declared.segment.Segment.{Segment}
 use Rattle.tl_map_county.specs.TheMap.{MapChain}
@@ -7,13 +7,10 @@ use Rattle.tl_tree_index.specs.Hits.{times}
 use Rattle.tl_check_planar.specs.ByHeight.Heights.{height, low_end, high_end, turn_to, widest}
 use Rattle.tl_check_planar.specs.ByHeight.Neighbours.{IsNumbered, IsWestOf, AreApartOrAtEnds}
 use Rattle.tl_check_planar.specs.ByHeight.Slabs.{IsListOf}
-use Rattle.tl_check_blocks.specs.Lined.{TheLine, last_of}
+use Rattle.tl_check_active.specs.Blocks.Lined.{TheLine, last_of}
 use Rattle.tl_check_active.specs.Ranges.{IsInRange, AreInRange}
-use Rattle.tl_check_planar.specs.declared.meet.Meet.{Meet}
 use Rattle.tl_check_faces.specs.Crossings.Headings.{AreProper}
 use Rattle.tl_check_gaps.specs.Beside.{IsEastOf}
-use Rattle.tl_check_sweep.specs.declared.sweeping.Passage.{Passage}
-use Rattle.tl_check_sweep.specs.declared.sweeping.Passage.TheVariants as passage
 
 -- the point doesn't lie east of segment s
 abbrev pub IsNotEastOf : List MapChain → Point → ℕ → Type 0
@@ -54,8 +51,3 @@ pub record IsBefore (chains : List MapChain) (p : Point) (list outs ins : List �
   pub off_alone : (s : ℕ) → 0 < times s outs → EndsAt chains p s
   pub on : All (BeginsAt chains p) ins
   pub on_once : (s : ℕ) → 0 < times s ins → times s ins ≡ 1
-
--- a meet that was found where a vertex wasn't passed, or that none was
-abbrev pub or_failed : Option Meet → Passage
-or_failed None = passage.Failed
-or_failed (Some meet) = passage.Meet meet

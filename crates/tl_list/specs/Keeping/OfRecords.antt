@@ -6,7 +6,7 @@ use Rattle.tl_record.specs.Layout.{layout_with}
 use Rattle.tl_record.specs.Left.{left_of}
 use Rattle.tl_record.specs.Records.{Records, records_of}
 use Rattle.tl_record.specs.Refusals.{refusals_of}
-use Rattle.tl_list_records.specs.Refusals.Listing.{ListsAll}
+use Rattle.tl_map_rules.specs.Listing.Refusals.Listing.{ListsAll}
 use Rattle.tl_map_rules.specs.declared.fault.RecordFault.{RecordFault}
 use Rattle.tl_check_verdict.specs.Sound.{IsSoundFor}
 use Rattle.tl_check_verdict.specs.Verdicts.{IsReport}
@@ -16,7 +16,7 @@ use Rattle.tl_list_text.specs.declared.listing.Listing.TheVariants.{Sound, Refus
 use Rattle.tl_map_rules.specs.declared.lacking.Lacking.{Lacking}
 use Rattle.tl_list.specs.Listings.{AreFaults, told_with}
 use Rattle.tl_record.specs.declared.record.Record.{Record}
-use Rattle.tl_list_records.specs.AllFaults.{AreAllFaults}
+use Rattle.tl_map_rules.specs.Listing.AllFaults.{AreAllFaults}
 use Rattle.tl_check_verdict.specs.declared.verdict.Report.{Report}
 use Rattle.tl_list.specs.declared.of_records.Findings.{Findings}
 use Rattle.tl_list.specs.declared.left.LeftFaults.{LeftFaults}

@@ -6,11 +6,11 @@ use Rattle.tl_record.specs.declared.refusal.Refusal.{Refusal}
 use Rattle.tl_record.specs.declared.reader.RecordReader.{RecordReader}
 use Rattle.std.specs.Option.{option_map}
 use Rattle.tl_record.specs.Records.{Records, joined_where}
-use Rattle.tl_map_join.specs.Told.{HasTold, joined_records}
+use Rattle.tl_map.specs.Joined.Told.{HasTold, joined_records}
 use Rattle.tl_record.specs.Reader.{skipped_of, refusals_to_come}
 use Rattle.tl_record.specs.Leaving.{left_to_come}
 use Rattle.tl_record.specs.Searching.{pair_of}
-use Rattle.tl_list_records.specs.Refusals.Listing.{BeginsWith, ListsAll}
+use Rattle.tl_map_rules.specs.Listing.Refusals.Listing.{BeginsWith, ListsAll}
 use Rattle.tl_list.specs.Findings.{HasBeyond}
 use Rattle.tl_list.specs.Keeping.Noting.{NotesSoFar}
 use Rattle.tl_map_rules.specs.Reading.{records_in}

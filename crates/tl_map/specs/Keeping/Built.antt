@@ -5,14 +5,14 @@ use Rattle.tl_map_rules.specs.declared.entry.ChainEntry.{ChainEntry}
 use Rattle.tl_map_rules.specs.declared.entry.ShapeEntry.{ShapeEntry}
 use Rattle.tl_map_rules.specs.declared.fault.MapStop.{MapStop}
 use Rattle.tl_map_rules.specs.declared.fault.MapStop.TheVariants.{Refused, Device, Memory, Fault, NoRecords}
-use Rattle.tl_map_county.specs.Chains.{CompleteChain, IsProper, ChainList}
+use Rattle.tl_map_county.specs.Chains.{CompleteChain, IsProperChain, ChainList}
 use Rattle.tl_map_rules.specs.ChainsOf.{AreChainsOf, has_gap, pairs_of}
 use Rattle.tl_map_rules.specs.Faults.{IsTrueOf, HaveNoChainFault}
-use Rattle.tl_map.specs.Keeping.Entries.{chains_with, AreRising, ArePlaced}
+use Rattle.tl_map.specs.Keeping.Entries.{chains_with, AreEntriesRising, ArePlaced}
 
 -- sorted entries can be joined
 pub record AreSound (rs : List Record) (chains : List ChainEntry) (shapes : List ShapeEntry) : Type 0 where
-  pub rising : AreRising chains
+  pub rising : AreEntriesRising chains
   pub known : All (λ s. 1 ≤ chains_with s.tlid chains) shapes
   pub placed : ArePlaced shapes
   pub no_gap : (t : ℕ) → has_gap (pairs_of rs t) ≡ false
@@ -22,7 +22,7 @@ pub record AreBuilt (rs : List Record) (skipped : ℕ) (c : ChainList) : Type 0 
   pub chains : AreChainsOf rs c.chains
   pub skipped_lines : c.skipped ≡ skipped
   pub no_fault : HaveNoChainFault rs
-  pub proper : All (λ (x : CompleteChain). IsProper x.points) c.chains
+  pub proper : All (λ (x : CompleteChain). IsProperChain x.points) c.chains
 
 -- why the records give no chains: memory was refused, or they have the fault
 abbrev pub StopsBuilding : List Record → MapStop → Type 0

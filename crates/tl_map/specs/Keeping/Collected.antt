@@ -2,8 +2,8 @@
 use Rattle.std.specs.Prelude.{◌≡◌, List, map, All}
 use Rattle.std.specs.List.{filter_map}
 use Rattle.tl_record.specs.declared.record.Record.{Record}
-use Rattle.tl_list_records.specs.Kept.{chain_at, shape_at, HasChains}
-use Rattle.tl_list_records.specs.Shapes.{summary_in, IsInside}
+use Rattle.tl_map_rules.specs.Listing.Kept.{chain_at, shape_at, HasChains}
+use Rattle.tl_map_rules.specs.Listing.Shapes.{summary_in, IsInside}
 use Rattle.tl_map.specs.declared.collect.Collected.{Collected}
 use Rattle.tl_map.specs.Keeping.Entries.{AreShapeEntries}
 

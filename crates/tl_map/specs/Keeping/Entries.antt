@@ -8,9 +8,10 @@ use Rattle.tl_map_rules.specs.declared.entry.ChainEntry.{ChainEntry}
 use Rattle.tl_map_rules.specs.declared.entry.ShapeEntry.{ShapeEntry}
 use Rattle.tl_map_rules.specs.declared.entry.Fill.{Fill}
 use Rattle.tl_map_rules.specs.declared.entry.Fill.TheVariants.{Full, Ended, Gap}
-use Rattle.tl_map_rules.specs.ChainsOf.{same_point, used}
+use Rattle.tl_map_rules.specs.ChainsOf.{used}
+use Rattle.tl_record.specs.Joining.{same_point}
 use Rattle.tl_map_county.specs.Chains.{CompleteChain}
-use Rattle.tl_list_records.specs.Shapes.{fill_of, entry_points, IsInside}
+use Rattle.tl_map_rules.specs.Listing.Shapes.{fill_of, entry_points, IsInside}
 
 -- a number for each type 1 record, and 0 for others
 abbrev pub by_chain : (ℕ → Point → Point → ℕ) → Record → ℕ
@@ -45,8 +46,8 @@ abbrev pub chains_with : ℕ → List ChainEntry → ℕ
 chains_with t entries = count_by (λ c. c.tlid == t) entries
 
 -- by strictly rising TLID
-abbrev pub AreRising : List ChainEntry → Type 0
-AreRising entries = (i j : ℕ) (d : ChainEntry) → i < j → j < length entries → (slice_index_or entries i d).tlid < (slice_index_or entries j d).tlid
+abbrev pub AreEntriesRising : List ChainEntry → Type 0
+AreEntriesRising entries = (i j : ℕ) (d : ChainEntry) → i < j → j < length entries → (slice_index_or entries i d).tlid < (slice_index_or entries j d).tlid
 
 -- is the entry one of TLID t
 abbrev pub has_tlid : ℕ → ShapeEntry → Bool

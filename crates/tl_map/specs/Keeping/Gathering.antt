@@ -6,8 +6,8 @@ use Rattle.tl_map.specs.declared.collect.Collected.{Collected}
 use Rattle.tl_map_rules.specs.declared.fault.MapStop.{MapStop}
 use Rattle.tl_map_rules.specs.declared.fault.MapStop.TheVariants.{Refused, Device, Memory, Fault, NoRecords}
 use Rattle.tl_map.specs.declared.areas.AreaRecords.{AreaRecords}
-use Rattle.tl_map_join.specs.declared.told.ToldRecords.{ToldRecords}
-use Rattle.tl_map_join.specs.Told.{HasTold}
+use Rattle.tl_map.specs.declared.joined.told.ToldRecords.{ToldRecords}
+use Rattle.tl_map.specs.Joined.Told.{HasTold}
 use Rattle.tl_map.specs.Keeping.Areas.{KeepsAreas}
 use Rattle.tl_map.specs.Keeping.Collected.{Collects}
 use Rattle.tl_map_rules.specs.Reading.{records_in}

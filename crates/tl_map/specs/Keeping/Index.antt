@@ -1,14 +1,10 @@
 -- Kept on the way: the place of each key among the polygons.
-use Rattle.std.specs.Prelude.{◌≡◌, ℕ, Option, Some, List, ◌⊎◌, slice_get}
+use Rattle.std.specs.Prelude.{◌≡◌, ℕ, Option, Some, List, slice_get}
 use Rattle.std.specs.declared.hash.RandomState.{RandomState}
 use Rattle.indexmap.specs.IndexMap.{IndexMap, index_of}
 use Rattle.tl_geom.specs.declared.point.Point.{Point}
 use Rattle.tl_map_county.specs.declared.polygons.Polygon.{Polygon}
 use Rattle.tl_record_key.specs.declared.key.PolyKey.{PolyKey}
-use Rattle.tl_map_rules.specs.declared.fault.MapStop.{MapStop}
-use Rattle.tl_map_rules.specs.declared.fault.MapStop.TheVariants.{Memory, Fault}
-use Rattle.tl_map_rules.specs.declared.fault.RecordFault.TheVariants.{DuplicatePolygon}
-use Rattle.tl_map_rules.specs.Faults.{StandsTwice}
 use Rattle.tl_map_rules.specs.MapOf.{same_key}
 
 -- a polygon as an entry of a map by keys
@@ -23,7 +19,3 @@ pub record Numbers {K : Type 0} (ks : List K) (found : K → Option ℕ) : Type 
 -- the index has the place of each key
 abbrev pub Indexes : List PolyKey → IndexMap PolyKey Point RandomState → Type 0
 Indexes ks index = Numbers ks (index_of same_key index)
-
--- why keys aren't indexed: memory was refused, or one of them stands twice
-abbrev pub StopsIndex : List PolyKey → MapStop → Type 0
-StopsIndex ks stop = (stop ≡ Memory) ⊎ ((k : PolyKey) × (stop ≡ Fault (DuplicatePolygon k)) × StandsTwice ks k)

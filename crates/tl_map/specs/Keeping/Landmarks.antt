@@ -8,10 +8,6 @@ use Rattle.tl_record_key.specs.declared.key.PolyKey.{PolyKey}
 use Rattle.tl_map_rules.specs.declared.entry.LandmarkEntry.{LandmarkEntry}
 use Rattle.tl_map_rules.specs.declared.entry.LinkEntry.{LinkEntry}
 use Rattle.tl_map.specs.declared.landmarks.Link.{Link}
-use Rattle.tl_map_rules.specs.declared.fault.Limited.TheVariants.{Landmarks}
-use Rattle.tl_map_rules.specs.declared.fault.RecordFault.TheVariants.{TooMany, LinkWithoutLandmark, LinkWithoutPolygon}
-use Rattle.tl_map_rules.specs.declared.fault.MapStop.{MapStop}
-use Rattle.tl_map_rules.specs.declared.fault.MapStop.TheVariants.{Memory, Fault}
 use Rattle.tl_map_county.specs.declared.landmarks.LinkedLandmarks.{LinkedLandmarks}
 use Rattle.tl_map_county.specs.declared.landmarks.LandmarkRow.{LandmarkRow}
 use Rattle.tl_map_rules.specs.MapOf.{firsts, place_of, linked_to}
@@ -40,21 +36,15 @@ pub record ListsLandmarks (entries : List LandmarkEntry) (f : IndexMap ℕ (Opti
   pub no_other : (n : ℕ) → Contains (keys f) n → Contains (lands entries) n
   pub few : length f.entries ≤ most_landmarks
 
--- why the first records aren't listed: memory was refused, or there are too many
-abbrev pub StopsLandmarks : List LandmarkEntry → MapStop → Type 0
-StopsLandmarks entries stop =
-    (stop ≡ Memory) ⊎ ((stop ≡ Fault (TooMany Landmarks)) × (most_landmarks < length (firsts (λ (e : LandmarkEntry). e.land) entries)))
-
 -- the numbers of a link's landmark and polygon
 pub record IsLink (ks : List PolyKey) (ns : List ℕ) (link : LinkEntry) (made : Link) : Type 0 where
   pub landmark : slice_get ns made.landmark ≡ Some link.land
   pub known : slice_get ks made.polygon ≡ Some link.key
   pub polygon : made.polygon ≡ place_of ks link.key
 
--- why a link has no numbers: there is no such landmark, or no such polygon
-abbrev pub StopsLink : List PolyKey → List ℕ → LinkEntry → MapStop → Type 0
-StopsLink ks ns link stop =
-    ((stop ≡ Fault (LinkWithoutLandmark link.land)) × ¬ Contains ns link.land) ⊎ ((stop ≡ Fault (LinkWithoutPolygon link.key link.land)) × ¬ Contains ks link.key)
+-- there is no such landmark, or no such polygon
+abbrev pub IsLinkUnknown : List PolyKey → List ℕ → LinkEntry → Type 0
+IsLinkUnknown ks ns link = (¬ Contains ns link.land) ⊎ (¬ Contains ks link.key)
 
 -- the numbers of the first of the links
 pub record AreLinks (ks : List PolyKey) (ns : List ℕ) (links : List LinkEntry) (made : List Link) : Type 0 where
@@ -64,10 +54,6 @@ pub record AreLinks (ks : List PolyKey) (ns : List ℕ) (links : List LinkEntry)
 -- the numbers of all links
 abbrev pub AreAllLinks : List PolyKey → List ℕ → List LinkEntry → List Link → Type 0
 AreAllLinks ks ns links made = AreLinks ks ns links made × (length made ≡ length links)
-
--- why links have no numbers: memory was refused, or one of them stops
-abbrev pub StopsLinks : List PolyKey → List ℕ → List LinkEntry → MapStop → Type 0
-StopsLinks ks ns links stop = (stop ≡ Memory) ⊎ Any (λ link. StopsLink ks ns link stop) links
 
 -- is the link one of the landmark
 abbrev pub links_to : ℕ → List Link → List Link
@@ -109,6 +95,6 @@ pub record AreLinked (ks : List PolyKey) (entries : List LandmarkEntry) (links :
   pub known : All (λ link. Contains (lands entries) link.land × Contains ks link.key) links
   pub few : length (firsts (λ (e : LandmarkEntry). e.land) entries) ≤ most_landmarks
 
--- why they aren't: memory was refused, there are too many landmarks, or a link names none
-abbrev pub StopsLinking : List PolyKey → List LandmarkEntry → List LinkEntry → MapStop → Type 0
-StopsLinking ks entries links stop = StopsLandmarks entries stop ⊎ Any (λ link. StopsLink ks (lands entries) link stop) links
+-- there are too many landmarks, or a link names a landmark or a polygon that is not there
+abbrev pub AreUnlinked : List PolyKey → List LandmarkEntry → List LinkEntry → Type 0
+AreUnlinked ks entries links = (most_landmarks < length (firsts (λ (e : LandmarkEntry). e.land) entries)) ⊎ Any (IsLinkUnknown ks (lands entries)) links

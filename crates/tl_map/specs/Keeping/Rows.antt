@@ -5,15 +5,11 @@ use Rattle.tl_geom.specs.declared.point.Point.{Point}
 use Rattle.tl_map_rules.specs.declared.entry.ChainEntry.{ChainEntry}
 use Rattle.tl_map_rules.specs.declared.entry.ShapeEntry.{ShapeEntry}
 use Rattle.tl_map_county.specs.declared.limits.TheConstants.{SEGMENT_LIMIT}
-use Rattle.tl_map_rules.specs.declared.fault.Limited.TheVariants.{Segments}
-use Rattle.tl_map_rules.specs.declared.fault.RecordFault.TheVariants.{DegenerateChain, TooMany}
-use Rattle.tl_map_rules.specs.declared.fault.MapStop.{MapStop}
-use Rattle.tl_map_rules.specs.declared.fault.MapStop.TheVariants.{Memory, Fault}
 use Rattle.tl_map_county.specs.declared.chains.ChainRow.{ChainRow}
 use Rattle.tl_map_county.specs.Chains.{CompleteChain, ChainList, segment_count}
 use Rattle.tl_map_county.specs.Rows.{IsTable, chains_in}
-use Rattle.tl_map_rules.specs.ChainsOf.{same_point}
-use Rattle.tl_list_records.specs.Shapes.{entry_points}
+use Rattle.tl_record.specs.Joining.{same_point}
+use Rattle.tl_map_rules.specs.Listing.Shapes.{entry_points}
 use Rattle.tl_map.specs.Keeping.Entries.{joined}
 
 -- the points of a chain with these between its start and its end
@@ -38,12 +34,10 @@ pub record AreJoinedBy (pool : List Point) (shapes : List ShapeEntry) (entries :
   pub several : All (λ e. length (joined pool shapes e).points ≢ 1) entries
   pub few : segment_count (map (joined pool shapes) entries) ≤ SEGMENT_LIMIT
 
--- why a chain isn't added: memory was refused, it is one point, or there are too many segments with it
-abbrev pub StopsAdding : List CompleteChain → CompleteChain → MapStop → Type 0
-StopsAdding chains c stop =
-    (stop ≡ Memory) ⊎ (((stop ≡ Fault (DegenerateChain c.tlid)) × (length c.points ≡ 1)) ⊎ ((stop ≡ Fault (TooMany Segments)) × (SEGMENT_LIMIT < segment_count (chains ++ c ∷ []))))
+-- the chain is one point, or with it there are too many segments
+abbrev pub IsUnjoinable : List CompleteChain → CompleteChain → Type 0
+IsUnjoinable chains c = (length c.points ≡ 1) ⊎ (SEGMENT_LIMIT < segment_count (chains ++ c ∷ []))
 
--- why the chains aren't joined: memory was refused, one of them is one point, or they have too many segments
-abbrev pub StopsJoin : List CompleteChain → MapStop → Type 0
-StopsJoin chains stop =
-    (stop ≡ Memory) ⊎ (((t : ℕ) × (stop ≡ Fault (DegenerateChain t)) × Any (λ c. (t ≡ c.tlid) × (length c.points ≡ 1)) chains) ⊎ ((stop ≡ Fault (TooMany Segments)) × (SEGMENT_LIMIT < segment_count chains)))
+-- one of the chains is one point, or they have too many segments
+abbrev pub AreUnjoinable : List CompleteChain → Type 0
+AreUnjoinable chains = Any (λ c. length c.points ≡ 1) chains ⊎ (SEGMENT_LIMIT < segment_count chains)

@@ -1,7 +1,7 @@
 -- Kept on the way: what is unused of pairs, and which points are left of several that follow one another.
 use Rattle.std.specs.Prelude.{Bool, true, false, if◌then◌else◌, Option, Some, None, List, [], ◌∷◌}
 use Rattle.tl_geom.specs.declared.point.Point.{Point}
-use Rattle.tl_map_rules.specs.ChainsOf.{same_point}
+use Rattle.tl_record.specs.Joining.{same_point}
 
 -- is one of the pairs unused
 abbrev pub some_unused : List (Option Point) → Bool

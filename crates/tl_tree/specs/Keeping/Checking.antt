@@ -48,6 +48,6 @@ IsFaultBelow bounds old number see (Items xs) fault = IsMarkFault old xs.now fau
 IsFaultBelow bounds old number see (Children w) fault = IsFaultAt bounds old number (see w) fault
 
 -- what is told by a check that numbers nodes, and gives a hull or a fault
-abbrev pub IsTold : (Rect → Type 0) → Type 0 → (TreeFault → Type 0) → Result Rect TreeFault → Type 0
-IsTold Right Next Fault (Ok hull) = Right hull × Next
-IsTold Right Next Fault (Err fault) = Fault fault
+abbrev pub IsAnsweredBy : (Rect → Type 0) → Type 0 → (TreeFault → Type 0) → Result Rect TreeFault → Type 0
+IsAnsweredBy Right Next Fault (Ok hull) = Right hull × Next
+IsAnsweredBy Right Next Fault (Err fault) = Fault fault

@@ -2,7 +2,7 @@
 use Rattle.std.specs.Prelude.{◌≡◌, ℕ, ◌+◌, ◌≤◌, List, [], ◌∷◌, ◌++◌, length, take, Option, None, Some}
 use Rattle.tl_geom.specs.declared.rect.Rect.{Rect}
 use Rattle.tl_tree.specs.declared.walk.Tree.{Tree}
-use Rattle.tl_tree_index.specs.Pairs.{meeting, cross_sum, pair_sum, AllCross, AllPairs, AreFree}
+use Rattle.tl_tree_index.specs.Pairs.{meeting, cross_sum, pair_sum, AllCross, AllPairs, AreToldApart}
 use Rattle.tl_tree_index.specs.Fits.{AreBelow}
 use Rattle.tl_tree_index.specs.Trees.{Forest, none, leaf, inner, leaf_items}
 use Rattle.tl_tree.specs.Keeping.Walking.{followed, AreSound}
@@ -32,7 +32,7 @@ pub record IsFirst {W : Type 0} (see : W → Forest) (t : Tree W) (f : Forest) :
 pub record StandsFor {C W : Type 0} (n : ℕ) (bounds : ℕ → Rect) (tells : ℕ → ℕ → Option C → Type 0) (see : W → Forest) (xs : List ℕ) (old : List W) (more : List ℕ) (new : List W) : Type 0 where
   pub sum : cross_sum (meeting bounds) xs (listed_items see new) ≡ cross_sum (meeting bounds) xs (listed_items see old) + cross_sum (meeting bounds) xs more
   pub most : (f : ℕ → ℕ → ℕ) → cross_sum f xs (listed_items see new) ≤ cross_sum f xs (listed_items see old) + cross_sum f xs more
-  pub free : AllCross (AreFree tells) xs (listed_items see new) → AllCross (AreFree tells) xs (listed_items see old) × AllCross (AreFree tells) xs more
+  pub free : AllCross (AreToldApart tells) xs (listed_items see new) → AllCross (AreToldApart tells) xs (listed_items see old) × AllCross (AreToldApart tells) xs more
   pub sound : AllSound n bounds see old → AllSound n bounds see new
 
 -- behind the first of a list, those were listed that stand for more items, and m are listed then
@@ -58,7 +58,7 @@ AllBeside P xs ys = AllPairs P xs × AllCross P xs ys
 pub record StandsForItems {C : Type 0} (n : ℕ) (bounds : ℕ → Rect) (tells : ℕ → ℕ → Option C → Type 0) (xs old more new : List ℕ) : Type 0 where
   pub sum : cross_sum (meeting bounds) xs new ≡ cross_sum (meeting bounds) xs old + cross_sum (meeting bounds) xs more
   pub most : (f : ℕ → ℕ → ℕ) → cross_sum f xs new ≤ cross_sum f xs old + cross_sum f xs more
-  pub free : AllCross (AreFree tells) xs new → AllCross (AreFree tells) xs old × AllCross (AreFree tells) xs more
+  pub free : AllCross (AreToldApart tells) xs new → AllCross (AreToldApart tells) xs old × AllCross (AreToldApart tells) xs more
   pub known : AreBelow n old → AreBelow n new
 
 -- behind the first of a list, those were listed that stand for more items, and m are listed then

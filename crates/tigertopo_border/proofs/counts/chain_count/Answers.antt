@@ -1,6 +1,6 @@
 use Rattle.std.proofs.Common.{ap, ◌∙◌, arith, take_all}
 use Rattle.std.specs.Prelude.{count_by}
-use Rattle.tl_check_parts.specs.Borders.{has_blank}
+use Rattle.tigertopo_border.specs.Whole.Borders.{has_blank}
 use Rattle.tigertopo_border.proofs.CountLemmas.{counted_more, one_at_most}
 use Rattle.tigertopo_border.proofs.counts.chain_count.Goals as goal
 

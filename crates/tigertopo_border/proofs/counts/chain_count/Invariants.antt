@@ -1,6 +1,6 @@
 use Rattle.std.proofs.Common.{◌≡◌, ◌≤◌, take}
 use Rattle.std.specs.Prelude.{count_by}
-use Rattle.tl_check_parts.specs.Borders.{has_blank}
+use Rattle.tigertopo_border.specs.Whole.Borders.{has_blank}
 use Rattle.tigertopo_border.proofs.counts.chain_count.Given as goal
 
 abbrev pub invariant-loop-number : goal.invariant-loop-number

@@ -1,6 +1,6 @@
 use Rattle.std.proofs.Common.{ap, ◌∙◌, arith, refl, take_all, ◌+◌}
 use Rattle.std.specs.Prelude.{sum_by}
-use Rattle.tigertopo_border.specs.Border.{segments_of}
+use Rattle.tigertopo_border.specs.Border.{border_segments}
 use Rattle.tigertopo_border.proofs.CountLemmas.{segments_more, few_segments}
 use Rattle.tigertopo_border.proofs.counts.segment_count.Goals as goal
 
@@ -17,4 +17,4 @@ loop-number-preserved c =
 
 pub returns : goal.returns
 returns c =
-    c.loop-number.invariant ∙ ap (sum_by segments_of) (take_all c.loop-number.number c.args.map.now.chains (omega (arith, c.chains-number-end.ensures, c.loop-number-test.false)))
+    c.loop-number.invariant ∙ ap (sum_by border_segments) (take_all c.loop-number.number c.args.map.now.chains (omega (arith, c.chains-number-end.ensures, c.loop-number-test.false)))

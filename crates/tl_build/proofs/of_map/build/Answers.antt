@@ -3,7 +3,8 @@ use Rattle.tl_check_verdict.specs.Sound.{IsSound, IsSoundFor}
 use Rattle.tl_check_verdict.specs.Truth.{IsTrueOfMap}
 use Rattle.tl_check_verdict.proofs.Denials.{true_alone}
 use Rattle.tl_build.specs.Building.{HasCert}
-use Rattle.tl_build.proofs.Decided.{cert_leads, fault_leads, built_leads, sound_alone}
+use Rattle.tl_decide.proofs.Firsts.{sound_alone}
+use Rattle.tl_build.proofs.Decided.{cert_leads, fault_leads, built_leads}
 use Rattle.tl_build.proofs.of_map.build.Goals as goal
 
 pub returns-clause-sound : goal.returns-clause-sound

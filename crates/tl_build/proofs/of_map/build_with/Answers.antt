@@ -1,6 +1,6 @@
 use Rattle.std.proofs.Common.{◌≡◌, ◌≤◌}
 use Rattle.tl_tree_index.specs.Trees.{depth, tree_of}
-use Rattle.tl_tree_pack.specs.Packed.{IsEvenlySplit}
+use Rattle.tl_tree_index.specs.Packed.{IsEvenlySplit}
 use Rattle.tl_check_verdict.specs.Sound.{IsSoundFor}
 use Rattle.tl_check_verdict.specs.Valid.{IsValid}
 use Rattle.tl_build.proofs.Decided.{on_cert, if_cert, if_fault, built_exactly, built_stops}
@@ -10,8 +10,8 @@ pub returns : goal.returns
 returns c =
     let faces = c.args.faces in
     let m = c.args.map.now in
-    let answer = c.decide.result in
-    let says = c.decide.ensures in
+    let answer = c.build_for.result in
+    let says = c.build_for.ensures in
     record {
       sound = on_cert faces m (IsSoundFor faces m) (λ s. s) answer says;
       valid = if_cert faces m (IsValid m) (λ cert is. is.valid) answer says;

@@ -6,8 +6,8 @@ pub returns : goal.returns
 returns c =
     let faces = c.args.faces in
     let m = c.args.map.now in
-    let answer = c.decide.result in
-    let says = c.decide.ensures in
+    let answer = c.audit_for.result in
+    let says = c.audit_for.ensures in
     record {
       sound = on_sound faces m (IsSoundFor faces m) (λ s. s) answer says;
       report = reported faces m answer says;

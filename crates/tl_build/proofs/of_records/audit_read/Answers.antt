@@ -5,7 +5,7 @@ use Rattle.tl_build.specs.Keeping.Deciding.{AuditsRead}
 use Rattle.tl_build.proofs.of_records.audit_read.Goals as goal
 
 pub returns-in-Ok : goal.returns-in-Ok
-returns-in-Ok c = subst (λ read. AuditsRead c.args.asked read c.decide.result) (sym c.in-Ok.is) c.decide.ensures
+returns-in-Ok c = subst (λ read. AuditsRead c.args.faces read c.audit_for.result) (sym c.in-Ok.is) c.audit_for.ensures
 
 pub returns-in_ok-fault_of_records-in-Err : goal.returns-in_ok-fault_of_records-in-Err
 returns-in_ok-fault_of_records-in-Err c = rw c.in-Err.is (ap audit_of c.in_ok-fault_of_records-in-Err.ensures)

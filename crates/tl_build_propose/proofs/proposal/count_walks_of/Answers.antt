@@ -1,5 +1,5 @@
 use Rattle.std.proofs.Common.{◌≡◌, ◌*◌, length, ap, sym, subst, ◌∙◌, arith}
-use Rattle.tl_tree_pack.specs.Lists.{HoldsAll}
+use Rattle.tl_tree_index.specs.Lists.{HoldsAll}
 use Rattle.tl_check_sides.specs.Lists.{HoldOnce}
 use Rattle.tl_build_propose.specs.Keeping.Lists.{darts_in}
 use Rattle.tl_build_propose.specs.Keeping.Following.{IsLinkedBy}

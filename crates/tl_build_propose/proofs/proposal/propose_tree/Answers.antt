@@ -3,7 +3,7 @@ use Rattle.std.proofs.lemmas.Result.{err_from_is_err_and}
 use Rattle.tl_map_county.specs.Segments.{segments_before}
 use Rattle.tl_check_planar.specs.Rectangles.{segment_rect}
 use Rattle.tl_tree_index.specs.Fits.{Fits}
-use Rattle.tl_tree_pack.specs.Packed.{IsShallow}
+use Rattle.tl_tree_index.specs.Packed.{IsShallow}
 use Rattle.tl_tree_index.specs.Trees.{tree_of}
 use Rattle.tl_build_propose.proofs.Packed.{is_tree, eight_levels, new_nodes}
 use Rattle.tl_build_propose.proofs.proposal.propose_tree.Goals as goal

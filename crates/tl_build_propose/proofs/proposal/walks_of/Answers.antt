@@ -1,6 +1,6 @@
 use Rattle.std.proofs.Common.{◌≡◌, ◌*◌, ◌<◌, zero, length, ap, sym, subst, ◌∙◌, arith}
 use Rattle.std.proofs.lemmas.Result.{err_from_is_err_and}
-use Rattle.tl_tree_pack.specs.Lists.{HoldsAll}
+use Rattle.tl_tree_index.specs.Lists.{HoldsAll}
 use Rattle.tl_check_sides.specs.Lists.{HoldOnce}
 use Rattle.tl_build_propose.specs.Keeping.Lists.{darts_in, lists_in}
 use Rattle.tl_build_propose.specs.Keeping.Following.{IsLinkedBy, GoesBy}

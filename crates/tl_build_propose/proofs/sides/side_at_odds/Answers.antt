@@ -2,7 +2,7 @@ use Rattle.std.proofs.Common.{◌≡◌, ◌-◌, Some, below_more, refl, ap, sy
 use Rattle.std.specs.Prelude.{slice_index}
 use Rattle.tl_map_county.specs.Darts.{dart_left}
 use Rattle.tl_check_verdict.specs.Truth.{AreAtOdds}
-use Rattle.tl_build_propose.proofs.SideLemmas.{at_odds, below_one, dart_in, one_given}
+use Rattle.tl_build_propose.proofs.SideLemmas.{at_odds, odds_differ, below_one, dart_in, one_given}
 use Rattle.tl_build_propose.proofs.sides.side_at_odds.Goals as goal
 
 pub returns-then-not-is : goal.returns-then-not-is
@@ -13,9 +13,10 @@ returns-then-not-is c =
     let place = c.loop-place.place in
     let within = c.loop-place-test.true in
     let before : dart_left c.args.map.now.chains (slice_index c.args.ring.now (c.loop-place.place - 1)) ≡ Some c.dart_left-left.result = c.loop-place.invariant (place - 1) (omega (arith, some)) in
-    subst (AreAtOdds c.args.map.now c.dart_start.result (slice_index ring place)) (sym c.reverse_dart.ensures)
+    odds_differ c.args.map.now c.dart_start.result (slice_index ring place) c.reverse_dart.result
+    (subst (AreAtOdds c.args.map.now c.dart_start.result (slice_index ring place)) (sym c.reverse_dart.ensures)
     (at_odds c.args.map.now ring c.requires place (place - 1) c.dart_start.result (slice_index ring place) (slice_index ring (place - 1)) (omega (arith, some)) within refl refl c.dart_start.ensures
-    (λ same. c.is.ensures.other c.if-not-is.true (one_given c.dart_left.result c.dart_left-left.result (sym c.dart_left.ensures.left ∙ same ∙ before))))
+    (λ same. c.is.ensures.other c.if-not-is.true (one_given c.dart_left.result c.dart_left-left.result (sym c.dart_left.ensures.left ∙ same ∙ before)))))
 
 pub bounds-ring-0 : goal.bounds-ring-0
 bounds-ring-0 c = c.requires.some

@@ -1,6 +1,6 @@
 use Rattle.std.proofs.Common.{◌≡◌, ◌%◌, ◌<◌, All, length, ap, sym, ◌∙◌, subst, arith}
 use Rattle.std.proofs.lemmas.Result.{err_from_is_err_and}
-use Rattle.tl_tree_pack.specs.Lists.{HoldsAll}
+use Rattle.tl_tree_index.specs.Lists.{HoldsAll}
 use Rattle.tl_build_propose.specs.Keeping.Following.{IsLinkedBy}
 use Rattle.tl_build_propose.specs.Keeping.Lists.{darts_in}
 use Rattle.tl_build_propose.proofs.LinkLemmas.{written}

@@ -13,16 +13,9 @@ use Rattle.tl_cert.specs.Keeping.Places.{ReadsPart, FitsPlace}
 use Rattle.tl_cert.specs.Keeping.Steps.{at_rounds}
 use Rattle.tl_cert.specs.Keeping.Lines.{at}
 use Rattle.tl_cert.proofs.AllowedLemmas.{allowed_rounds}
-use Rattle.tl_cert.proofs.PlaceLemmas.{passed, pass_rounds, number_missing, stops_part, counts_read, tree_read}
+use Rattle.tl_cert.proofs.PlaceLemmas.{passed, pass_rounds, number_missing, stops_part, counts_read, tree_read, known}
 use Rattle.tl_cert.proofs.FailureLemmas.{fails_later, tells_later}
 use Rattle.tl_cert.proofs.next.read_part.Goals as goal
-
--- a version from 1 to 2 is one of the two
-known : (version : ℕ) → 1 ≤ version → version ≤ 2 → (version ≡ 1) ⊎ (version ≡ 2)
-known zero least most = absurd (omega (arith, least))
-known (suc zero) least most = inl refl
-known (suc (suc zero)) least most = inr refl
-known (suc (suc (suc version))) least most = absurd (omega (arith, most))
 
 pub returns-in-Ok-read_tree-clause-reads : goal.returns-in-Ok-read_tree-clause-reads
 returns-in-Ok-read_tree-clause-reads g c =

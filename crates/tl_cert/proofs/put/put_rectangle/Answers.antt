@@ -1,5 +1,5 @@
 use Rattle.std.proofs.Common.{rules, ◌∷◌, [], ap, refl, arith}
-use Rattle.tl_cert.specs.Text.{coordinate}
+use Rattle.tl_cert.specs.Text.{coordinate_text}
 use Rattle.tl_cert.specs.Keeping.Putting.{Puts}
 use Rattle.tl_cert.proofs.PutLemmas.{room_first, room_left, puts_both, words_flat}
 use Rattle.tl_cert.proofs.put.put_rectangle.Goals as goal
@@ -31,12 +31,12 @@ put_byte-requires c =
 pub returns : goal.returns
 returns c =
     let rect = c.args.rect in
-    let ymax : Puts 12 c.args.end c.put_coordinate-ymax.result c.args.text.now c.put_coordinate-ymax.new.text (coordinate rect.ymax) = search rules in
-    let xmax : Puts 12 c.put_coordinate-ymax.result c.put_coordinate-xmax.result c.put_coordinate-ymax.new.text c.put_coordinate-xmax.new.text (coordinate rect.xmax) = search rules in
-    let ymin : Puts 12 c.put_coordinate-xmax.result c.put_coordinate-ymin.result c.put_coordinate-xmax.new.text c.put_coordinate-ymin.new.text (coordinate rect.ymin) = search rules in
-    let xmin : Puts 12 c.put_coordinate-ymin.result c.put_coordinate-xmin.result c.put_coordinate-ymin.new.text c.put_coordinate-xmin.new.text (coordinate rect.xmin) = search rules in
-    let two = puts_both 24 12 12 _ _ _ _ _ _ (coordinate rect.xmax) (coordinate rect.ymax) _ (omega arith) ymax xmax refl in
-    let three = puts_both 36 24 12 _ _ _ _ _ _ (coordinate rect.ymin) _ _ (omega arith) two ymin refl in
-    let four = puts_both 48 36 12 _ _ _ _ _ _ (coordinate rect.xmin) _ _ (omega arith) three xmin refl in
+    let ymax : Puts 12 c.args.end c.put_coordinate-ymax.result c.args.text.now c.put_coordinate-ymax.new.text (coordinate_text rect.ymax) = search rules in
+    let xmax : Puts 12 c.put_coordinate-ymax.result c.put_coordinate-xmax.result c.put_coordinate-ymax.new.text c.put_coordinate-xmax.new.text (coordinate_text rect.xmax) = search rules in
+    let ymin : Puts 12 c.put_coordinate-xmax.result c.put_coordinate-ymin.result c.put_coordinate-xmax.new.text c.put_coordinate-ymin.new.text (coordinate_text rect.ymin) = search rules in
+    let xmin : Puts 12 c.put_coordinate-ymin.result c.put_coordinate-xmin.result c.put_coordinate-ymin.new.text c.put_coordinate-xmin.new.text (coordinate_text rect.xmin) = search rules in
+    let two = puts_both 24 12 12 _ _ _ _ _ _ (coordinate_text rect.xmax) (coordinate_text rect.ymax) _ (omega arith) ymax xmax refl in
+    let three = puts_both 36 24 12 _ _ _ _ _ _ (coordinate_text rect.ymin) _ _ (omega arith) two ymin refl in
+    let four = puts_both 48 36 12 _ _ _ _ _ _ (coordinate_text rect.xmin) _ _ (omega arith) three xmin refl in
     puts_both 49 48 1 _ _ _ _ _ _ (c.args.letter ∷ []) _ _ (omega arith) four c.put_byte.ensures
-    (ap (λ l. c.args.letter ∷ l) (words_flat (coordinate rect.xmin) (coordinate rect.ymin) (coordinate rect.xmax) (coordinate rect.ymax)))
+    (ap (λ l. c.args.letter ∷ l) (words_flat (coordinate_text rect.xmin) (coordinate_text rect.ymin) (coordinate_text rect.xmax) (coordinate_text rect.ymax)))

@@ -1,16 +1,13 @@
-use Rattle.std.proofs.Common.{inl, inr}
-use Rattle.tl_check_planar.specs.Planar.{IsPlanar}
+use Rattle.tl_check_gaps.specs.declared.watch.Gaps.TheVariants.{First}
+use Rattle.tl_check_sweep.proofs.Deciding.{found_planar, found_meet}
 use Rattle.tl_check.proofs.Swept.{swept_planar}
 use Rattle.tl_check.proofs.search.search_by_sweep.Goals as goal
 
 pub returns-in-Placed : goal.returns-in-Placed
 returns-in-Placed c =
-    let so = c.in-Ok.ensures in
-    let planar : IsPlanar c.args.map.now.chains = elim c.in-Placed.is [
-      | inl placed ↦ (so.placed placed).0
-      | inr unplaced ↦ so.planar unplaced
-    ] in
-    swept_planar c.args.map.now _ planar so.known so.others so.odd so.agree
+    let m = c.args.map.now in
+    let report = c.in-Ok.report in
+    swept_planar m report c.in-Ok.ensures (found_planar m First report c.in-Ok.ensures c.in-Placed.is)
 
 pub returns-in-Meet : goal.returns-in-Meet
-returns-in-Meet c = λ budget within. c.in-Ok.ensures.meet c.in-Meet.meet c.in-Meet.is
+returns-in-Meet c = λ budget within. found_meet c.args.map.now First c.in-Ok.report c.in-Ok.ensures c.in-Meet.meet c.in-Meet.is

@@ -17,7 +17,7 @@ returns-then-s-segments c = record {
 pub returns : goal.returns
 returns c = record {
   flanks = λ flanks e.
-      sym (one_found c.flanks_of.result flanks _ refl e)
-      ∙ both_named c.args.map.now.chains c.args.s c.flanks_of.result c.flanks_of.ensures.west c.flanks_of.ensures.east;
-  named = (c.flanks_of.ensures.west, c.flanks_of.ensures.east);
+      sym (one_found c.flanks_by_height.result flanks _ refl e)
+      ∙ both_named c.args.map.now.chains c.args.s c.flanks_by_height.result c.flanks_by_height.ensures.west c.flanks_by_height.ensures.east;
+  named = (c.flanks_by_height.ensures.west, c.flanks_by_height.ensures.east);
 }

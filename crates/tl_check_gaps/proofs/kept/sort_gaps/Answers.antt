@@ -2,7 +2,7 @@ use Rattle.std.proofs.Common.{◌≡◌, pos, ◌+ℤ◌, rules}
 use Rattle.std.proofs.lemmas.Fn.{always_returns_same}
 use Rattle.tl_check_planar.specs.ByHeight.Heights.{height, widest}
 use Rattle.tl_check_faces.specs.declared.odd.OddGap.{OddGap}
-use Rattle.tl_check_gaps.specs.Gaps.{order_of}
+use Rattle.tl_check_faces.specs.AllFaults.{order_of}
 use Rattle.tl_check_gaps.proofs.kept.sort_gaps.Goals as goal
 
 pub returns-clause-ordered : goal.returns-clause-ordered

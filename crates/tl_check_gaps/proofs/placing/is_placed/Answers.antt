@@ -4,7 +4,7 @@ use Rattle.std.proofs.lemmas.Result.{err_from_is_err_and}
 use Rattle.tl_map_county.specs.declared.polygons.Polygon.{Polygon}
 use Rattle.tl_check_planar.specs.Keeping.Apart.{one_found}
 use Rattle.tl_check_inside.specs.Placed.{IsPlacedIn}
-use Rattle.tl_check_blocks.specs.Lined.{list_of}
+use Rattle.tl_check_active.specs.Blocks.Lined.{list_of}
 use Rattle.tl_check_active.specs.Events.{before, joined}
 use Rattle.tl_check_active.specs.Ranges.{IsInRange}
 use Rattle.tl_check_gaps.proofs.Spotting.{spotted}

@@ -1,6 +1,6 @@
 use Rattle.std.proofs.Common.{◌≡◌, List, ℕ}
 use Rattle.std.specs.Prelude.{slice_get}
-use Rattle.tl_check_blocks.specs.Lined.{last_of}
+use Rattle.tl_check_active.specs.Blocks.Lined.{last_of}
 use Rattle.tl_check_gaps.specs.Telling.{AreToldAbout}
 use Rattle.tl_check_gaps.proofs.telling.push_about.Given as goal
 

@@ -1,10 +1,11 @@
 use Rattle.std.proofs.Common.{ℕ, ◌<◌, Vec, Global, All, sym, subst, ap, ◌∙◌}
 use Rattle.tl_check_inside.specs.Keeping.Listed.{passing}
 use Rattle.tl_check_inside.specs.Keeping.Sums.{sums_differ}
-use Rattle.tl_check_inside.proofs.Passing.{passed_on, passed_by, pushed, at_end}
+use Rattle.tl_check_inside.proofs.Passing.{passed_on, passed_by, pushed}
 use Rattle.tl_check_inside.proofs.Placing.{sums_apart, sums_together}
 use Rattle.tl_check_inside.proofs.landmarks.unbalanced_landmarks.Goals.{then-sum_of+else-is_err, else-sum_of}
 use Rattle.tl_check_inside.proofs.landmarks.unbalanced_landmarks.Goals as goal
+use Rattle.tl_tree_index.proofs.Splitting.{at_end}
 
 pub loop-l-init : goal.loop-l-init
 loop-l-init c = c.new-listed.ensures.items

@@ -19,7 +19,7 @@ pub list_crossed-requires-clause-fits : goal.list_crossed-requires-clause-fits
 list_crossed-requires-clause-fits g c = c.requires.fits
 
 pub list_crossed-requires-clause-reach : goal.list_crossed-requires-clause-reach
-list_crossed-requires-clause-reach g c = c.look_at_points.ensures
+list_crossed-requires-clause-reach g c = c.has_points_in_reach.ensures
 
 pub returns-in_err-list_crossed : goal.returns-in_err-list_crossed
 returns-in_err-list_crossed g c = let p = err_from_is_err_and c.from_residual-in_err-list_crossed.result c.from_residual-in_err-list_crossed.ensures.1 in rw p.1 tt

@@ -27,7 +27,7 @@ pub returns-in_err-far : goal.returns-in_err-far
 returns-in_err-far g c = let p = err_from_is_err_and c.from_residual-in_err-far.result c.from_residual-in_err-far.ensures.1 in rw p.1 tt
 
 pub find_in_order-requires-clause-reach : goal.find_in_order-requires-clause-reach
-find_in_order-requires-clause-reach g c = c.look_at_points.ensures
+find_in_order-requires-clause-reach g c = c.has_points_in_reach.ensures
 
 pub find_in_order-requires-clause-clear : goal.find_in_order-requires-clause-clear
 find_in_order-requires-clause-clear g c = record {

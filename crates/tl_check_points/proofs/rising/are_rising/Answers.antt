@@ -1,6 +1,6 @@
 use Rattle.std.proofs.Common.{sym, subst, ◌∙◌, arith}
 use Rattle.std.proofs.lemmas.List.{take_all}
-use Rattle.tl_check_active.specs.Events.{joined, AreRising}
+use Rattle.tl_check_active.specs.Events.{joined, AreEventsRising}
 use Rattle.tl_check_planar.proofs.ByHeight.Rising.{le_of}
 use Rattle.tl_check_points.proofs.Upward.{first_rising, one_rising, none_rising}
 use Rattle.tl_check_points.proofs.rising.are_rising.Goals as goal
@@ -18,4 +18,4 @@ returns-then-count-eq0 c = λ h. none_rising c.args.events.now (omega (arith, c.
 
 pub returns : goal.returns
 returns c = λ h.
-    subst (λ es. AreRising (joined es)) (take_all c.loop-k.k c.args.events.now (omega (arith, c.loop-k-test.false, c.len-count.ensures))) c.loop-k.invariant.rising
+    subst (λ es. AreEventsRising (joined es)) (take_all c.loop-k.k c.args.events.now (omega (arith, c.loop-k-test.false, c.len-count.ensures))) c.loop-k.invariant.rising

@@ -1,6 +1,6 @@
 use Rattle.std.proofs.Common.{length, subst}
 use Rattle.tl_map_county.specs.Sides.{IsSideAmong}
-use Rattle.tl_check_blocks.proofs.Answered.{still_ok}
+use Rattle.tl_check_active.proofs.BlocksLemmas.Answered.{still_ok}
 use Rattle.tl_check_points.proofs.short.settle.Goals as goal
 
 pub returns-then-come-gone-clause-among : goal.returns-then-come-gone-clause-among

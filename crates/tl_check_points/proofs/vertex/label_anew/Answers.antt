@@ -1,5 +1,5 @@
 use Rattle.std.proofs.Common.{◌≡◌, ◌++◌, length, append_assoc, sym, ap, subst, ◌∙◌}
-use Rattle.tl_check_blocks.specs.Lined.{list_of}
+use Rattle.tl_check_active.specs.Blocks.Lined.{list_of}
 use Rattle.tl_check_gaps.specs.Keeping.Facing.{raised}
 use Rattle.tl_check_inside.specs.Keeping.Tallies.{flanks_in}
 use Rattle.tl_check_points.specs.Keeping.Ways.{TellGap}

@@ -1,5 +1,5 @@
 use Rattle.std.proofs.Common.{◌≡◌, ◌∷◌, [], ◌++◌, get_or, length, append_assoc, sym, ap, subst, ◌∙◌, arith}
-use Rattle.tl_check_blocks.specs.Lined.{list_of}
+use Rattle.tl_check_active.specs.Blocks.Lined.{list_of}
 use Rattle.tl_check_active.proofs.Lining.{single}
 use Rattle.tl_check_gaps.specs.Keeping.Facing.{raised}
 use Rattle.tl_check_points.specs.Keeping.Labels.{AreLabelled, IsOnce}

@@ -5,7 +5,7 @@ use Rattle.std.proofs.lemmas.Option.{slice_get-get_or}
 use Rattle.tl_check_planar.specs.Keeping.Apart.{one_found}
 use Rattle.tl_check_planar.specs.ByHeight.Heights.{widest}
 use Rattle.tl_check_planar.specs.ByHeight.Neighbours.{AreTested, EachTwo}
-use Rattle.tl_check_blocks.specs.Lined.{last_of}
+use Rattle.tl_check_active.specs.Blocks.Lined.{last_of}
 use Rattle.tl_check_active.proofs.Lining.{pushed}
 use Rattle.tl_check_sweep.specs.Keeping.Exact.{MayFollow}
 use Rattle.tl_check_sweep.proofs.Putting.{last_pushed, two_at}

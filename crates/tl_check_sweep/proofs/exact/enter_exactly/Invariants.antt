@@ -3,7 +3,7 @@ use Rattle.std.specs.Prelude.{slice_get}
 use Rattle.tl_map_county.specs.TheMap.{MapChain}
 use Rattle.tl_check_planar.specs.ByHeight.Heights.{widest}
 use Rattle.tl_check_planar.specs.ByHeight.Neighbours.{AreTested, EachTwo}
-use Rattle.tl_check_blocks.specs.Lined.{TheLine, last_of}
+use Rattle.tl_check_active.specs.Blocks.Lined.{TheLine, last_of}
 use Rattle.tl_check_sweep.specs.Keeping.Exact.{MayFollow}
 use Rattle.tl_check_sweep.proofs.exact.enter_exactly.Given as goal
 

@@ -1,6 +1,6 @@
 use Rattle.std.proofs.Common.{take, drop, sym, ap, ◌∙◌}
 use Rattle.std.specs.Prelude.{slice_get}
-use Rattle.tl_check_blocks.specs.Lined.{last_of}
+use Rattle.tl_check_active.specs.Blocks.Lined.{last_of}
 use Rattle.tl_check_sweep.proofs.exact.go_exactly.Goals as goal
 
 pub returns-clause-stands : goal.returns-clause-stands

@@ -1,4 +1,4 @@
-use Rattle.std.proofs.Common.{◌≡◌, inl, inr, ◌<◌, ℤ, pos, ◌<ℤ◌, ◌≤ℤ◌, get_or, length, subst, ◌∙◌, arith}
+use Rattle.std.proofs.Common.{◌≡◌, inl, inr, ◌<◌, pos, ◌<ℤ◌, ◌≤ℤ◌, get_or, length, subst, ◌∙◌, arith}
 use Rattle.std.proofs.lemmas.Int.{ints}
 use Rattle.std.proofs.lemmas.Option.{slice_get-get_or}
 use Rattle.tl_geom.specs.declared.point.Point.{Point}

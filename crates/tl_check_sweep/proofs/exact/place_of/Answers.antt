@@ -5,7 +5,7 @@ use Rattle.tl_check_planar.specs.ByHeight.Heights.{widest}
 use Rattle.tl_check_planar.specs.Keeping.Apart.{one_found}
 use Rattle.tl_check_gaps.specs.Beside.{IsEastOf}
 use Rattle.tl_check_sweep.specs.Keeping.Exact.{IsNotEastOf}
-use Rattle.tl_check_blocks.specs.Lined.{last_of}
+use Rattle.tl_check_active.specs.Blocks.Lined.{last_of}
 use Rattle.tl_check_sweep.proofs.Putting.{last_taken, drop_at, drop_past}
 use Rattle.tl_check_sweep.proofs.exact.place_of.Goals as goal
 

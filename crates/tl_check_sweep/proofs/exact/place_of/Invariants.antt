@@ -1,6 +1,6 @@
 use Rattle.std.proofs.Common.{◌≡◌, ℕ, Some, take}
 use Rattle.tl_check_planar.specs.ByHeight.Heights.{widest}
-use Rattle.tl_check_blocks.specs.Lined.{last_of}
+use Rattle.tl_check_active.specs.Blocks.Lined.{last_of}
 use Rattle.tl_check_gaps.specs.Beside.{IsEastOf}
 use Rattle.tl_check_sweep.proofs.exact.place_of.Given as goal
 

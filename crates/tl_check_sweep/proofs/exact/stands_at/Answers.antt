@@ -1,1 +1,0 @@
-use Rattle.tl_check_sweep.proofs.exact.stands_at.Goals as goal

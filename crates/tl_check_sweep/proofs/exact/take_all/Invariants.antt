@@ -1,5 +1,5 @@
 use Rattle.std.proofs.Common.{◌≡◌, ◌++◌, length}
-use Rattle.tl_check_blocks.specs.Lined.{list_of}
+use Rattle.tl_check_active.specs.Blocks.Lined.{list_of}
 use Rattle.tl_check_sweep.proofs.exact.take_all.Given as goal
 
 -- what is listed and what is left on the list is all

@@ -2,7 +2,7 @@ use Rattle.std.proofs.Common.{◌≡◌, ◌++◌, List, ℕ, length}
 use Rattle.std.specs.Prelude.{All}
 use Rattle.tl_geom.specs.declared.point.Point.{Point}
 use Rattle.tl_map_county.specs.TheMap.{MapChain}
-use Rattle.tl_check_blocks.specs.Lined.{TheLine}
+use Rattle.tl_check_active.specs.Blocks.Lined.{TheLine}
 use Rattle.tl_check_sweep.specs.Keeping.Exact.{EndsAt}
 use Rattle.tl_check_sweep.proofs.exact.take_ended.Given as goal
 

@@ -2,12 +2,12 @@ use Rattle.std.proofs.Common.{◌∙◌, ◌++◌, ◌∷◌, [], ap, inl, subst
 use Rattle.std.specs.Prelude.{IfSome}
 use Rattle.tl_record.specs.declared.refusal.Refusal.{Refusal}
 use Rattle.tl_record.specs.declared.stop.Cause.{Cause}
-use Rattle.tl_list_records.specs.Refusals.Listing.{ListsAll}
+use Rattle.tl_map_rules.specs.Listing.Refusals.Listing.{ListsAll}
 use Rattle.tl_record.specs.NextLine.{front_of}
 use Rattle.tl_record.specs.Reader.{lines_of, judged_of, standing_of, layout_of, pending_of, unjudged}
 use Rattle.tl_record.specs.Fronts.{lines_ahead}
 use Rattle.tl_list.specs.Keeping.Noting.{bytes_of}
-use Rattle.tl_list_records.proofs.RefusalsLemmas.ListLemmas.{lists_more}
+use Rattle.tl_map_rules.proofs.ListingLemmas.RefusalsLemmas.ListLemmas.{lists_more}
 use Rattle.tl_map.proofs.GatherLemmas.{none_failed}
 use Rattle.tl_list.proofs.MayTaking.{may_more, may_passed}
 use Rattle.tl_list.proofs.NotedLemmas.{first_refusals, fronts_more, fronts_end, ahead_on, ahead_stop, ahead_passed}

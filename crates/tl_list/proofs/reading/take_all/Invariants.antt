@@ -4,7 +4,7 @@ use Rattle.tl_record.specs.declared.reader.Standing.TheVariants.{Reading, Ended}
 use Rattle.tl_record.specs.Reader.{source_of, lines_of, skipped_of, standing_of, refusals_to_come, unjudged}
 use Rattle.tl_record.specs.Leaving.{left_to_come}
 use Rattle.tl_record.specs.Fronts.{PassesLines, WhereOn, lines_ahead}
-use Rattle.tl_list_records.specs.Refusals.Listing.{ListsSoFar}
+use Rattle.tl_map_rules.specs.Listing.Refusals.Listing.{ListsSoFar}
 use Rattle.tl_list.specs.Keeping.Noting.{NotesFronts}
 use Rattle.tl_list.specs.Keeping.Reading.{MaySoFar}
 use Rattle.tl_list.proofs.reading.take_all.Given as goal

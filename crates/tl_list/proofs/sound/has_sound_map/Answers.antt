@@ -1,6 +1,7 @@
 use Rattle.std.proofs.Common.{IsTrue, refl, sym, subst, ◌↔◌, ◌∙◌, ap}
 use Rattle.tl_check_verdict.specs.Sound.{IsSound}
-use Rattle.tl_list_map.specs.MapListings.{IsListingFor, begins_with_faces}
+use Rattle.tl_list.specs.MapListings.{IsListingFor}
+use Rattle.tl_decide.specs.Deciding.{begins_with_faces}
 use Rattle.tl_list.proofs.Sounding.{decided_by_first}
 use Rattle.tl_list.proofs.sound.has_sound_map.Goals as goal
 

@@ -1,10 +1,11 @@
 use Rattle.std.proofs.Common.{◌≤◌, ap, length, refl, arith}
 use Rattle.std.proofs.lemmas.List.Sorted.{length_permutation}
 use Rattle.tl_map_county.specs.declared.limits.TheConstants.{CHAIN_LIMIT}
-use Rattle.tl_list_records.proofs.PartLemmas.{chains_long}
+use Rattle.tl_map_rules.proofs.ListingLemmas.PartLemmas.{chains_long}
 use Rattle.tl_map.specs.Keeping.Built.{AreSound}
-use Rattle.tl_map.proofs.CollectLemmas.{sorted_entries, AreShapeEntries-permutation, all_inside, leaves_moved, leaves_all, where_left}
-use Rattle.tl_map.proofs.ChainLemmas.{built, stops_joining}
+use Rattle.tl_map.proofs.CollectLemmas.{sorted_entries, AreShapeEntries-permutation, all_inside, leaves_moved, leaves_all}
+use Rattle.tl_map.proofs.ChainLemmas.{built}
+use Rattle.tl_map.proofs.UnbuiltLemmas.{where_faulty}
 use Rattle.tl_map.proofs.build.build_chains.Goals as goal
 
 pub returns-then-len-clause-built : goal.returns-then-len-clause-built
@@ -13,21 +14,21 @@ returns-then-len-clause-built c = λ rs h. omega (arith, c.len.ensures, c.if-len
 pub returns-then-len-clause-left : goal.returns-then-len-clause-left
 returns-then-len-clause-left c = λ rs h. leaves_all rs c.args.collected.now h
 
-pub first_fault-requires-clause-chains : goal.first_fault-requires-clause-chains
-first_fault-requires-clause-chains c = rw c.deref.ensures.value c.in_ok-sort_chains.ensures.ordered
+pub are_sound-requires-clause-chains : goal.are_sound-requires-clause-chains
+are_sound-requires-clause-chains c = rw c.deref.ensures.value c.in_ok-sort_chains.ensures.ordered
 
-pub first_fault-requires-clause-shapes : goal.first_fault-requires-clause-shapes
-first_fault-requires-clause-shapes c = rw c.deref-2.ensures.value c.in_ok-sort_shapes.ensures.ordered
+pub are_sound-requires-clause-shapes : goal.are_sound-requires-clause-shapes
+are_sound-requires-clause-shapes c = rw c.deref-2.ensures.value c.in_ok-sort_shapes.ensures.ordered
 
-pub returns-in-Some-clause-built : goal.returns-in-Some-clause-built
-returns-in-Some-clause-built c = λ rs h.
+pub returns-then-not-are_sound-clause-built : goal.returns-then-not-are_sound-clause-built
+returns-then-not-are_sound-clause-built c = λ rs h.
     let old = c.args.collected.now in
     let chains = sorted_entries rs old.chains.items c.sort_chains.new.chains.items h.chains c.in_ok-sort_chains.ensures.moved in
     let shapes = AreShapeEntries-permutation rs old.pool.items old.shapes.items c.sort_shapes.new.shapes.items c.in_ok-sort_shapes.ensures.moved h.shapes in
-    c.in-Some.ensures.found rs old.pool.items (rw c.deref.ensures.value chains) (rw c.deref-2.ensures.value shapes)
+    c.if-not-are_sound.ensures rs old.pool.items (rw c.deref.ensures.value chains) (rw c.deref-2.ensures.value shapes)
 
-pub returns-in-Some-clause-left : goal.returns-in-Some-clause-left
-returns-in-Some-clause-left c = λ rs h. leaves_moved rs c.args.collected.now _ h c.in_ok-sort_chains.ensures.moved c.in_ok-sort_shapes.ensures.moved refl
+pub returns-then-not-are_sound-clause-left : goal.returns-then-not-are_sound-clause-left
+returns-then-not-are_sound-clause-left c = λ rs h. leaves_moved rs c.args.collected.now _ h c.in_ok-sort_chains.ensures.moved c.in_ok-sort_shapes.ensures.moved refl
 
 pub join-requires-clause-room : goal.join-requires-clause-room
 join-requires-clause-room c =
@@ -40,7 +41,7 @@ join-requires-clause-rising c =
     let old = c.args.collected.now in
     let chains = sorted_entries rs old.chains.items c.sort_chains.new.chains.items h.chains c.in_ok-sort_chains.ensures.moved in
     let shapes = AreShapeEntries-permutation rs old.pool.items old.shapes.items c.sort_shapes.new.shapes.items c.in_ok-sort_shapes.ensures.moved h.shapes in
-    let sound : AreSound rs c.sort_chains.new.chains.items c.sort_shapes.new.shapes.items = rw (c.deref.ensures.value, c.deref-2.ensures.value) at (c.in_default.ensures.found rs old.pool.items (rw c.deref.ensures.value chains) (rw c.deref-2.ensures.value shapes)) in
+    let sound : AreSound rs c.sort_chains.new.chains.items c.sort_shapes.new.shapes.items = rw (c.deref.ensures.value, c.deref-2.ensures.value) at (c.if-not-are_sound.ensures rs old.pool.items (rw c.deref.ensures.value chains) (rw c.deref-2.ensures.value shapes)) in
     rw c.deref-3.ensures.value sound.rising
 
 pub join-requires-clause-ordered : goal.join-requires-clause-ordered
@@ -61,7 +62,7 @@ join-requires-clause-known c =
     let old = c.args.collected.now in
     let chains = sorted_entries rs old.chains.items c.sort_chains.new.chains.items h.chains c.in_ok-sort_chains.ensures.moved in
     let shapes = AreShapeEntries-permutation rs old.pool.items old.shapes.items c.sort_shapes.new.shapes.items c.in_ok-sort_shapes.ensures.moved h.shapes in
-    let sound : AreSound rs c.sort_chains.new.chains.items c.sort_shapes.new.shapes.items = rw (c.deref.ensures.value, c.deref-2.ensures.value) at (c.in_default.ensures.found rs old.pool.items (rw c.deref.ensures.value chains) (rw c.deref-2.ensures.value shapes)) in
+    let sound : AreSound rs c.sort_chains.new.chains.items c.sort_shapes.new.shapes.items = rw (c.deref.ensures.value, c.deref-2.ensures.value) at (c.if-not-are_sound.ensures rs old.pool.items (rw c.deref.ensures.value chains) (rw c.deref-2.ensures.value shapes)) in
     rw (c.deref-3.ensures.value, c.deref-4.ensures.value) sound.known
 
 pub returns-clause-built : goal.returns-clause-built
@@ -69,7 +70,7 @@ returns-clause-built c = λ rs h.
     let old = c.args.collected.now in
     let chains = sorted_entries rs old.chains.items c.sort_chains.new.chains.items h.chains c.in_ok-sort_chains.ensures.moved in
     let shapes = AreShapeEntries-permutation rs old.pool.items old.shapes.items c.sort_shapes.new.shapes.items c.in_ok-sort_shapes.ensures.moved h.shapes in
-    let sound : AreSound rs c.sort_chains.new.chains.items c.sort_shapes.new.shapes.items = rw (c.deref.ensures.value, c.deref-2.ensures.value) at (c.in_default.ensures.found rs old.pool.items (rw c.deref.ensures.value chains) (rw c.deref-2.ensures.value shapes)) in
+    let sound : AreSound rs c.sort_chains.new.chains.items c.sort_shapes.new.shapes.items = rw (c.deref.ensures.value, c.deref-2.ensures.value) at (c.if-not-are_sound.ensures rs old.pool.items (rw c.deref.ensures.value chains) (rw c.deref-2.ensures.value shapes)) in
     let room : length c.sort_chains.new.chains.items ≤ CHAIN_LIMIT = omega (arith, c.len.ensures, c.if-len.false, old.chains.ok.0, length_permutation old.chains.items c.sort_chains.new.chains.items c.in_ok-sort_chains.ensures.moved) in
     built rs c.deref-5.result.now c.deref-3.result.now c.deref-4.result.now c.args.skipped c.join.result
     (rw c.deref-3.ensures.value chains) (rw (c.deref-4.ensures.value, c.deref-5.ensures.value) shapes)
@@ -78,7 +79,4 @@ returns-clause-built c = λ rs h.
 
 pub returns-clause-left : goal.returns-clause-left
 returns-clause-left c = λ rs h.
-    where_left c.join.result (leaves_moved rs c.args.collected.now _ h c.in_ok-sort_chains.ensures.moved c.in_ok-sort_shapes.ensures.moved refl)
-
-pub returns-clause-of_chains : goal.returns-clause-of_chains
-returns-clause-of_chains c = stops_joining _ _ c.join.result c.join.ensures
+    where_faulty c.join.result (leaves_moved rs c.args.collected.now _ h c.in_ok-sort_chains.ensures.moved c.in_ok-sort_shapes.ensures.moved refl)

@@ -5,7 +5,8 @@ use Rattle.tl_map_rules.specs.MapOf.{keys}
 use Rattle.tl_map.proofs.OnceLemmas.{rows_once}
 use Rattle.tl_map.proofs.SideLemmas.{all_among}
 use Rattle.tl_map.proofs.MappedLemmas.{linked_all, as_many, few_rows}
-use Rattle.tl_map.proofs.LeftLemmas.{leaves_same, some_told, fault_true}
+use Rattle.tl_map.proofs.LeftLemmas.{leaves_same, some_told}
+use Rattle.tl_map.proofs.UnbuiltLemmas.{faulty}
 use Rattle.tl_map.proofs.build_map.build_on_chains.Goals as goal
 
 pub link_areas-requires-clause-kept : goal.link_areas-requires-clause-kept
@@ -45,8 +46,8 @@ returns-in-Ok c = λ rs skipped built keeps.
     rw (c.in_ok-map-in-Ok.ensures, c.in-Ok.ensures.same.polygons)
     (linked_all rs skipped c.args.chains c.args.areas c.in-Ok.sides c.in-Ok.linked built keeps c.requires.few (c.in-Ok.ensures.linked rs skipped built keeps))
 
-pub returns-in-Err-Fault : goal.returns-in-Err-Fault
-returns-in-Err-Fault c = λ rs skipped built keeps.
-    let all = c.in_ok-faults-in-Err-Fault.ensures rs skipped built (leaves_same rs c.args.areas c.link_areas.new.areas keeps c.in-Err-Fault.ensures.same) in
-    let why = fault_true rs c.in-Err-Fault.field-0 c.in-Err-Fault.field-0-0 c.in-Err-Fault.field-0-is (c.in-Err-Fault.ensures.linked rs skipped built keeps) in
-    (all, some_told rs c.in_ok-faults-in-Err-Fault.faults.items c.in-Err-Fault.field-0-0 all why)
+pub returns-in-Err-Faulty : goal.returns-in-Err-Faulty
+returns-in-Err-Faulty c = λ rs skipped built keeps.
+    let all = c.in_ok-faults-in-Err-Faulty.ensures rs skipped built (leaves_same rs c.args.areas c.link_areas.new.areas keeps c.in-Err-Faulty.ensures.same) in
+    let why = faulty _ c.in-Err-Faulty.field-0 c.in-Err-Faulty.field-0-is (c.in-Err-Faulty.ensures.linked rs skipped built keeps) in
+    (all, some_told rs c.in_ok-faults-in-Err-Faulty.faults.items all why)

@@ -1,7 +1,7 @@
 use Rattle.std.proofs.Common.{◌≡◌, ◌++◌, ◌∷◌, List, drop}
 use Rattle.std.specs.List.{flat_map}
 use Rattle.tl_geom.specs.declared.point.Point.{Point}
-use Rattle.tl_list_records.specs.Shapes.{entry_points}
+use Rattle.tl_map_rules.specs.Listing.Shapes.{entry_points}
 use Rattle.tl_map.proofs.join.append_chain.Given as goal
 use Rattle.tl_map_rules.specs.Keeping.Pairs.{dedup_after}
 

@@ -1,11 +1,12 @@
-use Rattle.std.proofs.Common.{◌≡◌, ◌∙◌, ◌-◌, ℕ, ap, map, length, get_or, inl, pos, arith, refl}
+use Rattle.std.proofs.Common.{◌≡◌, ◌∙◌, ◌-◌, ℕ, ap, map, length, get_or, pos, arith, refl}
 use Rattle.std.proofs.lemmas.Result.{err_from_is_err_and}
 use Rattle.tl_map_rules.specs.declared.entry.ChainEntry.{ChainEntry}
 use Rattle.std.proofs.lemmas.List.{take_all}
-use Rattle.tl_list_records.specs.Shapes.{IsInside}
+use Rattle.tl_map_rules.specs.Listing.Shapes.{IsInside}
 use Rattle.tl_map.specs.Keeping.Entries.{joined}
 use Rattle.tl_map_county.specs.Chains.{segment_count}
-use Rattle.tl_map.proofs.JoinLemmas.{run_is, above_run, behind_more, ahead_more, ahead_first, drawn_is, joined_more, stops_join, several_more}
+use Rattle.tl_map.proofs.JoinLemmas.{run_is, above_run, behind_more, ahead_more, ahead_first, drawn_is, joined_more, unjoinable, several_more}
+use Rattle.tl_map.proofs.UnbuiltLemmas.{stops_for}
 use Rattle.tl_map.proofs.ListedLemmas.{part_inside}
 use Rattle.tl_map_county.proofs.TableLemmas.{IsTable-nil}
 use Rattle.tl_map.proofs.join.join.Goals as goal
@@ -36,7 +37,7 @@ returns-in_err-add_chain c =
     let run = run_is shapes s e t c.run_end-end.ensures.from c.run_end-end.ensures.within c.requires.ordered (λ k d lt. c.loop-chain.invariant.behind k i d x lt (omega arith) c.loop-chain-test.true) c.run_end-end.ensures.same above in
     let drawn = drawn_is c.args.pool.now shapes chain _ run in
     let p = err_from_is_err_and c.from_residual-in_err-add_chain.result c.from_residual-in_err-add_chain.ensures.1 in
-    rw (p.1, p.2) (stops_join (joined c.args.pool.now shapes) chains i x _ _ c.in_err-add_chain.field-0.0 c.loop-chain-test.true c.loop-chain.invariant.are drawn c.in_err-add_chain.ensures)
+    rw (p.1, p.2) (stops_for _ _ c.in_err-add_chain.field-0.0 (unjoinable (joined c.args.pool.now shapes) chains i x _ _ c.loop-chain-test.true c.loop-chain.invariant.are drawn) c.in_err-add_chain.ensures)
 
 pub loop-chain-preserved : goal.loop-chain-preserved
 loop-chain-preserved c =
@@ -73,12 +74,12 @@ add_chain-requires c = record {
 pub returns-in_err-points : goal.returns-in_err-points
 returns-in_err-points c =
     let p = err_from_is_err_and c.from_residual.result c.from_residual.ensures.1 in
-    rw (p.1, p.2) (inl refl)
+    rw (p.1, p.2) tt
 
 pub returns-in_err-rows : goal.returns-in_err-rows
 returns-in_err-rows c =
     let p = err_from_is_err_and c.from_residual-in_err-rows.result c.from_residual-in_err-rows.ensures.1 in
-    rw (p.1, p.2) (inl refl)
+    rw (p.1, p.2) tt
 
 pub run_end-end-requires : goal.run_end-end-requires
 run_end-end-requires c = c.loop-chain.invariant.within

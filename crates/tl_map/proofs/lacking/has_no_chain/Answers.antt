@@ -1,6 +1,6 @@
 use Rattle.std.proofs.Common.{◌≡◌, ℕ, nat_eq, ap, length, arith}
 use Rattle.tl_map_rules.specs.ChainsOf.{chain_count}
-use Rattle.tl_list_records.proofs.PartLemmas.{chains_long}
+use Rattle.tl_map_rules.proofs.ListingLemmas.PartLemmas.{chains_long}
 use Rattle.tl_map.proofs.lacking.has_no_chain.Goals as goal
 
 pub returns : goal.returns

@@ -1,5 +1,5 @@
 use Rattle.std.proofs.lemmas.Result.{err_from_is_err_and}
-use Rattle.std.proofs.Common.{◌∙◌, sym, refl, inl, inr, arith}
+use Rattle.std.proofs.Common.{◌∙◌, sym, refl, arith}
 use Rattle.std.specs.Prelude.{nat_eq}
 use Rattle.indexmap.specs.IndexMap.{get}
 use Rattle.indexmap.proofs.CallerLemmas.{insert_entry-new}
@@ -14,7 +14,7 @@ loop-entry-init c = record { listing = listing_none c.args.entries.now _ c.with_
 pub returns-then-len-clause-stops : goal.returns-then-len-clause-stops
 returns-then-len-clause-stops c =
     let none = none_told (get nat_eq c.loop-entry.firsts _) (sym c.contains_key.ensures ∙ c.if-not-contains_key.true) in
-    inr (refl, too_many c.args.entries.now c.loop-entry.entry-index _ c.loop-entry.firsts.entries c.loop-entry-test.true none (omega (arith, c.len.ensures.len, c.if-len.true)) c.loop-entry.invariant.listing)
+    too_many c.args.entries.now c.loop-entry.entry-index _ c.loop-entry.firsts.entries c.loop-entry-test.true none (omega (arith, c.len.ensures.len, c.if-len.true)) c.loop-entry.invariant.listing
 
 pub loop-entry-preserved : goal.loop-entry-preserved
 loop-entry-preserved c = elim c.if-not-contains_key.branch [
@@ -43,7 +43,7 @@ returns-in_err-insert-clause-ok c =
 pub returns-in_err-insert-clause-stops : goal.returns-in_err-insert-clause-stops
 returns-in_err-insert-clause-stops c =
     let p = err_from_is_err_and c.from_residual.result c.from_residual.ensures.1 in
-    rw (p.1, p.2) (inl refl)
+    rw (p.1, p.2) tt
 
 pub returns-clause-stops : goal.returns-clause-stops
 returns-clause-stops c = tt

@@ -1,4 +1,3 @@
-use Rattle.std.proofs.Common.{inl, refl}
 use Rattle.std.proofs.lemmas.Result.{err_from_is_err_and}
 use Rattle.tl_map.proofs.landmarks.link_indexed.Goals as goal
 
@@ -13,7 +12,7 @@ returns-in_err-rows c =
 pub returns-in_err-points : goal.returns-in_err-points
 returns-in_err-points c =
     let p = err_from_is_err_and c.from_residual-in_err-points.result c.from_residual-in_err-points.ensures.1 in
-    rw (p.1, p.2) (inl refl)
+    rw (p.1, p.2) tt
 
 pub returns : goal.returns
 returns c = (c.in_ok-points.ensures, c.in_ok-rows.ensures)

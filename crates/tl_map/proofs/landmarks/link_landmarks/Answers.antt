@@ -1,4 +1,4 @@
-use Rattle.std.proofs.Common.{◌≡◌, inl, refl, length, eqb-true, arith}
+use Rattle.std.proofs.Common.{◌≡◌, length, eqb-true, arith}
 use Rattle.std.specs.Prelude.{nat_eq}
 use Rattle.std.proofs.lemmas.List.{length-map}
 use Rattle.std.specs.Cmp.{nat_eq_equiv}
@@ -25,7 +25,7 @@ returns-in_err-made c =
 pub returns-in_err-sort_links : goal.returns-in_err-sort_links
 returns-in_err-sort_links c =
     let p = err_from_is_err_and c.from_residual-in_err-sort_links.result c.from_residual-in_err-sort_links.ensures.1 in
-    rw (p.1, p.2) (inl refl)
+    rw (p.1, p.2) tt
 
 pub list_linked-requires-clause-rising : goal.list_linked-requires-clause-rising
 list_linked-requires-clause-rising c = rw c.deref.ensures.value c.in_ok-sort_links.ensures.rising
@@ -41,7 +41,7 @@ list_linked-requires-clause-inside c =
 pub returns-in_err-rows : goal.returns-in_err-rows
 returns-in_err-rows c =
     let p = err_from_is_err_and c.from_residual-in_err-rows.result c.from_residual-in_err-rows.ensures.1 in
-    rw (p.1, p.2) (inl refl)
+    rw (p.1, p.2) tt
 
 pub returns : goal.returns
 returns c =

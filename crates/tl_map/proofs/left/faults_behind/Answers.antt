@@ -1,6 +1,7 @@
 use Rattle.std.proofs.lemmas.Result.{err_from_is_err_and}
-use Rattle.tl_map.proofs.LeftLemmas.{tlids_often, rises}
+use Rattle.tl_map.proofs.LeftLemmas.{tlids_often}
 use Rattle.tl_map.proofs.left.faults_behind.Goals as goal
+use Rattle.tl_map_rules.proofs.ListingLemmas.LimitLemmas.{rises}
 
 pub returns : goal.returns
 returns c = λ rs skipped built k.

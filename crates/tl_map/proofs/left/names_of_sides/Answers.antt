@@ -4,8 +4,8 @@ use Rattle.std.proofs.lemmas.List.{take_all, take_more, append-nil, append_assoc
 use Rattle.std.proofs.lemmas.List.Concat.{flat_map-append}
 use Rattle.std.proofs.lemmas.Result.{err_from_is_err_and}
 use Rattle.tl_map_rules.specs.declared.entry.SidesEntry.{SidesEntry}
-use Rattle.tl_list_records.specs.declared.kept.NamedSide.{NamedSide}
-use Rattle.tl_list_records.specs.Kept.{named, names_of}
+use Rattle.tl_map_rules.specs.declared.listing.kept.NamedSide.{NamedSide}
+use Rattle.tl_map_rules.specs.Listing.Kept.{named, names_of}
 use Rattle.tl_map.proofs.PairLemmas.{no_sides}
 use Rattle.tl_map.proofs.left.names_of_sides.Goals as goal
 

@@ -1,5 +1,5 @@
 use Rattle.std.proofs.lemmas.Result.{err_from_is_err_and}
-use Rattle.std.proofs.Common.{◌≡◌, ◌∙◌, None, ◌++◌, ◌∷◌, [], pos, get_or, map, sym, ap, inl, inr, refl}
+use Rattle.std.proofs.Common.{◌≡◌, ◌∙◌, None, ◌++◌, ◌∷◌, [], pos, get_or, map, sym, ap}
 use Rattle.std.specs.Map.{lookup}
 use Rattle.std.proofs.lemmas.List.{map_more, take_all}
 use Rattle.indexmap.specs.IndexMap.{get}
@@ -14,7 +14,7 @@ use Rattle.tl_map.proofs.polygons.index_polygons.Goals as goal
 pub returns-then-is_some-clause-stops : goal.returns-then-is_some-clause-stops
 returns-then-is_some-clause-stops c =
     let at = slice_get-image (λ (p : Polygon). p.key) c.args.polygons.now c.loop-polygon.polygon-index _ c.loop-polygon-test.true in
-    inr (_, refl, twice_told c.args.polygons.now c.loop-polygon.polygon-index _ c.in_ok-insert.field-0 at (c.in_ok-insert.ensures.old ∙ ap (lookup (same_key _)) c.loop-polygon.invariant.entries) (sym c.is_some.ensures ∙ c.if-is_some.true))
+    (_, twice_told c.args.polygons.now c.loop-polygon.polygon-index _ c.in_ok-insert.field-0 at (c.in_ok-insert.ensures.old ∙ ap (lookup (same_key _)) c.loop-polygon.invariant.entries) (sym c.is_some.ensures ∙ c.if-is_some.true))
 
 pub loop-polygon-preserved : goal.loop-polygon-preserved
 loop-polygon-preserved c =
@@ -43,7 +43,7 @@ returns-in_err-index-clause-unique c =
 pub returns-in_err-index-clause-stops : goal.returns-in_err-index-clause-stops
 returns-in_err-index-clause-stops c =
     let p = err_from_is_err_and c.from_residual.result c.from_residual.ensures.1 in
-    rw (p.1, p.2) (inl refl)
+    rw (p.1, p.2) tt
 
 pub returns-in_err-insert-clause-entries : goal.returns-in_err-insert-clause-entries
 returns-in_err-insert-clause-entries c =
@@ -58,7 +58,7 @@ returns-in_err-insert-clause-unique c =
 pub returns-in_err-insert-clause-stops : goal.returns-in_err-insert-clause-stops
 returns-in_err-insert-clause-stops c =
     let p = err_from_is_err_and c.from_residual-in_err-insert.result c.from_residual-in_err-insert.ensures.1 in
-    rw (p.1, p.2) (inl refl)
+    rw (p.1, p.2) tt
 
 pub returns-then-is_some-clause-entries : goal.returns-then-is_some-clause-entries
 returns-then-is_some-clause-entries c = tt

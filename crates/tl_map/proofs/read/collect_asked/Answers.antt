@@ -1,5 +1,5 @@
 use Rattle.tl_record.specs.Reader.{outcome}
-use Rattle.tl_map.proofs.JoinedLemmas.{told_joined}
+use Rattle.tl_map.proofs.JoinedReadLemmas.{told_joined}
 use Rattle.tl_map.proofs.read.collect_asked.Goals as goal
 
 pub returns-clause-all : goal.returns-clause-all

@@ -1,5 +1,5 @@
 use Rattle.std.proofs.Common.{◌∙◌}
-use Rattle.tl_map.proofs.JoinedLemmas.{collects_next, collects_whole}
+use Rattle.tl_map.proofs.JoinedReadLemmas.{collects_next, collects_whole}
 use Rattle.tl_map.proofs.read.collect_joined.Goals as goal
 
 pub loop-next-preserved : goal.loop-next-preserved

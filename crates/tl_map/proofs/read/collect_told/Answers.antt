@@ -1,7 +1,7 @@
 use Rattle.std.proofs.lemmas.Result.{err_from_is_err_and}
 use Rattle.std.proofs.Common.{◌∙◌, [], inl, refl}
 use Rattle.tl_record.specs.Reader.{standing_of, outcome}
-use Rattle.tl_map_join.specs.declared.told.ToldRecords.{ToldRecords}
+use Rattle.tl_map.specs.declared.joined.told.ToldRecords.{ToldRecords}
 use Rattle.tl_map.proofs.GatherLemmas.{gathers_told_more, none_failed, so_far_first, known_whole, stop_told, failure_told}
 use Rattle.tl_map.proofs.read.collect_told.Goals as goal
 

@@ -1,5 +1,5 @@
 use Rattle.std.proofs.lemmas.Result.{err_from_is_err_and}
-use Rattle.tl_map.proofs.JoinedLemmas.{of_text, plain_records}
+use Rattle.tl_map.proofs.JoinedReadLemmas.{of_text, plain_records}
 use Rattle.tl_map.proofs.ReadLemmas.{stops_gathered, stops_built, map_read}
 use Rattle.tl_map_rules.specs.Lacking.{lacks}
 use Rattle.std.proofs.Common.{◌≡◌, false, sym, subst, ◌∙◌}

@@ -16,7 +16,7 @@ returns-in-Some-number_of-clause-side c = λ ks h.
 
 pub returns-in-None-number_of-clause-side : goal.returns-in-None-number_of-clause-side
 returns-in-None-number_of-clause-side c = λ ks h.
-    (c.in-Some.polygon, refl, c.in-Some.is, not_known ks c.in-Some.polygon _ h (sym c.number_of.ensures.index ∙ c.in-None-number_of.is))
+    (c.in-Some.polygon, c.in-Some.is, not_known ks c.in-Some.polygon _ h (sym c.number_of.ensures.index ∙ c.in-None-number_of.is))
 
 pub returns-in-Some-number_of-clause-number : goal.returns-in-Some-number_of-clause-number
 returns-in-Some-number_of-clause-number c = omega (arith, rw c.in-Some-number_of.is at c.number_of.ensures.within, c.requires)

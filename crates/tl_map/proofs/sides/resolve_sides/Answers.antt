@@ -1,32 +1,18 @@
 use Rattle.std.proofs.lemmas.Result.{err_from_is_err_and}
-use Rattle.std.proofs.Common.{◌≡◌, ◌∙◌, inl, refl, get_or, map, ap, arith}
+use Rattle.std.proofs.Common.{◌≡◌, ◌∙◌, get_or, map, ap, arith}
 use Rattle.std.proofs.lemmas.List.{take_all}
 use Rattle.tl_map.specs.Keeping.Sided.{sided_by}
-use Rattle.tl_map.proofs.SideLemmas.{stops_left, stops_right, sides_more, known_more}
+use Rattle.tl_map.proofs.SideLemmas.{sides_more, known_more}
 use Rattle.tl_map.proofs.PairLemmas.{no_sides}
 use Rattle.tl_map.proofs.sides.resolve_sides.Goals as goal
-
-pub returns-in_err-left-clause-stops : goal.returns-in_err-left-clause-stops
-returns-in_err-left-clause-stops c = λ ks h.
-    let d = no_sides in
-    let entry : c.get-entry.result ≡ get_or c.args.entries.now c.loop-place.place d = c.get-entry.ensures d in
-    let p = err_from_is_err_and c.from_residual-in_err-left.result c.from_residual-in_err-left.ensures.1 in
-    rw (p.1, p.2) (stops_left ks c.args.entries.now c.loop-place.place d c.in_err-left.field-0.0 (omega (arith, c.loop-place-test.true, c.len-count.ensures)) (rw entry at (c.in_err-left.ensures.side ks h)))
-
-pub returns-in_err-right-clause-stops : goal.returns-in_err-right-clause-stops
-returns-in_err-right-clause-stops c = λ ks h.
-    let d = no_sides in
-    let entry : c.get-entry.result ≡ get_or c.args.entries.now c.loop-place.place d = c.get-entry.ensures d in
-    let p = err_from_is_err_and c.from_residual-in_err-right.result c.from_residual-in_err-right.ensures.1 in
-    rw (p.1, p.2) (stops_right ks c.args.entries.now c.loop-place.place d c.in_err-right.field-0.0 (omega (arith, c.loop-place-test.true, c.len-count.ensures)) (rw entry at (c.in_err-right.ensures.side ks h)))
 
 pub loop-place-preserved : goal.loop-place-preserved
 loop-place-preserved c =
     let d = no_sides in
     let entry : c.get-entry.result ≡ get_or c.args.entries.now c.loop-place.place d = c.get-entry.ensures d in
     record {
-      sides = λ ks h. sides_more ks c.args.entries.now c.loop-place.place d c.loop-place.sides _ c.in_ok-left.left c.in_ok-right.right (omega (arith, c.loop-place-test.true, c.len-count.ensures)) (c.loop-place.invariant.sides ks h) (rw entry at (c.in_ok-left.ensures.side ks h)) (rw entry at (c.in_ok-right.ensures.side ks h)) (rw entry at c.in_ok-push.ensures);
-      known = λ ks h. known_more ks c.args.entries.now c.loop-place.place d c.in_ok-left.left c.in_ok-right.right (omega (arith, c.loop-place-test.true, c.len-count.ensures)) (rw entry at (c.in_ok-left.ensures.side ks h)) (rw entry at (c.in_ok-right.ensures.side ks h)) (c.loop-place.invariant.known ks h);
+      sides = λ ks h. sides_more ks c.args.entries.now c.loop-place.place d c.loop-place.sides _ c.in-Some.left c.in-Some-resolve_side.right (omega (arith, c.loop-place-test.true, c.len-count.ensures)) (c.loop-place.invariant.sides ks h) (rw entry at (c.in-Some.ensures.side ks h)) (rw entry at (c.in-Some-resolve_side.ensures.side ks h)) (rw entry at c.in_ok-push.ensures);
+      known = λ ks h. known_more ks c.args.entries.now c.loop-place.place d c.in-Some.left c.in-Some-resolve_side.right (omega (arith, c.loop-place-test.true, c.len-count.ensures)) (rw entry at (c.in-Some.ensures.side ks h)) (rw entry at (c.in-Some-resolve_side.ensures.side ks h)) (c.loop-place.invariant.known ks h);
     }
 
 pub returns-clause-known : goal.returns-clause-known
@@ -54,7 +40,7 @@ returns-in_err-guesses-clause-known c = λ ks h.
 pub returns-in_err-guesses-clause-stops : goal.returns-in_err-guesses-clause-stops
 returns-in_err-guesses-clause-stops c = λ ks h.
     let p = err_from_is_err_and c.from_residual.result c.from_residual.ensures.1 in
-    rw (p.1, p.2) (inl refl)
+    rw (p.1, p.2) tt
 
 pub returns-in_err-sides-clause-sides : goal.returns-in_err-sides-clause-sides
 returns-in_err-sides-clause-sides c = λ ks h.
@@ -69,7 +55,7 @@ returns-in_err-sides-clause-known c = λ ks h.
 pub returns-in_err-sides-clause-stops : goal.returns-in_err-sides-clause-stops
 returns-in_err-sides-clause-stops c = λ ks h.
     let p = err_from_is_err_and c.from_residual-in_err-sides.result c.from_residual-in_err-sides.ensures.1 in
-    rw (p.1, p.2) (inl refl)
+    rw (p.1, p.2) tt
 
 pub returns-in_err-push-clause-sides : goal.returns-in_err-push-clause-sides
 returns-in_err-push-clause-sides c = λ ks h.
@@ -84,27 +70,7 @@ returns-in_err-push-clause-known c = λ ks h.
 pub returns-in_err-push-clause-stops : goal.returns-in_err-push-clause-stops
 returns-in_err-push-clause-stops c = λ ks h.
     let p = err_from_is_err_and c.from_residual-in_err-push.result c.from_residual-in_err-push.ensures.1 in
-    rw (p.1, p.2) (inl refl)
-
-pub returns-in_err-left-clause-sides : goal.returns-in_err-left-clause-sides
-returns-in_err-left-clause-sides c = λ ks h.
-    let p = err_from_is_err_and c.from_residual-in_err-left.result c.from_residual-in_err-left.ensures.1 in
-    rw p.1 tt
-
-pub returns-in_err-left-clause-known : goal.returns-in_err-left-clause-known
-returns-in_err-left-clause-known c = λ ks h.
-    let p = err_from_is_err_and c.from_residual-in_err-left.result c.from_residual-in_err-left.ensures.1 in
-    rw p.1 tt
-
-pub returns-in_err-right-clause-sides : goal.returns-in_err-right-clause-sides
-returns-in_err-right-clause-sides c = λ ks h.
-    let p = err_from_is_err_and c.from_residual-in_err-right.result c.from_residual-in_err-right.ensures.1 in
-    rw p.1 tt
-
-pub returns-in_err-right-clause-known : goal.returns-in_err-right-clause-known
-returns-in_err-right-clause-known c = λ ks h.
-    let p = err_from_is_err_and c.from_residual-in_err-right.result c.from_residual-in_err-right.ensures.1 in
-    rw p.1 tt
+    rw (p.1, p.2) tt
 
 pub returns-clause-stops : goal.returns-clause-stops
 returns-clause-stops c = λ ks h. tt

@@ -5,14 +5,14 @@ use Rattle.tl_geom.specs.declared.rect.Rect.{Rect}
 use Rattle.tl_tree_index.specs.declared.fault.TreeFault.{TreeFault}
 use Rattle.tl_tree_index.specs.Fits.{AreBelow}
 use Rattle.tl_tree_index.specs.Trees.{node_count}
-use Rattle.tl_tree.specs.Keeping.Checking.{IsChecked, IsFaultBelow, IsTold}
+use Rattle.tl_tree.specs.Keeping.Checking.{IsChecked, IsFaultBelow, IsAnsweredBy}
 use Rattle.tl_tree.specs.Keeping.Walking.{size_of}
 use Rattle.tl_tree.proofs.Checks.{none-checked, checked-items, checked-children, fault-first, fault-others, too-small, checked-both}
 use Rattle.tl_tree.proofs.Walks.{nodes-split, size-above_0}
 use Rattle.tl_tree.proofs.check.+check.Goals as goal
 
 -- what is told of children is told below their root
-told-below : {P Q : Rect → Type 0} {F G : TreeFault → Type 0} (n o k : ℕ) (r : Result Rect TreeFault) → ((hull : Rect) → P hull → Q hull) → ((fault : TreeFault) → F fault → G fault) → IsTold P (n ≡ o + k) F r → IsTold Q (n + 1 ≡ o + (1 + k)) G r
+told-below : {P Q : Rect → Type 0} {F G : TreeFault → Type 0} (n o k : ℕ) (r : Result Rect TreeFault) → ((hull : Rect) → P hull → Q hull) → ((fault : TreeFault) → F fault → G fault) → IsAnsweredBy P (n ≡ o + k) F r → IsAnsweredBy Q (n + 1 ≡ o + (1 + k)) G r
 told-below n o k (Ok hull) p f h = (p hull h.0, omega (arith, h.1))
 told-below n o k (Err fault) p f h = f fault h
 
@@ -42,7 +42,7 @@ check_below-returns-in-Children g t c =
     let b = g.I.Items.bounds_of c.args.items.now in
     let e = ap (λ (u : Below g.row.W.Denot). size_of see u) c.in-Children.is in
     let k = see c.in-Children.children in
-    let Q : ℕ → Type 0 = λ size. IsTold (IsChecked b see c.args.tree.now.below c.args.marks.now c.check_trees.new.marks) (c.check_trees.new.number + 1 ≡ c.args.number.now + size) (IsFaultBelow b c.args.marks.now c.args.number.now see c.args.tree.now.below) c.check_trees.result in
+    let Q : ℕ → Type 0 = λ size. IsAnsweredBy (IsChecked b see c.args.tree.now.below c.args.marks.now c.check_trees.new.marks) (c.check_trees.new.number + 1 ≡ c.args.number.now + size) (IsFaultBelow b c.args.marks.now c.args.number.now see c.args.tree.now.below) c.check_trees.result in
     subst Q (sym e)
     (told-below c.check_trees.new.number c.args.number.now (node_count k) c.check_trees.result
     (λ hull h. checked-children b see c.args.marks.now c.args.tree.now.below c.in-Children.children c.check_trees.new.marks hull c.in-Children.is h)

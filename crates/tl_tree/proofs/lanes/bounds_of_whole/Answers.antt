@@ -3,18 +3,7 @@ use Rattle.tl_geom.specs.EightRectangles.{lane}
 use Rattle.tl_tree_index.specs.Fits.{AreBelow}
 use Rattle.tl_tree.proofs.Steps.{below-at}
 use Rattle.tl_tree.proofs.lanes.bounds_of_whole.Goals as goal
-
--- what is true of each of the first eight numbers
-each : (P : ℕ → Type 0) → P 0 → P 1 → P 2 → P 3 → P 4 → P 5 → P 6 → P 7 → (k : ℕ) → k < 8 → P k
-each P p0 p1 p2 p3 p4 p5 p6 p7 zero l = p0
-each P p0 p1 p2 p3 p4 p5 p6 p7 (suc zero) l = p1
-each P p0 p1 p2 p3 p4 p5 p6 p7 (suc (suc zero)) l = p2
-each P p0 p1 p2 p3 p4 p5 p6 p7 (suc (suc (suc zero))) l = p3
-each P p0 p1 p2 p3 p4 p5 p6 p7 (suc (suc (suc (suc zero)))) l = p4
-each P p0 p1 p2 p3 p4 p5 p6 p7 (suc (suc (suc (suc (suc zero))))) l = p5
-each P p0 p1 p2 p3 p4 p5 p6 p7 (suc (suc (suc (suc (suc (suc zero)))))) l = p6
-each P p0 p1 p2 p3 p4 p5 p6 p7 (suc (suc (suc (suc (suc (suc (suc zero))))))) l = p7
-each P p0 p1 p2 p3 p4 p5 p6 p7 (suc (suc (suc (suc (suc (suc (suc (suc k)))))))) l = absurd (omega (arith, l))
+use Rattle.tl_geom.proofs.Masks.{by_eight as each}
 
 -- each of eight items is known
 known : (n : ℕ) (xs : List ℕ) (k : ℕ) → length xs ≡ 8 → k < 8 → AreBelow n xs → get_or xs k 0 < n

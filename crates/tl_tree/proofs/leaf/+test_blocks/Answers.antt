@@ -1,6 +1,6 @@
 use Rattle.std.proofs.Common.{◌≡◌, ap, sym, subst, List, ℕ, ◌++◌, arith}
 use Rattle.tl_tree_index.specs.Fits.{AreBelow}
-use Rattle.tl_tree_index.specs.Pairs.{cross_sum, AllCross, AreFree}
+use Rattle.tl_tree_index.specs.Pairs.{cross_sum, AllCross, AreToldApart}
 use Rattle.tl_tree.proofs.Leaving.{stops, goes, leaves_same, leaves_both}
 use Rattle.tl_tree.proofs.PairLemmas.{cross-append_right, all_cross-join}
 use Rattle.tl_tree.proofs.Steps.{below-parts}
@@ -21,10 +21,10 @@ returns g t c =
     let ys = (c.split_at.result.0).now in
     let zs = (c.split_at.result.1).now in
     let e : c.args.others.now ≡ ys ++ zs = c.split_at.ensures.by_index.0 in
-    let P : List ℕ → Type 0 = AllCross (AreFree tells) xs in
+    let P : List ℕ → Type 0 = AllCross (AreToldApart tells) xs in
     leaves_same n b tells _ _ _ _ _ _ c.test_blocks.result
     (λ f s. omega (arith, cross-append_right f xs ys zs, ap (cross_sum f xs) e))
-    (λ h. subst P (sym e) (all_cross-join (AreFree tells) xs ys zs h.0 h.1))
+    (λ h. subst P (sym e) (all_cross-join (AreToldApart tells) xs ys zs h.0 h.1))
     (leaves_both n b tells _ _ _ _ _ _ _ c.test_blocks.result (goes _ _ _ _ _ _ _ _ c.test_rows-2.ensures c.if-not-test_rows.false) c.test_blocks.ensures)
 
 pub test_rows-requires-clause-some : goal.test_rows-requires-clause-some

@@ -1,4 +1,4 @@
-use Rattle.tl_tree_index.specs.Pairs.{AreFree}
+use Rattle.tl_tree_index.specs.Pairs.{AreToldApart}
 use Rattle.tl_tree.proofs.CellRows.{cells-of-lanes}
 use Rattle.tl_tree.proofs.Leaving.{leaves_same}
 use Rattle.tl_tree.proofs.PairLemmas.{cross-swap, all_cross-swap}
@@ -14,7 +14,7 @@ returns g c =
     let tells = g.I.Items.tells c.args.items.now in
     leaves_same (g.I.Items.count c.args.items.now) (g.I.Items.bounds_of c.args.items.now) tells _ _ _ _ _ _ c.test_cells.result
     (λ f s. cross-swap f s c.args.others.now c.args.some.now)
-    (λ h. all_cross-swap (AreFree tells) (free-turned tells) c.args.others.now c.args.some.now h)
+    (λ h. all_cross-swap (AreToldApart tells) (free-turned tells) c.args.others.now c.args.some.now h)
     c.test_cells.ensures
 
 pub cells_of-requires-clause-some : goal.cells_of-requires-clause-some

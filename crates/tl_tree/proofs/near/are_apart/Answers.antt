@@ -1,7 +1,7 @@
 use Rattle.std.proofs.Common.{arith}
 use Rattle.std.proofs.lemmas.Int.{ints, clamps}
-use Rattle.tl_tree.proofs.PairTests.{meeting_by, by_meeting}
 use Rattle.tl_tree.proofs.near.are_apart.Goals as goal
+use Rattle.tl_geom.proofs.Rectangles.{meeting_by, by_meeting}
 
 pub returns : goal.returns
 returns c = (

@@ -1,5 +1,5 @@
 use Rattle.std.proofs.Common.{refl, arith}
-use Rattle.tl_tree_index.specs.Pairs.{meeting, AreFree}
+use Rattle.tl_tree_index.specs.Pairs.{meeting, AreToldApart}
 use Rattle.tl_tree.specs.Keeping.Walking.{items_below}
 use Rattle.tl_tree.proofs.Walks.{cross-none, cross-split, all_cross-none, all_cross-split, nodes-split, size-above_0, sound-others}
 use Rattle.tl_tree.proofs.near.list_trees.Goals as goal
@@ -21,7 +21,7 @@ loop-first-preserved g c =
     let see = g.W.Trees.forest in
     let n = g.I.Items.count c.args.items.now in
     let b = g.I.Items.bounds_of c.args.items.now in
-    let free = AreFree (g.I.Items.tells c.args.items.now) in
+    let free = AreToldApart (g.I.Items.tells c.args.items.now) in
     let xs = items_below see c.args.tree.now.below in
     let first = c.in-Some.first in
     let s = c.list_one-more.ensures.listed in
@@ -40,7 +40,7 @@ pub returns : goal.returns
 returns g c =
     let see = g.W.Trees.forest in
     let meet = meeting (g.I.Items.bounds_of c.args.items.now) in
-    let free = AreFree (g.I.Items.tells c.args.items.now) in
+    let free = AreToldApart (g.I.Items.tells c.args.items.now) in
     let xs = items_below see c.args.tree.now.below in
     let m = cross-none meet xs (see c.loop-first.left) c.in_default.ensures in
     record {

@@ -1,5 +1,5 @@
 use Rattle.std.proofs.Common.{◌≡◌, ℕ, ◌+◌, ◌≤◌, length, take}
-use Rattle.tl_tree_index.specs.Pairs.{meeting, AreFree, cross_sum, AllCross}
+use Rattle.tl_tree_index.specs.Pairs.{meeting, AreToldApart, cross_sum, AllCross}
 use Rattle.tl_tree_index.specs.Trees.{leaf_items, node_count}
 use Rattle.tl_tree.specs.Keeping.Listing.{listed_items, AllSound}
 use Rattle.tl_tree.specs.Keeping.Walking.{items_below, AreSound}
@@ -12,7 +12,7 @@ invariant-loop-first g l =
     let n = g.I.Items.count l.items in
     let b = g.I.Items.bounds_of l.items in
     let meet = cross_sum (meeting b) (items_below see l.tree.below) in
-    let free = AllCross (AreFree (g.I.Items.tells l.items)) (items_below see l.tree.below) in
+    let free = AllCross (AreToldApart (g.I.Items.tells l.items)) (items_below see l.tree.below) in
     record {
       sum : meet (listed_items see (take l.more l.near)) + meet (leaf_items (see l.left)) ≡ meet (listed_items see (take l.fn.len l.fn.near)) + meet (leaf_items (see l.fn.others));
       most : (f : ℕ → ℕ → ℕ) → let some = cross_sum f (items_below see l.tree.below) in some (listed_items see (take l.more l.near)) + some (leaf_items (see l.left)) ≤ some (listed_items see (take l.fn.len l.fn.near)) + some (leaf_items (see l.fn.others));

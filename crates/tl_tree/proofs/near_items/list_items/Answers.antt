@@ -2,7 +2,7 @@ use Rattle.std.proofs.Common.{◌≡◌, ℕ, ◌+◌, ◌<◌, true, List, get_
 use Rattle.std.proofs.lemmas.Bool.{false≢true}
 use Rattle.std.proofs.lemmas.List.{length-set, take-set, take_more_set, at_drop_all}
 use Rattle.tl_geom.specs.Rectangle.{AreMeeting}
-use Rattle.tl_tree_index.specs.Pairs.{meeting, cross_sum, AreFree, AllCross}
+use Rattle.tl_tree_index.specs.Pairs.{meeting, cross_sum, AreToldApart, AllCross}
 use Rattle.tl_tree.proofs.Listing.{Lists, by_Bool, item-listed, item-apart, item-sum, item-most, item-free}
 use Rattle.tl_tree.proofs.PairLemmas.{cross-nil, all_cross-nil}
 use Rattle.tl_tree.proofs.Steps.{below-at}
@@ -53,10 +53,10 @@ returns-clause-listed g c =
     let xs = c.args.some.now in
     let e = at_drop_all (λ (zs : List ℕ). zs) c.args.others.now c.loop-other.other-index (omega (arith, c.loop-other-test.false)) in
     let s = at_drop_all (λ (zs : List ℕ). cross_sum meet xs zs) c.args.others.now c.loop-other.other-index (omega (arith, c.loop-other-test.false)) in
-    let P : List ℕ → Type 0 = AllCross (AreFree tells) xs in
+    let P : List ℕ → Type 0 = AllCross (AreToldApart tells) xs in
     record {
       sum = omega (arith, s, cross-nil meet xs, c.loop-other.invariant.sum);
       most = λ f. omega (arith, c.loop-other.invariant.most f);
-      free = λ f. c.loop-other.invariant.free f (subst P (sym e) (all_cross-nil (AreFree tells) xs));
+      free = λ f. c.loop-other.invariant.free f (subst P (sym e) (all_cross-nil (AreToldApart tells) xs));
       known = c.loop-other.invariant.known;
     }

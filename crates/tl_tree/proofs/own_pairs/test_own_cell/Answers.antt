@@ -1,5 +1,5 @@
 use Rattle.std.proofs.Common.{◌≤◌, ◌%◌, ◌⊎◌, length, get_or, sym, inl, inr, arith}
-use Rattle.tl_tree_index.specs.Pairs.{meeting, AreFree}
+use Rattle.tl_tree_index.specs.Pairs.{meeting, AreToldApart}
 use Rattle.tl_tree.specs.Keeping.OwnPairs.{partner, AreThere}
 use Rattle.tl_tree.proofs.Leaving.{enough_all, leaves_same}
 use Rattle.tl_tree.proofs.OwnPairs.{own-in, own-out, all-own-in, all-own-out}
@@ -24,7 +24,7 @@ returns-then-some-first g c =
     record {
       left = omega (arith, own-out (meeting (g.I.Items.bounds_of c.args.items.now)) xs p out);
       spent = enough_all (λ f. omega arith);
-      free = all-own-out (AreFree (g.I.Items.tells c.args.items.now)) xs p out;
+      free = all-own-out (AreToldApart (g.I.Items.tells c.args.items.now)) xs p out;
       nothing_found = c.requires.nothing_found;
     }
 
@@ -39,7 +39,7 @@ returns g c =
     let first = get_or xs (p % 8) 0 in
     let tells = g.I.Items.tells c.args.items.now in
     let there : AreThere xs p = record { first = omega (arith, c.if-some-first.false); second = omega (arith, c.if-some-second.false) } in
-    leaves_same (g.I.Items.count c.args.items.now) (g.I.Items.bounds_of c.args.items.now) tells (λ f. f second first) (AreFree tells second first) _ _ _ _ c.test_meeting.result
+    leaves_same (g.I.Items.count c.args.items.now) (g.I.Items.bounds_of c.args.items.now) tells (λ f. f second first) (AreToldApart tells second first) _ _ _ _ c.test_meeting.result
     (λ f s. sym (own-in f xs p there))
-    (all-own-in (AreFree tells) xs p there)
+    (all-own-in (AreToldApart tells) xs p there)
     c.test_meeting.ensures

@@ -1,7 +1,7 @@
 use Rattle.std.proofs.Common.{◌≡◌, ℕ, suc, ◌+◌, ◌-◌, ◌/◌, ◌^◌, ◌<◌, ◌≤◌, w32, sym, ap, subst, ◌∙◌, arith}
 use Rattle.std.specs.Int.{bit_at, trailing_zeros}
 use Rattle.std.proofs.lemmas.Nat.Bits.{bit_at-suc, bit_at-zero, bit_at-trailing_zeros}
-use Rattle.tl_tree_index.specs.Pairs.{meeting, AreFree}
+use Rattle.tl_tree_index.specs.Pairs.{meeting, AreToldApart}
 use Rattle.tl_tree.proofs.CellRows.{bit-behind}
 use Rattle.tl_tree.proofs.Leaving.{enough_all, enough_from, enough_both, stops_after, goes}
 use Rattle.tl_tree.proofs.OwnPairs.{own_sums, AllOwns, own-start, own-more, owns-more, own-skip, owns-skip, marked-below, own-total, own-least, all-owns}
@@ -72,7 +72,7 @@ loop-later-preserved g c =
     record {
       left = omega (arith, s, own-more (meeting b) xs q, k.left, c.loop-later.invariant.left);
       spent = enough_both k.spent c.loop-later.invariant.spent (λ f s u i. omega (arith, u, i, own-least f xs t p, own-more f xs q));
-      free = owns-more (AreFree tells) xs q (owns-skip b xs c.args.cells c.requires.cells n tells (g.met.I.Items.apart c.args.items.now) c.requires.some t p (omega (arith, below)) none c.loop-later.invariant.free) k.free;
+      free = owns-more (AreToldApart tells) xs q (owns-skip b xs c.args.cells c.requires.cells n tells (g.met.I.Items.apart c.args.items.now) c.requires.some t p (omega (arith, below)) none c.loop-later.invariant.free) k.free;
       nothing_found = k.nothing_found;
       within = omega (arith, below);
       marks = λ j. let a : p + (suc j + t) ≡ q + 1 + j = omega arith in sym (bit_at-suc (m / 2 ^ t) j) ∙ bit-behind m t (suc j) ∙ c.loop-later.invariant.marks (suc j + t) ∙ ap (bit_at c.args.cells) a;
@@ -91,10 +91,10 @@ returns g c =
     let s = own-skip b xs c.args.cells c.requires.cells (28 - p) p within none in
     let o = ap (own_sums (meeting b) xs) e in
     let all = own-total (meeting b) (meeting-swap b) xs c.requires.few in
-    let Q : ℕ → Type 0 = AllOwns (AreFree tells) xs in
+    let Q : ℕ → Type 0 = AllOwns (AreToldApart tells) xs in
     record {
       left = omega (arith, s, o, all, c.loop-later.invariant.left);
       spent = enough_from c.loop-later.invariant.spent (λ f s i. omega (arith, i, own-least f xs (28 - p) p, ap (own_sums f xs) e, own-total f s xs c.requires.few));
-      free = all-owns (AreFree tells) (free-turned tells) xs c.requires.few (subst Q e (owns-skip b xs c.args.cells c.requires.cells n tells (g.met.I.Items.apart c.args.items.now) c.requires.some (28 - p) p within none c.loop-later.invariant.free));
+      free = all-owns (AreToldApart tells) (free-turned tells) xs c.requires.few (subst Q e (owns-skip b xs c.args.cells c.requires.cells n tells (g.met.I.Items.apart c.args.items.now) c.requires.some (28 - p) p within none c.loop-later.invariant.free));
       nothing_found = c.loop-later.invariant.nothing_found;
     }

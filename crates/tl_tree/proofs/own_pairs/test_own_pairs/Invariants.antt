@@ -1,6 +1,6 @@
 use Rattle.std.proofs.Common.{None, ◌≡◌, ℕ, ◌+◌, ◌-◌, ◌≤◌}
 use Rattle.std.specs.Int.{bit_at}
-use Rattle.tl_tree_index.specs.Pairs.{meeting, AreFree}
+use Rattle.tl_tree_index.specs.Pairs.{meeting, AreToldApart}
 use Rattle.tl_tree.specs.Keeping.Walking.{Enough}
 use Rattle.tl_tree.proofs.OwnPairs.{own_sums, AllOwns}
 use Rattle.tl_tree.proofs.own_pairs.test_own_pairs.Given as goal
@@ -11,7 +11,7 @@ invariant-loop-later g l =
     record {
       left : l.progress.left + own_sums (meeting (g.I.Items.bounds_of l.items)) l.some l.place ≡ l.fn.progress.left;
       spent : Enough (g.I.Items.count l.items) (g.I.Items.bounds_of l.items) (g.I.Items.tells l.items) (λ f. l.fn.progress.left ≤ l.progress.left + own_sums f l.some l.place);
-      free : AllOwns (AreFree (g.I.Items.tells l.items)) l.some l.place;
+      free : AllOwns (AreToldApart (g.I.Items.tells l.items)) l.some l.place;
       nothing_found : l.progress.found ≡ None;
       within : l.place ≤ 28;
       marks : (k : ℕ) → bit_at l.later k ≡ bit_at l.cells (l.place + k);

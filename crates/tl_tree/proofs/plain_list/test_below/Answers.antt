@@ -1,5 +1,5 @@
 use Rattle.std.proofs.Common.{◌+◌, arith}
-use Rattle.tl_tree_index.specs.Pairs.{meeting, AreFree}
+use Rattle.tl_tree_index.specs.Pairs.{meeting, AreToldApart}
 use Rattle.tl_tree.proofs.Leaving.{enough_all, enough_both, stops_after, goes}
 use Rattle.tl_tree.proofs.Indices.{row-0, row-more, row-grows, all_row-0, all_row-more}
 use Rattle.tl_tree.proofs.plain_list.test_below.Goals as goal
@@ -8,7 +8,7 @@ pub loop-i-init : goal.loop-i-init
 loop-i-init g c = record {
   left = omega (arith, row-0 (meeting (g.I.Items.bounds_of c.args.items.now)) c.args.j);
   spent = enough_all (λ f. omega arith);
-  free = all_row-0 (AreFree (g.I.Items.tells c.args.items.now)) c.args.j;
+  free = all_row-0 (AreToldApart (g.I.Items.tells c.args.items.now)) c.args.j;
   nothing_found = c.requires.nothing_found;
 }
 
@@ -24,7 +24,7 @@ loop-i-preserved g c =
     record {
       left = omega (arith, s, k.left, c.loop-i.invariant.left);
       spent = enough_both k.spent c.loop-i.invariant.spent (λ f s p q. omega (arith, p, q, row-more f c.args.j c.loop-i.i));
-      free = all_row-more (AreFree (g.I.Items.tells c.args.items.now)) c.args.j c.loop-i.i k.free c.loop-i.invariant.free;
+      free = all_row-more (AreToldApart (g.I.Items.tells c.args.items.now)) c.args.j c.loop-i.i k.free c.loop-i.invariant.free;
       nothing_found = k.nothing_found;
     }
 

@@ -2,7 +2,7 @@ use Rattle.std.proofs.Common.{◌≡◌, ap, subst, lit<, arith, sym, ◌∙◌,
 use Rattle.std.proofs.lemmas.Bool.{false≢true}
 use Rattle.tl_geom.specs.Rectangle.{AreMeeting}
 use Rattle.tl_tree_index.specs.Fits.{AreBelow}
-use Rattle.tl_tree_index.specs.Pairs.{meeting, cross_sum, AreFree, AllCross}
+use Rattle.tl_tree_index.specs.Pairs.{meeting, cross_sum, AreToldApart, AllCross}
 use Rattle.tl_tree.specs.declared.walk.Below.{Below}
 use Rattle.tl_tree.specs.declared.walk.Below.TheVariants.{Items}
 use Rattle.tl_tree_index.specs.Trees.{leaf_items}
@@ -58,7 +58,7 @@ pub search_marked-returns-in_default : goal.search_marked-returns-in_default
 search_marked-returns-in_default g t c =
     let see = g.W.Trees.forest in
     let m = cross-none (meeting (g.I.Items.bounds_of c.args.items.now)) (items_below see c.args.tree.now.below) (see c.args.others.now) c.in_default.ensures in
-    record { left = omega (arith, m); spent = enough_all (λ f. omega arith); free = all_cross-none (AreFree (g.I.Items.tells c.args.items.now)) (items_below see c.args.tree.now.below) (see c.args.others.now) c.in_default.ensures; nothing_found = c.requires.nothing_found }
+    record { left = omega (arith, m); spent = enough_all (λ f. omega arith); free = all_cross-none (AreToldApart (g.I.Items.tells c.args.items.now)) (items_below see c.args.tree.now.below) (see c.args.others.now) c.in_default.ensures; nothing_found = c.requires.nothing_found }
 
 pub search_marked-returns-then-not-search_if_marked : goal.search_marked-returns-then-not-search_if_marked
 search_marked-returns-then-not-search_if_marked g t c =
@@ -75,7 +75,7 @@ search_marked-returns g t c =
     let b = g.I.Items.bounds_of c.args.items.now in
     leaves_same n b tells _ _ _ _ _ _ c.search_marked.result
     (λ f s. sym (cross-split see f xs (see c.args.others.now) c.in-Some.other.rect c.in-Some.other.below (see c.in-Some.rest) c.in-Some.ensures))
-    (λ h. all_cross-split see (AreFree tells) xs (see c.args.others.now) c.in-Some.other.rect c.in-Some.other.below (see c.in-Some.rest) c.in-Some.ensures h.0 h.1)
+    (λ h. all_cross-split see (AreToldApart tells) xs (see c.args.others.now) c.in-Some.other.rect c.in-Some.other.below (see c.in-Some.rest) c.in-Some.ensures h.0 h.1)
     (leaves_both n b tells _ _ _ _ _ _ _ c.search_marked.result (goes _ _ _ _ _ _ _ _ c.search_if_marked.ensures c.if-not-search_if_marked.false) c.search_marked.ensures)
 
 pub search_two-returns-then-not-do_meet : goal.search_two-returns-then-not-do_meet
@@ -96,10 +96,10 @@ search_two-returns-in-Children-default g t c =
     let other = items_below see c.args.other.now.below in
     let kids = leaf_items (see c.in-Children-default.children) in
     let tells = g.I.Items.tells c.args.items.now in
-    let P : Below g.row.W.Denot → Type 0 = λ u. AllCross (AreFree tells) (items_below see u) other in
+    let P : Below g.row.W.Denot → Type 0 = λ u. AllCross (AreToldApart tells) (items_below see u) other in
     leaves_same (g.I.Items.count c.args.items.now) (g.I.Items.bounds_of c.args.items.now) tells _ _ _ _ _ _ c.search_between-in-Children-default.result
     (λ f s. cross-swap f s other kids ∙ ap (λ (u : Below g.row.W.Denot). cross_sum f (items_below see u) other) (sym c.in-Children-default.is-0))
-    (λ h. subst P (sym c.in-Children-default.is-0) (all_cross-swap (AreFree tells) (free-turned tells) other kids h))
+    (λ h. subst P (sym c.in-Children-default.is-0) (all_cross-swap (AreToldApart tells) (free-turned tells) other kids h))
     c.search_between-in-Children-default.ensures
 
 pub search_if_marked-returns-else-marked : goal.search_if_marked-returns-else-marked
@@ -134,7 +134,7 @@ pub search_two-returns-in-Items-Items : goal.search_two-returns-in-Items-Items
 search_two-returns-in-Items-Items g t c =
     let see = g.W.Trees.forest in
     let tells = g.I.Items.tells c.args.items.now in
-    let P : Below g.row.W.Denot → Below g.row.W.Denot → Type 0 = λ u v. MayLeave (g.I.Items.count c.args.items.now) (g.I.Items.bounds_of c.args.items.now) tells (λ f. cross_sum f (items_below see u) (items_below see v)) (AllCross (AreFree tells) (items_below see u) (items_below see v)) c.args.progress.now c.test_cross.new.progress c.test_cross.result in
+    let P : Below g.row.W.Denot → Below g.row.W.Denot → Type 0 = λ u v. MayLeave (g.I.Items.count c.args.items.now) (g.I.Items.bounds_of c.args.items.now) tells (λ f. cross_sum f (items_below see u) (items_below see v)) (AllCross (AreToldApart tells) (items_below see u) (items_below see v)) c.args.progress.now c.test_cross.new.progress c.test_cross.result in
     let Q : Below g.row.W.Denot → Type 0 = λ v. P c.args.tree.now.below v in
     let R : Below g.row.W.Denot → Type 0 = λ u. P u (Items c.in-Items-Items.others) in
     subst Q (sym c.in-Items-Items.is-1) (subst R (sym c.in-Items-Items.is-0) c.test_cross.ensures)
@@ -144,7 +144,7 @@ search_two-returns-in_default-Children g t c =
     let see = g.W.Trees.forest in
     let tells = g.I.Items.tells c.args.items.now in
     let xs = items_below see c.args.tree.now.below in
-    let P : Below g.row.W.Denot → Type 0 = λ u. MayLeave (g.I.Items.count c.args.items.now) (g.I.Items.bounds_of c.args.items.now) tells (λ f. cross_sum f xs (items_below see u)) (AllCross (AreFree tells) xs (items_below see u)) c.args.progress.now c.search_between.new.progress c.search_between.result in
+    let P : Below g.row.W.Denot → Type 0 = λ u. MayLeave (g.I.Items.count c.args.items.now) (g.I.Items.bounds_of c.args.items.now) tells (λ f. cross_sum f xs (items_below see u)) (AllCross (AreToldApart tells) xs (items_below see u)) c.args.progress.now c.search_between.new.progress c.search_between.result in
     subst P (sym c.in_default-Children.is-1) c.search_between.ensures
 
 pub search_two-test_cross-requires-clause-nothing_found : goal.search_two-test_cross-requires-clause-nothing_found

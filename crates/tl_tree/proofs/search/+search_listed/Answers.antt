@@ -1,5 +1,5 @@
 use Rattle.std.proofs.Common.{◌≡◌, ap, length, sym, subst, List, ℕ, ◌++◌, arith}
-use Rattle.tl_tree_index.specs.Pairs.{meeting, cross_sum, AllCross, AreFree}
+use Rattle.tl_tree_index.specs.Pairs.{meeting, cross_sum, AllCross, AreToldApart}
 use Rattle.tl_tree.specs.Keeping.Listing.{first_items, listed_items, AllSound}
 use Rattle.tl_tree.specs.Keeping.Walking.{items_below}
 use Rattle.tl_tree.proofs.Leaving.{enough_all, stops, goes, leaves_same, leaves_both}
@@ -13,11 +13,11 @@ returns-in_default g t c =
     let xs = items_below see c.args.tree.now.below in
     let meet = meeting (g.I.Items.bounds_of c.args.items.now) in
     let e = listed-none see c.args.near.now c.in_default.ensures.cases in
-    let P : List ℕ → Type 0 = AllCross (AreFree (g.I.Items.tells c.args.items.now)) xs in
+    let P : List ℕ → Type 0 = AllCross (AreToldApart (g.I.Items.tells c.args.items.now)) xs in
     record {
       left = omega (arith, ap (cross_sum meet xs) e, cross-nil meet xs);
       spent = enough_all (λ f. omega arith);
-      free = subst P (sym e) (all_cross-nil (AreFree (g.I.Items.tells c.args.items.now)) xs);
+      free = subst P (sym e) (all_cross-nil (AreToldApart (g.I.Items.tells c.args.items.now)) xs);
       nothing_found = c.requires.nothing_found;
     }
 
@@ -38,10 +38,10 @@ returns g t c =
     let ys = first_items (see c.in-Some.at.now) in
     let zs = listed_items see c.in-Some.rest.now in
     let e : listed_items see c.args.near.now ≡ ys ++ zs = ap (listed_items see) c.in-Some.ensures.cases.0 in
-    let P : List ℕ → Type 0 = AllCross (AreFree tells) xs in
+    let P : List ℕ → Type 0 = AllCross (AreToldApart tells) xs in
     leaves_same n b tells _ _ _ _ _ _ c.search_listed.result
     (λ f s. omega (arith, cross-append_right f xs ys zs, ap (cross_sum f xs) e))
-    (λ h. subst P (sym e) (all_cross-join (AreFree tells) xs ys zs h.0 h.1))
+    (λ h. subst P (sym e) (all_cross-join (AreToldApart tells) xs ys zs h.0 h.1))
     (leaves_both n b tells _ _ _ _ _ _ _ c.search_listed.result (goes _ _ _ _ _ _ _ _ c.search_first.ensures c.if-not-search_first.false) c.search_listed.ensures)
 
 pub search_first-requires-clause-tree : goal.search_first-requires-clause-tree

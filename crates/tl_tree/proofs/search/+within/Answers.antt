@@ -1,7 +1,7 @@
 use Rattle.std.proofs.Common.{◌≡◌, ℕ, ◌+◌, ◌++◌, List, [], ap, arith, sym, subst, ◌∙◌}
 use Rattle.tl_tree.specs.declared.walk.Below.{Below}
 use Rattle.tl_tree_index.specs.Fits.{AreBelow, CoversAll}
-use Rattle.tl_tree_index.specs.Pairs.{meeting, AreFree, AllCross, cross_sum}
+use Rattle.tl_tree_index.specs.Pairs.{meeting, AreToldApart, AllCross, cross_sum}
 use Rattle.tl_tree_index.specs.Trees.{Forest, leaf_items}
 use Rattle.tl_tree.specs.Keeping.Listing.{listed_items, sum_beside, AllBeside}
 use Rattle.tl_tree.specs.Keeping.Walking.{items_below, size_of, MayLeave}
@@ -42,7 +42,7 @@ search_one-returns-in-Items g t c =
     let meet = meeting (g.I.Items.bounds_of c.args.items.now) in
     let tells = g.I.Items.tells c.args.items.now in
     let ys = listed_items see c.args.near.now in
-    let P : Below g.row.W.Denot → Type 0 = λ u. MayLeave (g.I.Items.count c.args.items.now) (g.I.Items.bounds_of c.args.items.now) tells (λ f. sum_beside f (items_below see u) ys) (AllBeside (AreFree tells) (items_below see u) ys) c.args.progress.now c.test_leaf.new.progress c.test_leaf.result in
+    let P : Below g.row.W.Denot → Type 0 = λ u. MayLeave (g.I.Items.count c.args.items.now) (g.I.Items.bounds_of c.args.items.now) tells (λ f. sum_beside f (items_below see u) ys) (AllBeside (AreToldApart tells) (items_below see u) ys) c.args.progress.now c.test_leaf.new.progress c.test_leaf.result in
     subst P (sym c.in-Items.is) c.test_leaf.ensures
 
 pub search_one-returns-in-Children : goal.search_one-returns-in-Children
@@ -51,7 +51,7 @@ search_one-returns-in-Children g t c =
     let meet = meeting (g.I.Items.bounds_of c.args.items.now) in
     let tells = g.I.Items.tells c.args.items.now in
     let ys = listed_items see c.args.near.now in
-    let P : Below g.row.W.Denot → Type 0 = λ u. MayLeave (g.I.Items.count c.args.items.now) (g.I.Items.bounds_of c.args.items.now) tells (λ f. sum_beside f (items_below see u) ys) (AllBeside (AreFree tells) (items_below see u) ys) c.args.progress.now c.search_within.new.progress c.search_within.result in
+    let P : Below g.row.W.Denot → Type 0 = λ u. MayLeave (g.I.Items.count c.args.items.now) (g.I.Items.bounds_of c.args.items.now) tells (λ f. sum_beside f (items_below see u) ys) (AllBeside (AreToldApart tells) (items_below see u) ys) c.args.progress.now c.search_within.new.progress c.search_within.result in
     subst P (sym c.in-Children.is) c.search_within.ensures
 
 pub search_unlisted-search_listed-requires-clause-nothing_found : goal.search_unlisted-search_listed-requires-clause-nothing_found
@@ -64,7 +64,7 @@ pub search_within-returns-in_default : goal.search_within-returns-in_default
 search_within-returns-in_default g t c =
     let see = g.W.Trees.forest in
     let meet = meeting (g.I.Items.bounds_of c.args.items.now) in
-    let free = AreFree (g.I.Items.tells c.args.items.now) in
+    let free = AreToldApart (g.I.Items.tells c.args.items.now) in
     let zs = listed_items see c.args.others.now in
     let P : Forest → Type 0 = λ f. AllCross free (leaf_items f) zs in
     record {
@@ -126,7 +126,7 @@ search_unlisted-returns g t c =
     let see = g.W.Trees.forest in
     let n = g.I.Items.count c.args.items.now in
     let tells = g.I.Items.tells c.args.items.now in
-    let free = AreFree tells in
+    let free = AreToldApart tells in
     let b = g.I.Items.bounds_of c.args.items.now in
     let xs = items_below see c.args.tree.now.below in
     let ys = leaf_items (see c.args.rest.now) in
@@ -156,7 +156,7 @@ search_within-returns g t c =
     let see = g.W.Trees.forest in
     let n = g.I.Items.count c.args.items.now in
     let tells = g.I.Items.tells c.args.items.now in
-    let free = AreFree tells in
+    let free = AreToldApart tells in
     let b = g.I.Items.bounds_of c.args.items.now in
     let xs = items_below see c.in-Some.tree.below in
     let ys = leaf_items (see c.in-Some.rest) in

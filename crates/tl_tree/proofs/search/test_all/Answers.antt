@@ -1,5 +1,5 @@
 use Rattle.std.proofs.Common.{arith}
-use Rattle.tl_tree_index.specs.Pairs.{meeting, AreFree}
+use Rattle.tl_tree_index.specs.Pairs.{meeting, AreToldApart}
 use Rattle.tl_tree.proofs.Leaving.{enough_all, enough_from, enough_both, stops_after, goes}
 use Rattle.tl_tree.proofs.Steps.{cross-step, cross-end, all_cross-step, all_cross-end, below-at}
 use Rattle.tl_tree.proofs.search.test_all.Goals as goal
@@ -21,11 +21,11 @@ loop-i-preserved g c =
     record {
       left = omega (arith, s, k.left, c.loop-i.invariant.left);
       spent = enough_both k.spent c.loop-i.invariant.spent (λ f s p q. omega (arith, p, q, cross-step f c.args.some.now c.args.others.now c.loop-i.i-index c.loop-i-test.true));
-      free = λ h. c.loop-i.invariant.free (all_cross-step (AreFree (g.I.Items.tells c.args.items.now)) c.args.some.now c.args.others.now c.loop-i.i-index c.loop-i-test.true k.free h);
+      free = λ h. c.loop-i.invariant.free (all_cross-step (AreToldApart (g.I.Items.tells c.args.items.now)) c.args.some.now c.args.others.now c.loop-i.i-index c.loop-i-test.true k.free h);
       nothing_found = k.nothing_found;
     }
 
 pub returns : goal.returns
 returns g c =
     let s = cross-end (meeting (g.I.Items.bounds_of c.args.items.now)) c.args.some.now c.args.others.now c.loop-i.i-index c.loop-i-test.false in
-    record { left = omega (arith, s, c.loop-i.invariant.left); spent = enough_from c.loop-i.invariant.spent (λ f s p. omega (arith, p, cross-end f c.args.some.now c.args.others.now c.loop-i.i-index c.loop-i-test.false)); free = c.loop-i.invariant.free (all_cross-end (AreFree (g.I.Items.tells c.args.items.now)) c.args.some.now c.args.others.now c.loop-i.i-index c.loop-i-test.false); nothing_found = c.loop-i.invariant.nothing_found }
+    record { left = omega (arith, s, c.loop-i.invariant.left); spent = enough_from c.loop-i.invariant.spent (λ f s p. omega (arith, p, cross-end f c.args.some.now c.args.others.now c.loop-i.i-index c.loop-i-test.false)); free = c.loop-i.invariant.free (all_cross-end (AreToldApart (g.I.Items.tells c.args.items.now)) c.args.some.now c.args.others.now c.loop-i.i-index c.loop-i-test.false); nothing_found = c.loop-i.invariant.nothing_found }

@@ -1,7 +1,7 @@
 use Rattle.std.proofs.Common.{◌≡◌, ℕ, suc, ◌+◌, ◌/◌, ◌^◌, ◌<◌, ◌≤◌, length, w64, sym, ap, ◌∙◌, arith}
 use Rattle.std.specs.Int.{bit_at, trailing_zeros}
 use Rattle.std.proofs.lemmas.Nat.Bits.{bit_at-suc, bit_at-zero, bit_at-trailing_zeros}
-use Rattle.tl_tree_index.specs.Pairs.{meeting, AreFree}
+use Rattle.tl_tree_index.specs.Pairs.{meeting, AreToldApart}
 use Rattle.tl_tree.proofs.CellRows.{bit-behind, rest-start, rest-end, cell-step, all-rest-start, all-rest-end, all-cell-step, marked-meets, skip-unmarked, skip-least, free-skip}
 use Rattle.tl_tree.proofs.Leaving.{enough_all, enough_from, enough_both, stops_after, goes}
 use Rattle.tl_tree.proofs.Steps.{below-at}
@@ -14,7 +14,7 @@ first m ne l = let h = bit_at-trailing_zeros w64 m (omega (arith, ne)) l in (h.1
 pub loop-later-init : goal.loop-later-init
 loop-later-init g c =
     let meet = meeting (g.I.Items.bounds_of c.args.items.now) in
-    let free = AreFree (g.I.Items.tells c.args.items.now) in
+    let free = AreToldApart (g.I.Items.tells c.args.items.now) in
     let e = rest-start meet c.args.some.now c.args.others.now in
     record {
       left = omega (arith, e);
@@ -41,7 +41,7 @@ returns-then-some-row g c =
     record {
       left = omega (arith, s, e, c.loop-later.invariant.left);
       spent = enough_from c.loop-later.invariant.spent (λ f s p. omega (arith, p));
-      free = c.loop-later.invariant.free (free-skip b xs ys c.args.cells c.requires.cells c.requires.few_others n tells (g.met.I.Items.apart c.args.items.now) c.requires.some c.requires.others t p none (all-rest-end (AreFree tells) xs ys (p + t) c.if-some-row.true));
+      free = c.loop-later.invariant.free (free-skip b xs ys c.args.cells c.requires.cells c.requires.few_others n tells (g.met.I.Items.apart c.args.items.now) c.requires.some c.requires.others t p none (all-rest-end (AreToldApart tells) xs ys (p + t) c.if-some-row.true));
       nothing_found = c.loop-later.invariant.nothing_found;
     }
 
@@ -92,7 +92,7 @@ loop-later-preserved g c =
     record {
       left = omega (arith, s, e, k.left, c.loop-later.invariant.left);
       spent = enough_both k.spent c.loop-later.invariant.spent (λ f s u i. omega (arith, u, i, cell-step f xs ys q row c.requires.few_others, skip-least f xs ys c.requires.few_others t p));
-      free = λ h. c.loop-later.invariant.free (free-skip b xs ys c.args.cells c.requires.cells c.requires.few_others n tells (g.met.I.Items.apart c.args.items.now) c.requires.some c.requires.others t p none (all-cell-step (AreFree tells) xs ys q row c.requires.few_others k.free h));
+      free = λ h. c.loop-later.invariant.free (free-skip b xs ys c.args.cells c.requires.cells c.requires.few_others n tells (g.met.I.Items.apart c.args.items.now) c.requires.some c.requires.others t p none (all-cell-step (AreToldApart tells) xs ys q row c.requires.few_others k.free h));
       nothing_found = k.nothing_found;
       within = omega (arith, row, c.requires.few);
       marks = λ j. let a : p + (suc j + t) ≡ q + 1 + j = omega arith in sym (bit_at-suc (m / 2 ^ t) j) ∙ bit-behind m t (suc j) ∙ c.loop-later.invariant.marks (suc j + t) ∙ ap (bit_at c.args.cells) a;
@@ -113,6 +113,6 @@ returns g c =
     record {
       left = omega (arith, s, e, c.loop-later.invariant.left);
       spent = enough_from c.loop-later.invariant.spent (λ f s p. omega (arith, p));
-      free = c.loop-later.invariant.free (free-skip b xs ys c.args.cells c.requires.cells c.requires.few_others n tells (g.met.I.Items.apart c.args.items.now) c.requires.some c.requires.others 64 p none (all-rest-end (AreFree tells) xs ys (p + 64) beyond));
+      free = c.loop-later.invariant.free (free-skip b xs ys c.args.cells c.requires.cells c.requires.few_others n tells (g.met.I.Items.apart c.args.items.now) c.requires.some c.requires.others 64 p none (all-rest-end (AreToldApart tells) xs ys (p + 64) beyond));
       nothing_found = c.loop-later.invariant.nothing_found;
     }

@@ -2,7 +2,7 @@ use Rattle.std.proofs.Common.{◌≡◌, Option, subst}
 use Rattle.std.specs.Option.{IfSome}
 use Rattle.tl_record.specs.Layout.{layout_with}
 use Rattle.tl_map_county.specs.TheMap.{TheMap}
-use Rattle.tl_list_map.specs.MapListings.{IsListingFor}
+use Rattle.tl_list.specs.MapListings.{IsListingFor}
 use Rattle.tl_cert_output.specs.declared.stop.Stop.TheVariants.{Device}
 use Rattle.tl_cert_output.proofs.StopLemmas.{by_stop}
 use Rattle.tl_list.specs.Findings.{SaysWhy}

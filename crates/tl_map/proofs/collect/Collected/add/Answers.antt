@@ -1,8 +1,8 @@
 use Rattle.std.proofs.Common.{◌≡◌, inl, inr, map, ◌∷◌, [], ◌++◌}
 use Rattle.std.specs.List.{filter_map}
 use Rattle.tl_record.specs.declared.record.Record.TheVariants.{Chain, Shape}
-use Rattle.tl_list_records.specs.Kept.{shape_at}
-use Rattle.tl_list_records.specs.Shapes.{summary_in}
+use Rattle.tl_map_rules.specs.Listing.Kept.{shape_at}
+use Rattle.tl_map_rules.specs.Listing.Shapes.{summary_in}
 use Rattle.tl_map.specs.Keeping.Entries.{AreShapeEntries}
 use Rattle.tl_map.proofs.CollectLemmas.{AreShapeEntries-chain, IsOther, Collects-other, collects_more, all_inside, both_made, same}
 use Rattle.tl_map.proofs.collect.Collected.add.Goals as goal

@@ -1,4 +1,0 @@
-use Rattle.tl_check_blocks.proofs.ahead.find_blocks.Given as goal
-
-abbrev pub decreases-loop-length : goal.decreases-loop-length
-decreases-loop-length g l = l.length

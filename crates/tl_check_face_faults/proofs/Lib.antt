@@ -1,7 +1,0 @@
-pub mod Places
-pub mod Told
-pub mod Zipped
-pub mod Agreeing
-pub mod Apart
-pub mod Lowest
-pub mod Exact

@@ -1,5 +1,0 @@
-use Rattle.tl_check_meets.proofs.Remaining.{one_of_marked}
-use Rattle.tl_check_meets.proofs.laws.a_meet_has_a_chain_that_is_marked.Goals as goal
-
-pub returns : goal.returns
-returns c = λ marks chains s t r planar lt meet. one_of_marked marks chains planar s t r lt meet

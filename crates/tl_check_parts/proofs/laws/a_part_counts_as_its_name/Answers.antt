@@ -1,6 +1,0 @@
-use Rattle.tl_check_parts.proofs.AsOne.{as_name}
-use Rattle.tl_check_parts.proofs.laws.a_part_counts_as_its_name.Goals as goal
-
-pub returns : goal.returns
-returns c = λ homes parts joined border k part q n is_joined is_border proper is.
-    as_name homes k joined.chains proper q n part.chains border.chains (is_joined.each k part is) is_border.chains

@@ -1,5 +1,0 @@
-use Rattle.tl_check_parts.proofs.Told.{can_be_told}
-use Rattle.tl_check_parts.proofs.laws.any_chains_can_be_told.Goals as goal
-
-pub returns : goal.returns
-returns c = λ names told chains. can_be_told names told chains

@@ -1,5 +1,0 @@
-use Rattle.tl_check_parts.proofs.Enough.{parts_are_enough}
-use Rattle.tl_check_parts.proofs.laws.parts_and_the_border_are_enough.Goals as goal
-
-pub returns : goal.returns
-returns c = λ homes parts joined border is_joined is_border proper. parts_are_enough homes parts joined border is_joined is_border proper

@@ -1,0 +1,11 @@
+pub mod Reaching
+pub mod Rows
+pub mod Pushing
+pub mod Listing
+pub mod Telling
+pub mod Deciding
+pub mod Planar
+pub mod Conflicting
+pub mod Ordering
+pub mod Remaining
+pub mod Pairing

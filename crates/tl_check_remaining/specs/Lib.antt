@@ -1,2 +1,0 @@
--- What the contract of the part that remains cites.
-pub mod Parts

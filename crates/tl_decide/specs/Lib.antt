@@ -1,0 +1,3 @@
+pub mod MapFaults
+pub mod Deciding
+pub mod Keeping

@@ -1,3 +1,0 @@
-pub mod Emptiness
-mod OfMap
-mod Faced

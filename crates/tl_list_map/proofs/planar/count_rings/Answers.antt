@@ -1,5 +1,0 @@
-use Rattle.tl_check_faces.proofs.CrossingsLemmas.Apart.{apart}
-use Rattle.tl_list_map.proofs.planar.count_rings.Goals as goal
-
-pub find_sides_at_odds-requires-clause-apart : goal.find_sides_at_odds-requires-clause-apart
-find_sides_at_odds-requires-clause-apart c = apart c.args.map.now.chains c.requires c.has_proper_chains.ensures

@@ -1,6 +1,0 @@
-use Rattle.std.proofs.Common.{◌≡◌, ◌++◌, take, map}
-use Rattle.tl_list_map.specs.MapFaults.{side_fault}
-use Rattle.tl_list_map.proofs.tell.push_sides.Given as goal
-
-abbrev pub invariant-loop-side : goal.invariant-loop-side
-invariant-loop-side l = l.faults.items ≡ l.fn.faults.items ++ map (side_fault l.county.chains) (take l.side-index l.sides)

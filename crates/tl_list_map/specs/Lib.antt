@@ -1,3 +1,0 @@
-pub mod MapFaults
-pub mod MapListings
-pub mod Keeping

@@ -1,7 +1,0 @@
-use Rattle.tl_list_points.specs.Hidden.{IsMarked}
-use Rattle.tl_list_points.specs.Keeping.Hiding.{ArePartsBefore}
-use Rattle.tl_list_points.proofs.hiding.hidden_parts.Given as goal
-
--- the chains so far are put together
-abbrev pub invariant-loop-c : goal.invariant-loop-c
-invariant-loop-c l = ArePartsBefore (IsMarked l.marks) l.map l.c l.points.items l.rows.items l.sides

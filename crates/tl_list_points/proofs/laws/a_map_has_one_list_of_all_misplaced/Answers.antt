@@ -1,6 +1,0 @@
-use Rattle.tl_list_nodes.specs.Touched.{IsTouched}
-use Rattle.tl_list_points.proofs.Unique.{one_list_of_all}
-use Rattle.tl_list_points.proofs.laws.a_map_has_one_list_of_all_misplaced.Goals as goal
-
-pub returns : goal.returns
-returns c m found others = one_list_of_all (IsTouched m.chains) m found others

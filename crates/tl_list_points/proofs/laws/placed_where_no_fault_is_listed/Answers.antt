@@ -1,5 +1,0 @@
-use Rattle.tl_list_points.proofs.Placed.{placed_where_none}
-use Rattle.tl_list_points.proofs.laws.placed_where_no_fault_is_listed.Goals as goal
-
-pub returns : goal.returns
-returns c = placed_where_none

@@ -1,6 +1,0 @@
-use Rattle.tl_list_points.proofs.Marking.{AreMarksBefore}
-use Rattle.tl_list_points.proofs.marks.marks_of.Given as goal
-
--- the polygons so far are marked
-abbrev pub invariant-loop-place : goal.invariant-loop-place
-invariant-loop-place l = AreMarksBefore l.polygons l.place l.marks.items

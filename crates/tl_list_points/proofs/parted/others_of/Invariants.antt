@@ -1,7 +1,0 @@
-use Rattle.std.proofs.Common.{◌≡◌, take}
-use Rattle.tl_list_points.specs.Keeping.Joined.{turned}
-use Rattle.tl_list_points.proofs.parted.others_of.Given as goal
-
--- those so far are the other way round
-abbrev pub invariant-loop-place : goal.invariant-loop-place
-invariant-loop-place l = l.others.items ≡ turned (take l.place l.marks)

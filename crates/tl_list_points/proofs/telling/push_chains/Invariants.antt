@@ -1,7 +1,0 @@
-use Rattle.std.proofs.Common.{take}
-use Rattle.tl_list_points.specs.Keeping.Parts.{HasRow}
-use Rattle.tl_list_points.proofs.telling.push_chains.Given as goal
-
--- the chains so far are told
-abbrev pub invariant-loop-place : goal.invariant-loop-place
-invariant-loop-place l = HasRow l.map l.p 0 (take l.place l.held) l.fn.found.items l.found.items

@@ -1,9 +1,0 @@
-use Rattle.std.proofs.Common.{take}
-use Rattle.tl_list_records.specs.declared.kept.NamedSide.{NamedSide}
-use Rattle.tl_list_records.specs.Keeping.Told.{Tells}
-use Rattle.tl_list_records.specs.Keeping.Numbers.{IsMissing}
-use Rattle.tl_list_records.specs.Keeping.Keys.{side_fault}
-use Rattle.tl_list_records.proofs.keys.push_unknown_sides.Given as goal
-
-abbrev pub invariant-loop-name : goal.invariant-loop-name
-invariant-loop-name l = Tells (IsMissing side_fault (λ (n : NamedSide). n.key) (take l.name-index l.names) l.keys) l.fn.faults.items l.faults.items

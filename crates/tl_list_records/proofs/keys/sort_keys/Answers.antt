@@ -1,8 +1,0 @@
-use Rattle.std.proofs.Common.{◌≡◌, rules}
-use Rattle.std.proofs.lemmas.Fn.{always_returns_same}
-use Rattle.tl_list_records.specs.Keeping.Keys.{parts}
-use Rattle.tl_list_records.proofs.keys.sort_keys.Goals as goal
-
-pub returns-clause-ordered : goal.returns-clause-ordered
-returns-clause-ordered c =
-    c.sort_unstable_by_key.ensures.sorted parts (always_returns_same _ (λ a r. r ≡ parts a.0.now) _ (λ a r q k. search rules))

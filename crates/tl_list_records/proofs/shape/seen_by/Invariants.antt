@@ -1,6 +1,0 @@
-use Rattle.std.proofs.Common.{◌≡◌, None, take}
-use Rattle.tl_list_records.specs.Shapes.{traces}
-use Rattle.tl_list_records.proofs.shape.seen_by.Given as goal
-
-abbrev pub invariant-loop-point : goal.invariant-loop-point
-invariant-loop-point l = l.trace ≡ traces None (take l.point-index l.points)

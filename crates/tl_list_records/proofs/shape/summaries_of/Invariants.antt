@@ -1,6 +1,0 @@
-use Rattle.std.proofs.Common.{◌≡◌, take, map}
-use Rattle.tl_list_records.specs.Shapes.{summary_in}
-use Rattle.tl_list_records.proofs.shape.summaries_of.Given as goal
-
-abbrev pub invariant-loop-shape : goal.invariant-loop-shape
-invariant-loop-shape l = l.made.items ≡ map (summary_in l.pool) (take l.shape-index l.shapes)

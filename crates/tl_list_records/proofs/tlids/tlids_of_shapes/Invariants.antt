@@ -1,6 +1,0 @@
-use Rattle.std.proofs.Common.{◌≡◌, take, map}
-use Rattle.tl_list_records.specs.declared.shape.ShapeSummary.{ShapeSummary}
-use Rattle.tl_list_records.proofs.tlids.tlids_of_shapes.Given as goal
-
-abbrev pub invariant-loop-shape : goal.invariant-loop-shape
-invariant-loop-shape l = l.tlids.items ≡ map (λ (s : ShapeSummary). s.tlid) (take l.shape-index l.shapes)

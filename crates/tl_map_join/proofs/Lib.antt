@@ -1,5 +1,0 @@
-pub mod PlaceLemmas
-pub mod TwinLemmas
-pub mod ApartLemmas
-pub mod JoinLemmas
-pub mod LastLemmas

@@ -1,6 +1,0 @@
-use Rattle.std.proofs.Common.{take}
-use Rattle.tl_map_join.specs.Keeping.Joined.{AreApart}
-use Rattle.tl_map_join.proofs.join.shapes_apart.Given as goal
-
-abbrev pub invariant-loop-told : goal.invariant-loop-told
-invariant-loop-told l = AreApart l.records (take l.told-index l.records) l.apart

@@ -1,7 +1,0 @@
-pub mod ListLemmas
-pub mod Holding
-pub mod Forests
-pub mod NodeLemmas
-pub mod Sizes
-pub mod Fitting
-pub mod Splitting

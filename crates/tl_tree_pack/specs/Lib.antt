@@ -1,4 +1,0 @@
--- What the contracts of the packing cite.
-pub mod Packed
-pub mod Lists
-pub mod Keeping
